@@ -1,0 +1,12 @@
+pub mod Tree
+pub mod Scope
+pub mod Walk
+pub mod Script
+pub mod Entry
+pub mod Paired
+pub mod Relabel
+pub mod Cases
+pub mod Table
+pub mod Stress
+pub mod Refusals
+pub mod Traps

@@ -1,0 +1,1 @@
+// What the pass is: definitions only, under specs/.

@@ -1,0 +1,4 @@
+pub mod Kinds
+pub mod Script
+pub mod Read
+pub mod Write

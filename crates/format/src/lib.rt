@@ -1,0 +1,2 @@
+// The tree file of document 01: its node kinds. Reading and writing stand in the crate `treefile`.
+pub mod kinds;
