@@ -9,7 +9,8 @@ use lib.Dec.{eqb, leb}
 use lib.ListN.{getD}
 use Rattle.tree.specs.Base.{pick, toNat}
 use Rattle.tree.specs.Tree.{Core, flat, plant}
-use Rattle.format.specs.Script.{Raw, Script, isLit, hasId, idents, placeOf, zeroNode, nodeAt, isArguments}
+use Rattle.format.specs.declared.Raw.{Raw}
+use Rattle.format.specs.Script.{Script, isLit, hasId, idents, placeOf, zeroNode, nodeAt, isArguments}
 use Rattle.format.specs.Read.{Read, bad, script, read}
 use Rattle.definition.specs.Tree.{Tree, headT}
 use Rattle.definition.specs.Walk.{corePass, Outcome, refused, result}

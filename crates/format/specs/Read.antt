@@ -8,7 +8,8 @@ use lib.ListN.{length, drop, take}
 use Rattle.tree.specs.Base.{pick}
 use Rattle.format.specs.declared.kinds.Class.{Class}
 use Rattle.format.specs.Kinds.{Root, allows, rowOf, formOk, countOk, childOf, usesText, usesBits}
-use Rattle.format.specs.Script.{Raw, Script, sameText, idents}
+use Rattle.format.specs.declared.Raw.{Raw}
+use Rattle.format.specs.Script.{Script, sameText, idents}
 
 -- little-endian numbers
 abbrev pub number : ℕ → List ℕ → ℕ
