@@ -67,11 +67,11 @@ nodeOk t p x =
     let r = rowOf (x .kind) (x .form) in
     ltb 0 (p .left) && allows (p .class) (x .kind) (x .arity) && fieldsOk t x && formOk r (x .form) && countOk r (x .arity)
 
--- the places of a node's children i to i + m - 1, before ps
-unfoldable pub below : Place → Raw → ℕ → ℕ → List Place → List Place
+-- the places of a node's children i to i + m - 1, each with the depth n left, before ps
+unfoldable pub below : ℕ → Raw → ℕ → ℕ → List Place → List Place
 unfolding rowOf
-below p x i zero ps = ps
-below p x i (suc m) ps = record { class = childOf (rowOf (x .kind) (x .form)) (x .arity) i; left = p .left - 1 } ∷ below p x (suc i) m ps
+below n x i zero ps = ps
+below n x i (suc m) ps = record { class = childOf (rowOf (x .kind) (x .form)) (x .arity) i; left = n } ∷ below n x (suc i) m ps
 
 -- the nodes fill the places, none missing and none left over
 unfoldable pub fills : ℕ → List Place → List Raw → Bool
@@ -79,7 +79,7 @@ unfolding nodeOk below
 fills t [] [] = true
 fills t [] (x ∷ xs) = false
 fills t (p ∷ ps) [] = false
-fills t (p ∷ ps) (x ∷ xs) = elim (nodeOk t p x) [ true ↦ fills t (below p x 0 (x .arity) ps) xs | false ↦ false ]
+fills t (p ∷ ps) (x ∷ xs) = elim (nodeOk t p x) [ true ↦ fills t (below (p .left - 1) x 0 (x .arity) ps) xs | false ↦ false ]
 
 unfoldable pub nodesOk : Script → Bool
 unfolding fills

@@ -1,0 +1,3 @@
+// Reading and writing of the tree file (document 01, "The tree file").
+mod fields;
+mod nodes;
