@@ -6,7 +6,7 @@ use Prim.Native.Nat.{ℕ, zero, suc, _+_, _-_, _≤_, _<_}
 use native.Mathlib.Numerals.{add-one}
 use native.Mathlib.Nat.{sub-zero}
 use native.Mathlib.Omega.{arith}
-use lib.Dec.{T, ltb, ltb→lt, eqb, eqb→eq, leb, leb→le}
+use lib.Dec.{T, ltb, ltb→lt, eqb, eqb→eq, leb, leb→le, eqb·zero-suc, eqb·suc-suc}
 use Rattle.tree.specs.Base.{pick}
 use Rattle.format.specs.declared.kinds.Class.the-variants as Kind
 use lib.ListN.{length, getD, drop, drop-of-length-le}
@@ -24,6 +24,10 @@ use Rattle.treefile.specs.Child.{place, after, Fits, Filled}
 -- tests
 pub is-T : (b : Bool) → b ≡ true → T b
 is-T b e = subst T (sym e) tt
+
+pub T-is : (b : Bool) → T b → b ≡ true
+T-is true t = refl
+T-is false t = absurd t
 
 pub and-left : (p q : Bool) → T (p && q) → T p
 and-left true q t = tt
@@ -200,3 +204,11 @@ pub rest-same : {x y : Raw} (t : ℕ) (c : Class) → x ≡ y
     → (allows c (y .kind) (y .arity) && fieldsOk t y && formOk (rowOf (y .kind) (y .form)) (y .form) && countOk (rowOf (y .kind) (y .form)) (y .arity))
     ≡ (allows c (x .kind) (x .arity) && fieldsOk t x && formOk (rowOf (x .kind) (x .form)) (x .form) && countOk (rowOf (x .kind) (x .form)) (x .arity))
 rest-same t c e = ap (λ (z : Raw). allows c (z .kind) (z .arity) && fieldsOk t z && formOk (rowOf (z .kind) (z .form)) (z .form) && countOk (rowOf (z .kind) (z .form)) (z .arity)) (sym e)
+
+-- at the end no place is left, and no node may be
+pub fills-end : (t : ℕ) (xs : List Raw) (j : ℕ) → j ≤ length xs → fills t [] (drop j xs) ≡ eqb j (length xs)
+unfolding fills
+fills-end t [] zero h = refl
+fills-end t [] (suc j) h = absurd (omega arith)
+fills-end t (x ∷ xs) zero h = sym (eqb·zero-suc (length xs))
+fills-end t (x ∷ xs) (suc j) h = fills-end t xs j (omega arith) ∙ sym (eqb·suc-suc j (length xs))

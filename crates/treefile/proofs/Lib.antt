@@ -1,3 +1,4 @@
 pub mod Numbers
 pub mod Raws
 pub mod Fill
+pub mod Strings

@@ -6,6 +6,7 @@ use Prim.Native.Nat.{ℕ, _≤_}
 use lib.Dec.{T}
 use lib.ListN.{length, drop, getD}
 use Rattle.format.specs.declared.kinds.Class.{Class}
+use Rattle.format.specs.declared.kinds.Class.the-variants as Kind
 use Rattle.format.specs.declared.Raw.{Raw}
 use Rattle.format.specs.Kinds.{allows}
 use Rattle.format.specs.Script.{zeroNode}
@@ -15,6 +16,10 @@ use Rattle.treefile.specs.declared.nodes.Child.the-variants.{Binding, Ot
 
 abbrev pub place : Class → ℕ → Place
 place c n = record { class = c; left = n }
+
+-- the script's own place
+abbrev pub rootPlace : Place
+rootPlace = place Kind.Root 200
 
 -- do the nodes behind a node that was read fill the places ps: not after a refusal
 abbrev pub after : ℕ → List Raw → List Place → Child → Bool

@@ -1,1 +1,2 @@
 pub mod Child
+pub mod Text

@@ -3,7 +3,6 @@ ghost use mathlib.Core.Path.{_≡_};
 ghost use Prim.Native.Nat.{_+_, _*_, _<_, _≤_};
 ghost use lib.ListN.{length, drop};
 ghost use Rattle.format.specs.Read.{number, u32, rawOf};
-
 use format::Raw;
 
 fn wide(x: u8) -> u32

@@ -1,3 +1,4 @@
 // Reading and writing of the tree file (document 01, "The tree file").
 mod fields;
 mod nodes;
+mod texts;

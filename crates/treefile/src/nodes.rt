@@ -6,12 +6,13 @@ ghost use Prim.Native.Nat.{ℕ, _+_, _*_, _<_, _≤_};
 ghost use lib.Dec.{eqb, ltb};
 ghost use lib.ListN.{length, drop, getD};
 ghost use Rattle.tree.specs.Base.{pick};
+ghost use mathlib.Core.List.{[], _∷_};
 ghost use Rattle.format.specs.Kinds.{allows, rowOf, formOk, countOk};
 ghost use Rattle.format.specs.Script.{zeroNode};
 ghost use Rattle.format.specs.Read.{Place, fieldsOk, nodeOk, fills, nodesFrom};
-ghost use Rattle.treefile.specs.Child.{place, Filled};
-
+ghost use Rattle.treefile.specs.Child.{place, rootPlace, Filled};
 use crate::fields::raw_at;
+use format::Raw;
 use format::kinds::Class;
 use format::kinds::allows;
 use format::kinds::child;
@@ -20,7 +21,6 @@ use format::kinds::form_ok;
 use format::kinds::row_of;
 use format::kinds::uses_bits;
 use format::kinds::uses_text;
-use format::Raw;
 
 // What reading a node and all below it gives: a binding, or another node, and the index behind it; or a refusal's number.
 pub enum Child {
@@ -127,4 +127,17 @@ fn node(file: &[u8], n: usize, t: usize, at: usize, c: Class, left: usize) -> Ch
         return children(file, n, t, at, c, left);
     }
     Child::Refused(6)
+}
+
+// Row 6: the n nodes are one script in preorder, against the kinds, with t texts.
+pub fn nodes_ok(file: &[u8], n: usize, t: usize) -> bool
+    requires { ⌜ (n ≤ 1024) × (32 + 16 * n ≤ length (now file)) ⌝ }
+    ensures { λ r. ⌜ r ≡ fills t (rootPlace ∷ []) (nodesFrom n (drop 32 (now (file .entry)))) ⌝ }
+{
+    let answer = node(file, n, t, 0, Class::Root, 200);
+    match answer {
+        Child::Binding(j) => j == n,
+        Child::Other(j) => j == n,
+        Child::Refused(_) => false,
+    }
 }

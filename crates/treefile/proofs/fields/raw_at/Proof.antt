@@ -12,24 +12,34 @@ use Rattle.treefile.proofs.fields.raw_at.Lts as lts
 use Rattle.treefile.proofs.fields.u16_at.Reads as u16-at-reads
 use Rattle.treefile.proofs.fields.u32_at.Reads as u32-at-reads
 use Rattle.treefile.proofs.fields.u64_at.Reads as u64-at-reads
+
 shared-slice-read-kind : tie.Need-shared-slice-read-kind
 shared-slice-read-kind c = search needs
+
 add-form : tie.Need-add-form
 add-form c = search needs
+
 shared-slice-read-form : tie.Need-shared-slice-read-form
 shared-slice-read-form c = search needs
+
 add-u16-at : tie.Need-add-u16-at
 add-u16-at c = search needs
+
 u16-at-requires : tie.Need-u16-at-requires
 u16-at-requires c κs = search needs
+
 add-u32-at : tie.Need-add-u32-at
 add-u32-at c = search needs
+
 u32-at-requires : tie.Need-u32-at-requires
 u32-at-requires c κs = search needs
+
 add-u64-at : tie.Need-add-u64-at
 add-u64-at c = search needs
+
 u64-at-requires : tie.Need-u64-at-requires
 u64-at-requires c κs = search needs
+
 returns : tie.Need-returns
 returns c =
     let a = c .before .before .before .before .before .before .args in

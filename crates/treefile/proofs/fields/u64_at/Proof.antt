@@ -9,20 +9,28 @@ use Rattle.treefile.proofs.fields.u64_at.Tie as tie
 use Rattle.treefile.proofs.fields.u64_at.Reads as reads
 use Rattle.treefile.proofs.fields.u64_at.Lts as lts
 use Rattle.treefile.proofs.fields.u32_at.Reads as u32-at-reads
+
 u32-at-requires : tie.Need-u32-at-requires
 u32-at-requires c κs = search needs
+
 add-u32-at : tie.Need-add-u32-at
 add-u32-at c = search needs
+
 u32-at-requires-2 : tie.Need-u32-at-requires-2
 u32-at-requires-2 c κs = search needs
+
 cast-result : tie.Need-cast-result
 cast-result c = search needs
+
 cast-result-2 : tie.Need-cast-result-2
 cast-result-2 c = search needs
+
 mul-result : tie.Need-mul-result
 mul-result c = search needs
+
 add-result : tie.Need-add-result
 add-result c = search needs
+
 returns : tie.Need-returns
 returns c =
     let a = c .before .before .before .args in

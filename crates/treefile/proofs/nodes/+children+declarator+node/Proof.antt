@@ -70,6 +70,7 @@ children-Inv-loop file n t at left x row count next₀ i₀ next i = Upto t (nod
 
 abbrev children-μ-loop : children-lts.MeasureT-loop
 children-μ-loop file n t at left x row count next₀ i₀ next i = count - i
+
 children-mul-raw-at : (t : ℕ) → children-lts.Need-mul-raw-at (
   raw-at-reads.Asked,
   raw-at-reads.Learnt,
@@ -81,6 +82,7 @@ children-mul-raw-at : (t : ℕ) → children-lts.Need-mul-raw-at (
   node.Post,
 ) (children-at t) children.Post children-Inv-loop children-μ-loop
 children-mul-raw-at t c = search needs
+
 children-add-raw-at : (t : ℕ) → children-lts.Need-add-raw-at (
   raw-at-reads.Asked,
   raw-at-reads.Learnt,
@@ -92,6 +94,7 @@ children-add-raw-at : (t : ℕ) → children-lts.Need-add-raw-at (
   node.Post,
 ) (children-at t) children.Post children-Inv-loop children-μ-loop
 children-add-raw-at t c = search needs
+
 children-raw-at-requires : (t : ℕ) → children-lts.Need-raw-at-requires (
   raw-at-reads.Asked,
   raw-at-reads.Learnt,
@@ -103,6 +106,7 @@ children-raw-at-requires : (t : ℕ) → children-lts.Need-raw-at-requires (
   node.Post,
 ) (children-at t) children.Post children-Inv-loop children-μ-loop
 children-raw-at-requires t c κs = search needs
+
 children-row-of-requires : (t : ℕ) → children-lts.Need-row-of-requires (
   raw-at-reads.Asked,
   raw-at-reads.Learnt,
@@ -114,6 +118,7 @@ children-row-of-requires : (t : ℕ) → children-lts.Need-row-of-requires (
   node.Post,
 ) (children-at t) children.Post children-Inv-loop children-μ-loop
 children-row-of-requires t c κs = search needs
+
 children-add-next : (t : ℕ) → children-lts.Need-add-next (
   raw-at-reads.Asked,
   raw-at-reads.Learnt,
@@ -125,6 +130,7 @@ children-add-next : (t : ℕ) → children-lts.Need-add-next (
   node.Post,
 ) (children-at t) children.Post children-Inv-loop children-μ-loop
 children-add-next t c = search needs
+
 children-loop-holds : (t : ℕ) → children-lts.Need-loop-holds (
   raw-at-reads.Asked,
   raw-at-reads.Learnt,
@@ -135,7 +141,7 @@ children-loop-holds : (t : ℕ) → children-lts.Need-loop-holds (
   node-below t,
   node.Post,
 ) (children-at t) children.Post children-Inv-loop children-μ-loop
-children-loop-holds t c = 
+children-loop-holds t c =
     let e = c .before .before .before in
     let a = e .args in
     let p = e .pre .1 in
@@ -143,6 +149,7 @@ children-loop-holds t c =
     let xs = nodesFrom (a .n) (drop 32 bs) in
     let len : length xs ≡ a .n = nodes-length (a .n) (drop 32 bs) in
     (upto-none (omega arith), omega arith)
+
 children-child-requires : (t : ℕ) → children-lts.Need-child-requires (
   raw-at-reads.Asked,
   raw-at-reads.Learnt,
@@ -154,6 +161,7 @@ children-child-requires : (t : ℕ) → children-lts.Need-child-requires (
   node.Post,
 ) (children-at t) children.Post children-Inv-loop children-μ-loop
 children-child-requires t c κs = search needs
+
 children-sub-node : (t : ℕ) → children-lts.Need-sub-node (
   raw-at-reads.Asked,
   raw-at-reads.Learnt,
@@ -164,7 +172,7 @@ children-sub-node : (t : ℕ) → children-lts.Need-sub-node (
   node-below t,
   node.Post,
 ) (children-at t) children.Post children-Inv-loop children-μ-loop
-children-sub-node t c = 
+children-sub-node t c =
     let e = c .before .before .before .before .before .before in
     let a = e .args in
     let p = e .pre .1 in
@@ -172,6 +180,7 @@ children-sub-node t c =
     let xs = nodesFrom (a .n) (drop 32 bs) in
     let len : length xs ≡ a .n = nodes-length (a .n) (drop 32 bs) in
     omega (arith, ok-left (a .t) (place (a .c) (a .left)) (getD xs (a .at) zeroNode) (p .4))
+
 children-node-requires : (t : ℕ) → children-lts.Need-node-requires (
   raw-at-reads.Asked,
   raw-at-reads.Learnt,
@@ -182,7 +191,7 @@ children-node-requires : (t : ℕ) → children-lts.Need-node-requires (
   node-below t,
   node.Post,
 ) (children-at t) children.Post children-Inv-loop children-μ-loop
-children-node-requires t c κs = 
+children-node-requires t c κs =
     let e = c .before .before .before .before .before .before in
     let a = e .args in
     let p = e .pre .1 in
@@ -191,6 +200,7 @@ children-node-requires t c κs =
     let len : length xs ≡ a .n = nodes-length (a .n) (drop 32 bs) in
     let lo = ok-left (a .t) (place (a .c) (a .left)) (getD xs (a .at) zeroNode) (p .4) in
     (omega (arith, e .pre .0), (p .0, p .1, omega arith))
+
 children-enum-known-answer : (t : ℕ) → children-lts.Need-enum-known-answer (
   raw-at-reads.Asked,
   raw-at-reads.Learnt,
@@ -202,6 +212,7 @@ children-enum-known-answer : (t : ℕ) → children-lts.Need-enum-known-answer (
   node.Post,
 ) (children-at t) children.Post children-Inv-loop children-μ-loop
 children-enum-known-answer t c = search needs
+
 children-enum-known-answer-2 : (t : ℕ) → children-lts.Need-enum-known-answer-2 (
   raw-at-reads.Asked,
   raw-at-reads.Learnt,
@@ -213,6 +224,7 @@ children-enum-known-answer-2 : (t : ℕ) → children-lts.Need-enum-known-answer
   node.Post,
 ) (children-at t) children.Post children-Inv-loop children-μ-loop
 children-enum-known-answer-2 t c = search needs
+
 children-enum-known-answer-3 : (t : ℕ) → children-lts.Need-enum-known-answer-3 (
   raw-at-reads.Asked,
   raw-at-reads.Learnt,
@@ -224,6 +236,7 @@ children-enum-known-answer-3 : (t : ℕ) → children-lts.Need-enum-known-answer
   node.Post,
 ) (children-at t) children.Post children-Inv-loop children-μ-loop
 children-enum-known-answer-3 t c = search needs
+
 children-returns : (t : ℕ) → children-lts.Need-returns (
   raw-at-reads.Asked,
   raw-at-reads.Learnt,
@@ -234,7 +247,7 @@ children-returns : (t : ℕ) → children-lts.Need-returns (
   node-below t,
   node.Post,
 ) (children-at t) children.Post children-Inv-loop children-μ-loop
-children-returns t c = 
+children-returns t c =
     let e = c .before .before .before .before .before .before .before .before .before .before in
     let a = e .args in
     let p = e .pre .1 in
@@ -255,6 +268,7 @@ children-returns t c =
       is = λ ps. fill-open (a .t) xs (a .at) (place (a .c) (a .left)) ps (omega arith) ok ∙ upto-refused u less (at-refused f _ q) ps;
       fits = fits-refused f _ q;
     }
+
 children-add-i : (t : ℕ) → children-lts.Need-add-i (
   raw-at-reads.Asked,
   raw-at-reads.Learnt,
@@ -266,6 +280,7 @@ children-add-i : (t : ℕ) → children-lts.Need-add-i (
   node.Post,
 ) (children-at t) children.Post children-Inv-loop children-μ-loop
 children-add-i t c = omega (arith, c .before .before .before .loop-test .taken, c .before .before .before .before .before .before .raw-at .ok)
+
 children-loop-less : (t : ℕ) → children-lts.Need-loop-less (
   raw-at-reads.Asked,
   raw-at-reads.Learnt,
@@ -276,7 +291,7 @@ children-loop-less : (t : ℕ) → children-lts.Need-loop-less (
   node-below t,
   node.Post,
 ) (children-at t) children.Post children-Inv-loop children-μ-loop
-children-loop-less t c = 
+children-loop-less t c =
     let e = c .before .before .before .before .before .before .before .before in
     let a = e .args in
     let p = e .pre .1 in
@@ -284,6 +299,7 @@ children-loop-less t c =
     let xs = nodesFrom (a .n) (drop 32 bs) in
     let len : length xs ≡ a .n = nodes-length (a .n) (drop 32 bs) in
     omega (arith, c .before .before .before .loop-test .taken)
+
 children-loop-again : (t : ℕ) → children-lts.Need-loop-again (
   raw-at-reads.Asked,
   raw-at-reads.Learnt,
@@ -294,7 +310,7 @@ children-loop-again : (t : ℕ) → children-lts.Need-loop-again (
   node-below t,
   node.Post,
 ) (children-at t) children.Post children-Inv-loop children-μ-loop
-children-loop-again t c = 
+children-loop-again t c =
     let e = c .before .before .before .before .before .before .before .before in
     let a = e .args in
     let p = e .pre .1 in
@@ -307,11 +323,14 @@ children-loop-again t c =
     let i = c .before .before .before .before .loop .i in
     let u = c .before .before .before .before .loop .inv .0 in
     let f = child-at i same (c .before .before .before .before .before .row-of .ensures) (c .before .before .child .ensures) (c .before .node .ensures) in
-    let less : i < x₀ .arity = omega (arith, many, c .before .before .before .loop-test .taken) in
-    (⊎-elim
-    (λ w. subst (λ (j : ℕ). Upto (a .t) xs (a .left - 1) x₀ (a .at) (i + 1) j) (sym (w .3)) (upto-more _ u less (at-binding f _ (w .1 .given .1)) (fits-binding f _ (w .1 .given .1))))
-    (λ w. subst (λ (j : ℕ). Upto (a .t) xs (a .left - 1) x₀ (a .at) (i + 1) j) (sym (w .3)) (upto-more _ u less (at-other f _ (w .1 .given .1)) (fits-other f _ (w .1 .given .1) .0)))
-    (c .match .came), omega (arith, c .before .before .before .loop-test .taken))
+    let less : i < x₀ .arity = omega (arith, many, c .before .before .before .loop-test .taken) in (
+      ⊎-elim
+          (λ w. subst (λ (j : ℕ). Upto (a .t) xs (a .left - 1) x₀ (a .at) (i + 1) j) (sym (w .3)) (upto-more _ u less (at-binding f _ (w .1 .given .1)) (fits-binding f _ (w .1 .given .1))))
+          (λ w. subst (λ (j : ℕ). Upto (a .t) xs (a .left - 1) x₀ (a .at) (i + 1) j) (sym (w .3)) (upto-more _ u less (at-other f _ (w .1 .given .1)) (fits-other f _ (w .1 .given .1) .0)))
+          (c .match .came),
+      omega (arith, c .before .before .before .loop-test .taken),
+    )
+
 children-returns-2 : (t : ℕ) → children-lts.Need-returns-2 (
   raw-at-reads.Asked,
   raw-at-reads.Learnt,
@@ -322,7 +341,7 @@ children-returns-2 : (t : ℕ) → children-lts.Need-returns-2 (
   node-below t,
   node.Post,
 ) (children-at t) children.Post children-Inv-loop children-μ-loop
-children-returns-2 t c = 
+children-returns-2 t c =
     let e = c .before .before .before .before .before .before in
     let a = e .args in
     let p = e .pre .1 in
@@ -339,6 +358,7 @@ children-returns-2 t c =
       is = λ ps. fill-open (a .t) xs (a .at) (place (a .c) (a .left)) ps (omega arith) ok ∙ upto-end u done ps;
       fits = u .inside;
     }
+
 children-returns-3 : (t : ℕ) → children-lts.Need-returns-3 (
   raw-at-reads.Asked,
   raw-at-reads.Learnt,
@@ -349,7 +369,7 @@ children-returns-3 : (t : ℕ) → children-lts.Need-returns-3 (
   node-below t,
   node.Post,
 ) (children-at t) children.Post children-Inv-loop children-μ-loop
-children-returns-3 t c = 
+children-returns-3 t c =
     let e = c .before .before .before .before .before .before in
     let a = e .args in
     let p = e .pre .1 in
@@ -366,6 +386,7 @@ children-returns-3 t c =
       is = λ ps. fill-open (a .t) xs (a .at) (place (a .c) (a .left)) ps (omega arith) ok ∙ upto-end u done ps;
       fits = (u .inside, ok-allows (a .t) (place (a .c) (a .left)) x₀ ok, λ k. c .if1 .left (ap (λ (x : Raw). x .kind) same ∙ k));
     }
+
 declarator-mul-raw-at : (t : ℕ) → declarator-lts.Need-mul-raw-at (
   raw-at-reads.Asked,
   raw-at-reads.Learnt,
@@ -373,6 +394,7 @@ declarator-mul-raw-at : (t : ℕ) → declarator-lts.Need-mul-raw-at (
   node.Post,
 ) (declarator-at t) declarator.Post
 declarator-mul-raw-at t c = search needs
+
 declarator-add-raw-at : (t : ℕ) → declarator-lts.Need-add-raw-at (
   raw-at-reads.Asked,
   raw-at-reads.Learnt,
@@ -380,6 +402,7 @@ declarator-add-raw-at : (t : ℕ) → declarator-lts.Need-add-raw-at (
   node.Post,
 ) (declarator-at t) declarator.Post
 declarator-add-raw-at t c = search needs
+
 declarator-raw-at-requires : (t : ℕ) → declarator-lts.Need-raw-at-requires (
   raw-at-reads.Asked,
   raw-at-reads.Learnt,
@@ -387,6 +410,7 @@ declarator-raw-at-requires : (t : ℕ) → declarator-lts.Need-raw-at-requires (
   node.Post,
 ) (declarator-at t) declarator.Post
 declarator-raw-at-requires t c κs = search needs
+
 declarator-add-node : (t : ℕ) → declarator-lts.Need-add-node (
   raw-at-reads.Asked,
   raw-at-reads.Learnt,
@@ -394,13 +418,14 @@ declarator-add-node : (t : ℕ) → declarator-lts.Need-add-node (
   node.Post,
 ) (declarator-at t) declarator.Post
 declarator-add-node t c = search needs
+
 declarator-sub-node : (t : ℕ) → declarator-lts.Need-sub-node (
   raw-at-reads.Asked,
   raw-at-reads.Learnt,
   node-below t,
   node.Post,
 ) (declarator-at t) declarator.Post
-declarator-sub-node t c = 
+declarator-sub-node t c =
     let e = c .before .before in
     let a = e .args in
     let p = e .pre .1 in
@@ -408,13 +433,14 @@ declarator-sub-node t c =
     let xs = nodesFrom (a .n) (drop 32 bs) in
     let len : length xs ≡ a .n = nodes-length (a .n) (drop 32 bs) in
     omega (arith, ok-left (a .t) (place (a .c) (a .left)) (getD xs (a .at) zeroNode) (p .4))
+
 declarator-node-requires : (t : ℕ) → declarator-lts.Need-node-requires (
   raw-at-reads.Asked,
   raw-at-reads.Learnt,
   node-below t,
   node.Post,
 ) (declarator-at t) declarator.Post
-declarator-node-requires t c κs = 
+declarator-node-requires t c κs =
     let e = c .before .before in
     let a = e .args in
     let p = e .pre .1 in
@@ -423,6 +449,7 @@ declarator-node-requires t c κs =
     let len : length xs ≡ a .n = nodes-length (a .n) (drop 32 bs) in
     let lo = ok-left (a .t) (place (a .c) (a .left)) (getD xs (a .at) zeroNode) (p .4) in
     (omega (arith, e .pre .0), (p .0, p .1, omega arith))
+
 declarator-enum-known-name : (t : ℕ) → declarator-lts.Need-enum-known-name (
   raw-at-reads.Asked,
   raw-at-reads.Learnt,
@@ -430,13 +457,14 @@ declarator-enum-known-name : (t : ℕ) → declarator-lts.Need-enum-known-name (
   node.Post,
 ) (declarator-at t) declarator.Post
 declarator-enum-known-name t c = search needs
+
 declarator-returns : (t : ℕ) → declarator-lts.Need-returns (
   raw-at-reads.Asked,
   raw-at-reads.Learnt,
   node-below t,
   node.Post,
 ) (declarator-at t) declarator.Post
-declarator-returns t c = 
+declarator-returns t c =
     let e = c .before .before .before .before in
     let a = e .args in
     let p = e .pre .1 in
@@ -456,13 +484,14 @@ declarator-returns t c =
       | Refused m ↦ λ q ps. open-up ps ∙ upto-refused u some (at-refused f m q) ps
     ] in
     record { is = go (c .before .node .result) refl; fits = refl }
+
 declarator-returns-2 : (t : ℕ) → declarator-lts.Need-returns-2 (
   raw-at-reads.Asked,
   raw-at-reads.Learnt,
   node-below t,
   node.Post,
 ) (declarator-at t) declarator.Post
-declarator-returns-2 t c = 
+declarator-returns-2 t c =
     let e = c .before .before .before .before .before .before .before in
     let a = e .args in
     let p = e .pre .1 in
@@ -484,13 +513,14 @@ declarator-returns-2 t c =
       is = λ ps. open-up ps ∙ upto-end v (omega arith) ps;
       fits = (v .inside, ok-allows (a .t) (place (a .c) (a .left)) x₀ ok, λ k. omega (arith, p .5, k));
     }
+
 declarator-sub-node-2 : (t : ℕ) → declarator-lts.Need-sub-node-2 (
   raw-at-reads.Asked,
   raw-at-reads.Learnt,
   node-below t,
   node.Post,
 ) (declarator-at t) declarator.Post
-declarator-sub-node-2 t c = 
+declarator-sub-node-2 t c =
     let e = c .before .before .before .before .before .before .before in
     let a = e .args in
     let p = e .pre .1 in
@@ -498,13 +528,14 @@ declarator-sub-node-2 t c =
     let xs = nodesFrom (a .n) (drop 32 bs) in
     let len : length xs ≡ a .n = nodes-length (a .n) (drop 32 bs) in
     omega (arith, ok-left (a .t) (place (a .c) (a .left)) (getD xs (a .at) zeroNode) (p .4))
+
 declarator-node-requires-2 : (t : ℕ) → declarator-lts.Need-node-requires-2 (
   raw-at-reads.Asked,
   raw-at-reads.Learnt,
   node-below t,
   node.Post,
 ) (declarator-at t) declarator.Post
-declarator-node-requires-2 t c κs = 
+declarator-node-requires-2 t c κs =
     let e = c .before .before .before .before .before .before .before in
     let a = e .args in
     let p = e .pre .1 in
@@ -513,6 +544,7 @@ declarator-node-requires-2 t c κs =
     let len : length xs ≡ a .n = nodes-length (a .n) (drop 32 bs) in
     let lo = ok-left (a .t) (place (a .c) (a .left)) (getD xs (a .at) zeroNode) (p .4) in
     (omega (arith, e .pre .0), (p .0, p .1, omega arith))
+
 declarator-enum-known-init : (t : ℕ) → declarator-lts.Need-enum-known-init (
   raw-at-reads.Asked,
   raw-at-reads.Learnt,
@@ -520,6 +552,7 @@ declarator-enum-known-init : (t : ℕ) → declarator-lts.Need-enum-known-init (
   node.Post,
 ) (declarator-at t) declarator.Post
 declarator-enum-known-init t c = search needs
+
 declarator-enum-known-init-2 : (t : ℕ) → declarator-lts.Need-enum-known-init-2 (
   raw-at-reads.Asked,
   raw-at-reads.Learnt,
@@ -527,6 +560,7 @@ declarator-enum-known-init-2 : (t : ℕ) → declarator-lts.Need-enum-known-init
   node.Post,
 ) (declarator-at t) declarator.Post
 declarator-enum-known-init-2 t c = search needs
+
 declarator-enum-known-init-3 : (t : ℕ) → declarator-lts.Need-enum-known-init-3 (
   raw-at-reads.Asked,
   raw-at-reads.Learnt,
@@ -534,13 +568,14 @@ declarator-enum-known-init-3 : (t : ℕ) → declarator-lts.Need-enum-known-init
   node.Post,
 ) (declarator-at t) declarator.Post
 declarator-enum-known-init-3 t c = search needs
+
 declarator-returns-3 : (t : ℕ) → declarator-lts.Need-returns-3 (
   raw-at-reads.Asked,
   raw-at-reads.Learnt,
   node-below t,
   node.Post,
 ) (declarator-at t) declarator.Post
-declarator-returns-3 t c = 
+declarator-returns-3 t c =
     let e = c .before .before .before .before .before .before .before .before .before .before .before in
     let a = e .args in
     let p = e .pre .1 in
@@ -565,13 +600,14 @@ declarator-returns-3 t c =
       is = λ ps. open-up ps ∙ upto-end z (omega arith) ps;
       fits = (z .inside, ok-allows (a .t) (place (a .c) (a .left)) x₀ ok, λ k. omega (arith, p .5, k));
     }
+
 declarator-returns-4 : (t : ℕ) → declarator-lts.Need-returns-4 (
   raw-at-reads.Asked,
   raw-at-reads.Learnt,
   node-below t,
   node.Post,
 ) (declarator-at t) declarator.Post
-declarator-returns-4 t c = 
+declarator-returns-4 t c =
     let e = c .before .before .before .before .before .before .before .before .before .before .before in
     let a = e .args in
     let p = e .pre .1 in
@@ -596,13 +632,14 @@ declarator-returns-4 t c =
       is = λ ps. open-up ps ∙ upto-end z (omega arith) ps;
       fits = (z .inside, ok-allows (a .t) (place (a .c) (a .left)) x₀ ok, λ k. omega (arith, p .5, k));
     }
+
 declarator-returns-5 : (t : ℕ) → declarator-lts.Need-returns-5 (
   raw-at-reads.Asked,
   raw-at-reads.Learnt,
   node-below t,
   node.Post,
 ) (declarator-at t) declarator.Post
-declarator-returns-5 t c = 
+declarator-returns-5 t c =
     let e = c .before .before .before .before .before .before .before .before .before .before .before in
     let a = e .args in
     let p = e .pre .1 in
@@ -623,6 +660,7 @@ declarator-returns-5 t c =
     let more : 1 < x₀ .arity = omega arith in
     let q₂ = c .before .init3 .given .1 in
     record { is = λ ps. open-up ps ∙ upto-refused v more (at-refused g _ q₂) ps; fits = fits-refused g _ q₂ }
+
 node-returns : (t : ℕ) → node-lts.Need-returns (
   raw-at-reads.Asked,
   raw-at-reads.Learnt,
@@ -633,7 +671,7 @@ node-returns : (t : ℕ) → node-lts.Need-returns (
   children-below t,
   children.Post,
 ) (node-at t) node.Post
-node-returns t c = 
+node-returns t c =
     let e = c .before .before in
     let a = e .args in
     let p = e .pre .1 in
@@ -641,6 +679,7 @@ node-returns t c =
     let xs = nodesFrom (a .n) (drop 32 bs) in
     let len : length xs ≡ a .n = nodes-length (a .n) (drop 32 bs) in
     record { is = λ ps. fill-none (a .t) xs (a .at) (place (a .c) (a .left)) ps (omega (arith, c .if1 .taken)); fits = refl }
+
 node-returns-2 : (t : ℕ) → node-lts.Need-returns-2 (
   raw-at-reads.Asked,
   raw-at-reads.Learnt,
@@ -651,7 +690,7 @@ node-returns-2 : (t : ℕ) → node-lts.Need-returns-2 (
   children-below t,
   children.Post,
 ) (node-at t) node.Post
-node-returns-2 t c = 
+node-returns-2 t c =
     let e = c .before .before .before in
     let a = e .args in
     let p = e .pre .1 in
@@ -661,6 +700,7 @@ node-returns-2 t c =
     let pl = place (a .c) (a .left) in
     let x₀ = getD xs (a .at) zeroNode in
     record { is = λ ps. fill-shut (a .t) xs (a .at) pl ps (omega (arith, c .before .if1 .left)) (deep-not (a .t) pl x₀ (c .if2 .taken)); fits = refl }
+
 node-mul-raw-at : (t : ℕ) → node-lts.Need-mul-raw-at (
   raw-at-reads.Asked,
   raw-at-reads.Learnt,
@@ -672,6 +712,7 @@ node-mul-raw-at : (t : ℕ) → node-lts.Need-mul-raw-at (
   children.Post,
 ) (node-at t) node.Post
 node-mul-raw-at t c = search needs
+
 node-add-raw-at : (t : ℕ) → node-lts.Need-add-raw-at (
   raw-at-reads.Asked,
   raw-at-reads.Learnt,
@@ -683,6 +724,7 @@ node-add-raw-at : (t : ℕ) → node-lts.Need-add-raw-at (
   children.Post,
 ) (node-at t) node.Post
 node-add-raw-at t c = search needs
+
 node-raw-at-requires : (t : ℕ) → node-lts.Need-raw-at-requires (
   raw-at-reads.Asked,
   raw-at-reads.Learnt,
@@ -694,6 +736,7 @@ node-raw-at-requires : (t : ℕ) → node-lts.Need-raw-at-requires (
   children.Post,
 ) (node-at t) node.Post
 node-raw-at-requires t c κs = search needs
+
 node-node-ok-requires : (t : ℕ) → node-lts.Need-node-ok-requires (
   raw-at-reads.Asked,
   raw-at-reads.Learnt,
@@ -705,6 +748,7 @@ node-node-ok-requires : (t : ℕ) → node-lts.Need-node-ok-requires (
   children.Post,
 ) (node-at t) node.Post
 node-node-ok-requires t c κs = search needs
+
 node-declarator-requires : (t : ℕ) → node-lts.Need-declarator-requires (
   raw-at-reads.Asked,
   raw-at-reads.Learnt,
@@ -715,7 +759,7 @@ node-declarator-requires : (t : ℕ) → node-lts.Need-declarator-requires (
   children-below t,
   children.Post,
 ) (node-at t) node.Post
-node-declarator-requires t c κs = 
+node-declarator-requires t c κs =
     let e = c .before .before .before .before .before .before .before in
     let a = e .args in
     let p = e .pre .1 in
@@ -729,6 +773,7 @@ node-declarator-requires t c κs =
     let same : c .before .before .before .raw-at .result ≡ x₀ = c .before .before .before .raw-at .ensures ∙ sym (node-raw (a .n) (a .at) bs low) in
     let test : nodeOk (a .t) pl x₀ ≡ c .before .before .node-ok .result = deep-ok (a .t) pl x₀ deep ∙ rest-same (a .t) (a .c) same ∙ sym (c .before .before .node-ok .ensures) in
     (omega (arith, e .pre .0), (p .0, p .1, p .2, low, test ∙ c .before .if3 .taken, ap (λ (x : Raw). x .kind) (sym same) ∙ c .if4 .taken))
+
 node-returns-3 : (t : ℕ) → node-lts.Need-returns-3 (
   raw-at-reads.Asked,
   raw-at-reads.Learnt,
@@ -740,6 +785,7 @@ node-returns-3 : (t : ℕ) → node-lts.Need-returns-3 (
   children.Post,
 ) (node-at t) node.Post
 node-returns-3 t c = c .declarator .ensures
+
 node-children-requires : (t : ℕ) → node-lts.Need-children-requires (
   raw-at-reads.Asked,
   raw-at-reads.Learnt,
@@ -750,7 +796,7 @@ node-children-requires : (t : ℕ) → node-lts.Need-children-requires (
   children-below t,
   children.Post,
 ) (node-at t) node.Post
-node-children-requires t c κs = 
+node-children-requires t c κs =
     let e = c .before .before .before .before .before .before .before in
     let a = e .args in
     let p = e .pre .1 in
@@ -764,6 +810,7 @@ node-children-requires t c κs =
     let same : c .before .before .before .raw-at .result ≡ x₀ = c .before .before .before .raw-at .ensures ∙ sym (node-raw (a .n) (a .at) bs low) in
     let test : nodeOk (a .t) pl x₀ ≡ c .before .before .node-ok .result = deep-ok (a .t) pl x₀ deep ∙ rest-same (a .t) (a .c) same ∙ sym (c .before .before .node-ok .ensures) in
     (omega (arith, e .pre .0), (p .0, p .1, p .2, low, test ∙ c .before .if3 .taken))
+
 node-returns-4 : (t : ℕ) → node-lts.Need-returns-4 (
   raw-at-reads.Asked,
   raw-at-reads.Learnt,
@@ -775,6 +822,7 @@ node-returns-4 : (t : ℕ) → node-lts.Need-returns-4 (
   children.Post,
 ) (node-at t) node.Post
 node-returns-4 t c = c .children .ensures
+
 node-returns-5 : (t : ℕ) → node-lts.Need-returns-5 (
   raw-at-reads.Asked,
   raw-at-reads.Learnt,
@@ -785,7 +833,7 @@ node-returns-5 : (t : ℕ) → node-lts.Need-returns-5 (
   children-below t,
   children.Post,
 ) (node-at t) node.Post
-node-returns-5 t c = 
+node-returns-5 t c =
     let e = c .before .before .before .before .before .before in
     let a = e .args in
     let p = e .pre .1 in
@@ -799,6 +847,7 @@ node-returns-5 t c =
     let same : c .before .before .raw-at .result ≡ x₀ = c .before .before .raw-at .ensures ∙ sym (node-raw (a .n) (a .at) bs low) in
     let test : nodeOk (a .t) pl x₀ ≡ c .before .node-ok .result = deep-ok (a .t) pl x₀ deep ∙ rest-same (a .t) (a .c) same ∙ sym (c .before .node-ok .ensures) in
     record { is = λ ps. fill-shut (a .t) xs (a .at) pl ps (omega arith) (test ∙ c .if3 .left); fits = refl }
+
 pub +children+declarator+node-spec : {M : Type 1} → statement M
 +children+declarator+node-spec = close μ-children μ-declarator μ-node (λ t. children-lts.spec (
   raw-at-reads.Asked,
