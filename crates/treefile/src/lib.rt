@@ -1,4 +1,5 @@
 // Reading and writing of the tree file (document 01, "The tree file").
 mod fields;
+mod header;
 mod nodes;
 mod texts;
