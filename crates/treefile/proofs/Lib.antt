@@ -3,3 +3,4 @@ pub mod Raws
 pub mod Fill
 pub mod Strings
 pub mod Heads
+pub mod Names

@@ -6,7 +6,6 @@ ghost use lib.Dec.{eqb, leb};
 ghost use lib.ListN.{length};
 ghost use Rattle.format.specs.Read.{u32};
 ghost use Rattle.treefile.specs.Head.{HeadIs};
-
 use crate::fields::u32_at;
 
 // How many nodes, texts and text bytes a file has.
@@ -29,7 +28,16 @@ fn counts_ok(n: usize, t: usize, b: usize) -> bool
 }
 
 // Row 4: each offset, and the length, is the sum of its parts; the length is that of the bytes given.
-fn sums_ok(total: usize, len: usize, at: usize, ends: usize, bytes: usize, n: usize, t: usize, b: usize) -> bool
+fn sums_ok(
+    total: usize,
+    len: usize,
+    at: usize,
+    ends: usize,
+    bytes: usize,
+    n: usize,
+    t: usize,
+    b: usize,
+) -> bool
     requires { ⌜ (n ≤ 1024) × (t ≤ 256) × (b ≤ 4096) ⌝ }
     ensures { λ r. ⌜ r ≡ (eqb total len && eqb at 32 && eqb ends (32 + 16 * n) && eqb bytes (32 + 16 * n + 4 * t) && eqb total (32 + 16 * n + 4 * t + b)) ⌝ }
 {
