@@ -8,10 +8,10 @@ use native.Mathlib.Nat.{le-of-suc-le-suc, not-suc-le-zero}
 use native.Mathlib.Decide.{decLe}
 use native.Mathlib.Numerals.{add-one}
 use native.Mathlib.Omega.{arith}
-use borrow.Author.Tests.{le-leb, lt-leb}
+use borrow.Author.Tests.{le-leb, lt-leb, ne-eqb}
 use lib.Dec.{T, eqb, leb, leb→le, ltb, ltb→lt, lit≤}
-use lib.ListN.{length, getD, drop, take, length-append, length-drop, take-append-drop, List·getD-eq-default}
-use lib.Seq.{drop-cons, take-suc, take-length}
+use lib.ListN.{length, getD, drop, take, set, length-set, length-append, length-drop, take-append-drop, List·getD-eq-default}
+use lib.Seq.{drop-cons, take-suc, take-length, getD-set-same, getD-set-other}
 use Rattle.tree.specs.Base.{pick, toNat}
 use Rattle.tree.specs.Tree.{Core, core, noCore}
 use Rattle.words.specs.Tab.{tab, tab-suc, tab-ext}
@@ -24,7 +24,8 @@ use Rattle.format.specs.Script.{Script, isLit, hasId, sameId, known, enter, ent
 use Rattle.format.specs.Core.{coreNode, coreFrom, coreNodes}
 use Rattle.format.specs.Read.{Place, fieldsOk, nodeOk, below, fills, nodesOk, nodesFrom}
 use Rattle.treefile.specs.Idents.{idsOf, Listed}
-use Rattle.treefile.specs.Load.{Appended, scriptOf, Loaded, Loading}
+use Rattle.treefile.specs.Load.{Appended, scriptOf, Loaded, Loading, Kept}
+use Rattle.treefile.proofs.Raws.{nodes-length, node-raw}
 use Rattle.treefile.proofs.Fill.{is-T, T-is, and-left, and-right}
 use Rattle.treefile.proofs.Names.{same-refl, enter-old, enter-new, ids-same}
 
@@ -239,3 +240,148 @@ module _ (s : Script) (k : ℕ) (h : k < length (s .nodes)) where
   -- and there are at least as many in the end
   pub ids-more : length (enter (enterAll [] (take k (s .nodes))) (getD (s .nodes) k zeroNode)) ≤ length (idents s)
   ids-more = rw (all-ids, ← ids-next) (keeps-all (getD (s .nodes) k zeroNode) (enterAll [] (take (k + 1) (s .nodes))) (drop (k + 1) (s .nodes)) .more)
+
+-- three words stored: a node behind the k nodes, and the count
+module _ (w : List ℕ) (k kind form arity num : ℕ) (long : 16384 ≤ length w) (less : k < 1024) (count : getD w 0 0 ≡ k) (hk : kind < 64) (hf : form < 32) (ha : arity < 65536) where
+  abbrev v : ℕ
+  v = kind + 64 * (form + 32 * arity)
+
+  abbrev w′ : List ℕ
+  w′ = set (set (set w (16 + k * 2) v) (16 + k * 2 + 1) num) 0 (k + 1)
+
+  put-size : length w′ ≡ length w
+  put-size = simp length-set
+
+  put-other : (j : ℕ) → (j ≡ 0 → ⊥) → (j ≡ 16 + k * 2 → ⊥) → (j ≡ 16 + k * 2 + 1 → ⊥) → getD w′ j 0 ≡ getD w j 0
+  put-other j a b c = getD-set-other (set (set w (16 + k * 2) v) (16 + k * 2 + 1) num) 0 j (k + 1) 0 a ∙ getD-set-other (set w (16 + k * 2) v) (16 + k * 2 + 1) j num 0 c ∙ getD-set-other w (16 + k * 2) j v 0 b
+
+  put-count : getD w′ 0 0 ≡ k + 1
+  put-count = getD-set-same (set (set w (16 + k * 2) v) (16 + k * 2 + 1) num) 0 (k + 1) 0 (simp length-set (omega arith))
+
+  put-head : getD w′ (16 + k * 2) 0 ≡ v
+  put-head = getD-set-other (set (set w (16 + k * 2) v) (16 + k * 2 + 1) num) 0 (16 + k * 2) (k + 1) 0 (λ e. omega (arith, e)) ∙ getD-set-other (set w (16 + k * 2) v) (16 + k * 2 + 1) (16 + k * 2) num 0 (λ e. omega (arith, e)) ∙ getD-set-same w (16 + k * 2) v 0 (omega arith)
+
+  put-num : getD w′ (16 + k * 2 + 1) 0 ≡ num
+  put-num = getD-set-other (set (set w (16 + k * 2) v) (16 + k * 2 + 1) num) 0 (16 + k * 2 + 1) (k + 1) 0 (λ e. omega (arith, e)) ∙ getD-set-same (set w (16 + k * 2) v) (16 + k * 2 + 1) num 0 (simp length-set (omega arith))
+
+  put-node : nodeOf w′ k ≡ core kind form arity num
+  put-node = rw (put-head, put-num, unpack-kind kind form arity hk hf, unpack-form kind form arity hk hf, unpack-arity kind form arity hk hf ha) refl
+
+  pub put-tree : tree w′ ≡ tree w ++ (core kind form arity num ∷ [])
+  unfolding tree
+  put-tree =
+      ap (λ (n : ℕ). tab n (λ j. nodeOf w′ j)) put-count ∙ tab-suc k (λ j. nodeOf w′ j)
+      ∙ ap₂ {C = List Core} (λ xs y. xs ++ (y ∷ [])) (tab-ext k (λ j. nodeOf w′ j) (λ j. nodeOf w j) (λ j l. core-same w w′ (16 + j * 2) (16 + j * 2) (put-other (16 + j * 2) (λ e. omega (arith, e)) (λ e. omega (arith, e)) (λ e. omega (arith, e))) (put-other (16 + j * 2 + 1) (λ e. omega (arith, e)) (λ e. omega (arith, e)) (λ e. omega (arith, e)))) ∙ ap (λ (n : ℕ). tab n (λ j. nodeOf w j)) (sym count)) put-node
+
+  pub appended : Appended w w′ (core kind form arity num)
+  appended = record {
+    size = put-size;
+    count = put-count ∙ omega arith;
+    tree = put-tree;
+    first = λ j l h. put-other j (λ e. omega (arith, e)) (λ e. omega (arith, e)) (λ e. omega (arith, e));
+    last = λ j l. put-other j (λ e. omega (arith, e)) (λ e. omega (arith, e)) (λ e. omega (arith, e));
+  }
+
+-- the list of identifiers where its words are kept
+pub listed-same : (w w′ : List ℕ) (n : ℕ) → length w′ ≡ length w → Agree 1 16 w w′ → ((j : ℕ) → 2064 ≤ j → getD w′ j 0 ≡ getD w j 0) → Listed w n → Listed w′ n
+listed-same w w′ n z a b L = record {
+  long = rw z (L .long);
+  few = rw (a 4 (omega arith) (omega arith)) (L .few);
+  low = λ i h. rw (b (15504 + i) (omega arith)) (L .low i (rw (a 4 (omega arith) (omega arith)) at h));
+  high = λ i h. rw (b (15504 + i) (omega arith)) (L .high i (rw (a 4 (omega arith) (omega arith)) at h));
+}
+
+pub ids-kept : (bs w w′ : List ℕ) → Agree 1 16 w w′ → ((j : ℕ) → 2064 ≤ j → getD w′ j 0 ≡ getD w j 0) → idsOf bs w′ ≡ idsOf bs w
+ids-kept bs w w′ a b = ids-same bs w w′ (a 4 (omega arith) (omega arith)) (λ i l. b (15504 + i) (omega arith))
+
+-- one node more is loaded: w₁ has its identifier entered, and w₂ the node appended
+module _ {bs w : List ℕ} {n t k : ℕ} (L : Loading bs w n t k) where
+  abbrev s : Script
+  s = scriptOf bs n t
+
+  abbrev x : Raw
+  x = getD (s .nodes) k zeroNode
+
+  long-nodes : k < length (s .nodes)
+  long-nodes = rw nodes-length (L .less)
+
+  pub loaded-more : {w₁ w₂ : List ℕ} {c : Core} → c ≡ coreNode s (k + 1) x → tree w₁ ≡ tree w → getD w₁ 0 0 ≡ getD w 0 0 → idsOf bs w₁ ≡ enter (idsOf bs w) x → Listed w₁ n → Appended w₁ w₂ c → Loaded bs w₂ n t (k + 1)
+  loaded-more {w₁} {w₂} e a b i l p = record {
+    count = p .count ∙ ap (λ (m : ℕ). m + 1) (b ∙ L .loaded .count);
+    tree = p .tree ∙ ap₂ {C = List Core} (λ xs y. xs ++ (y ∷ [])) (a ∙ L .loaded .tree) e ∙ sym (core-next s k long-nodes);
+    ids = ids-kept bs w₁ w₂ (p .first) (p .last) ∙ i ∙ ap (λ (is : List Raw). enter is x) (L .loaded .ids) ∙ sym (ids-next s k long-nodes);
+    listed = listed-same w₁ w₂ n (p .size) (p .first) (p .last) l;
+  }
+
+  -- the number that its identifier has in the end
+  pub number-final : hasId x ≡ true → placeOf x (idents s) ≡ placeOf x (enter (idsOf bs w) x)
+  number-final e = place-final s k long-nodes e ∙ ap (λ (is : List Raw). placeOf x (enter is x)) (sym (L .loaded .ids))
+
+  -- row 7
+  pub over : 256 < length (enter (idsOf bs w) x) → 256 < length (idents s)
+  over h = omega (arith, ids-more s k long-nodes, ap (λ (is : List Raw). length (enter is x)) (L .loaded .ids))
+
+-- the words past the first 16,384
+pub kept-by : {w w′ : List ℕ} → length w′ ≡ length w → ((j : ℕ) → 2064 ≤ j → getD w′ j 0 ≡ getD w j 0) → Kept w w′
+kept-by {w} {w′} z h = record { size = z; rest = beyond-same w w′ z (λ j l. h j (omega arith)) }
+
+pub kept-then : {w w₁ w₂ : List ℕ} → Kept w w₁ → Kept w₁ w₂ → Kept w w₂
+kept-then a b = record { size = b .size ∙ a .size; rest = b .rest ∙ a .rest }
+
+-- a literal has no identifier
+pub lit-no-id : (x : Raw) → T (isLit x) → hasId x ≡ false
+lit-no-id x h =
+    let lo = leb→le 22 (x .kind) (and-left (leb 22 (x .kind)) (leb (x .kind) 25) h) in
+    rw (ne-eqb (x .kind) 20 (λ e. omega (arith, lo, e)), ne-eqb (x .kind) 21 (λ e. omega (arith, lo, e))) refl
+
+-- a node with an identifier uses its text
+pub id-text : (x : Raw) → hasId x ≡ true → T (usesText (x .kind))
+id-text x h = go (eqb (x .kind) 20) (eqb (x .kind) 21) h
+  where
+    go : (p q : Bool) → (p || q) ≡ true → T (p || q || eqb (x .kind) 25 || eqb (x .kind) 29 || eqb (x .kind) 37)
+    go true q e = tt
+    go false true e = tt
+    go false false e = absurd (is-T false e)
+
+pub kept-mid : {w w′ : List ℕ} → length w′ ≡ length w → ((j : ℕ) → 15760 ≤ j → getD w′ j 0 ≡ getD w j 0) → Kept w w′
+kept-mid {w} {w′} z h = record { size = z; rest = beyond-same w w′ z (λ j l. h j (omega arith)) }
+
+pub flag-small : (b : Bool) → toNat b < 32
+flag-small true = omega arith
+flag-small false = omega arith
+
+-- a node with an identifier, as it is loaded
+pub core-ident : (s : Script) (n : ℕ) {raw : Raw} (x : Raw) {form j : ℕ} → raw ≡ x → hasId x ≡ true → form ≡ toNat (isArguments s x) → j ≡ placeOf x (idents s) → core (raw .kind) form (raw .arity) j ≡ coreNode s n x
+core-ident s n {raw} x {form} {j} e h p q = rw (e, p, q) (sym (core-id s n x (not-lit (isLit x) refl) h))
+  where
+    not-lit : (b : Bool) → isLit x ≡ b → isLit x ≡ false
+    not-lit true z = absurd (is-T false (sym (lit-no-id x (is-T (isLit x) z)) ∙ h))
+    not-lit false z = z
+
+-- no node is loaded yet: the two counts are 0
+module _ (bs w : List ℕ) (n t : ℕ) (long : 16384 ≤ length w) where
+  none-nodes : getD (set (set w 0 0) 4 0) 0 0 ≡ 0
+  none-nodes = getD-set-other (set w 0 0) 4 0 0 0 (λ e. omega (arith, e)) ∙ getD-set-same w 0 0 0 (omega arith)
+
+  none-ids : getD (set (set w 0 0) 4 0) 4 0 ≡ 0
+  none-ids = getD-set-same (set w 0 0) 4 0 0 (simp length-set (omega arith))
+
+  pub none-loaded : Loaded bs (set (set w 0 0) 4 0) n t 0
+  unfolding tree idsOf enterAll tab
+  none-loaded = record {
+    count = none-nodes;
+    tree = rw none-nodes refl;
+    ids = rw none-ids refl;
+    listed = record {
+      long = simp length-set long;
+      few = rw none-ids (omega arith);
+      low = λ i h. absurd (omega (arith, rw none-ids at h));
+      high = λ i h. absurd (omega (arith, rw none-ids at h));
+    };
+  }
+
+  pub none-kept : Kept w (set (set w 0 0) 4 0)
+  none-kept = record {
+    size = simp length-set;
+    rest = beyond-same w (set (set w 0 0) 4 0) (simp length-set) (λ j l. getD-set-other (set w 0 0) 4 j 0 0 (λ e. omega (arith, e)) ∙ getD-set-other w 0 j 0 0 (λ e. omega (arith, e)));
+  }

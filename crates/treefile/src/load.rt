@@ -3,9 +3,9 @@ ghost use mathlib.Core.Path.{_≡_};
 ghost use mathlib.Core.Bool.{true};
 ghost use Prim.Native.Nat.{_+_, _*_, _<_, _≤_};
 ghost use lib.ListN.{length, getD};
+ghost use Rattle.tree.specs.Base.{toNat};
 ghost use Rattle.tree.specs.Tree.{core};
 ghost use Rattle.treefile.specs.Load.{Appended, Named, Readable, Loading, Step, Done};
-
 use crate::fields::raw_at;
 use crate::idents::Entered;
 use crate::idents::enter;
@@ -22,6 +22,12 @@ fn put_node(words: &mut [u32], k: usize, kind: u32, form: u32, arity: u32, num: 
     words[0] = (k + 1) as u32;
 }
 
+fn flag(b: bool) -> u32
+    ensures { λ r. ⌜ r ≡ toNat b ⌝ }
+{
+    if b { 1 } else { 0 }
+}
+
 // Node k, which has an identifier; false where this is the 257th.
 fn load_ident(file: &[u8], words: &mut [u32], n: usize, t: usize, k: usize) -> bool
     requires { ⌜ Loading (now file) (now words) n t k × (Named (now file) k) ⌝ }
@@ -31,11 +37,11 @@ fn load_ident(file: &[u8], words: &mut [u32], n: usize, t: usize, k: usize) -> b
     let ends = 32 + 16 * n;
     let bytes = ends + 4 * t;
     let name = text(file, ends, bytes, x.text as usize);
-    let args = same_text(name, b"arguments");
+    let args = flag(same_text(name, b"arguments"));
     let entered = enter(file, words, n, k);
     match entered {
         Entered::At(j) => {
-            put_node(words, k, x.kind as u32, args as u32, x.arity as u32, j);
+            put_node(words, k, x.kind as u32, args, x.arity as u32, j);
             true
         }
         Entered::Full => false,
