@@ -5,3 +5,4 @@ pub mod Strings
 pub mod Heads
 pub mod Names
 pub mod Cores
+pub mod Readings

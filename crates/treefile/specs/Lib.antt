@@ -3,3 +3,4 @@ pub mod Text
 pub mod Idents
 pub mod Head
 pub mod Load
+pub mod Reading

@@ -1,7 +1,8 @@
 // Reading and writing of the tree file (document 01, "The tree file").
 mod fields;
-mod header;
+pub mod header;
 mod idents;
 mod load;
 mod nodes;
+pub mod read;
 mod texts;
