@@ -13,12 +13,15 @@ use Rattle.tree.specs.Tree.{Core, flat, plant}
 use Rattle.tree.specs.Base.{pick}
 use Rattle.definition.specs.Tree.{Tree, headT}
 use Rattle.definition.specs.Walk.{Outcome, refused, result}
-use Rattle.definition.specs.Script.{Raw, Script, Out, Root, Answer, isLit, hasId, sameId, nodeAt, zeroNode, back, litOut, idOut, plainOut, coreNodes, coreTree, passTree, answer, pass, rootOf}
-use Rattle.definition.specs.Reader.{Read, read, passRead, passFile}
+use Rattle.format.specs.Script.{Raw, Script, isLit, hasId, sameId, nodeAt, zeroNode, idents}
+use Rattle.format.specs.Read.{Read, read}
+use Rattle.definition.specs.Script.{Out, Root, Answer, back, litOut, idOut, plainOut, identAt, coreNodes, coreTree, passTree, answer, pass, rootOf, passRead, passFile}
 use Rattle.definition.specs.Paired.{Agree, Paired, Number, Together, BothLit, Neither, AlikeNode, AlikeRoots, AlikeResults, Alike, noOut, KeptLit, KeptAll, Kept, Demand3}
-use Rattle.laws.proofs.Pairs.{is-true, is-T, lit-no-id, same-cores}
+use Rattle.laws.proofs.Tests.{is-true, is-T, lit-no-id}
+use Rattle.laws.proofs.Idents.{sameId-refl}
+use Rattle.laws.proofs.Pairs.{Twin, twins-at, idents-twins, same-cores}
 use Rattle.laws.proofs.Keep.{All, OkId}
-use Rattle.laws.proofs.Origin.{NamedC, NamedOut, Named, to-ident, void-named, zero-named, litKind, idKind, flat-named, out-named, sameId-refl}
+use Rattle.laws.proofs.Origin.{NamedC, NamedOut, Named, to-ident, void-named, zero-named, litKind, idKind, flat-named, out-named}
 
 all-get : {A : Type 0} (P : A → Type 0) (xs : List A) (n : ℕ) (d : A) → All P xs → n < length xs → P (getD xs n d)
 all-get P [] n d h l = absurd (not-suc-le-zero l)
@@ -45,8 +48,19 @@ module _ (a b : Script) (P : Paired a b) where
   same-isLit : (n : ℕ) → isLit (nodeAt a n) ≡ isLit (nodeAt b n)
   same-isLit = same-test isLit true (λ x t. is-true (isLit x) t) (λ x y e. ap litKind e)
 
-  together : (n : ℕ) (x y : Raw) → T (sameId x (nodeAt a n)) → T (sameId y (nodeAt b n)) → T (hasId (nodeAt a n)) → Together a b x y
-  together n x y p q t = record { place = n; left-id = t; right-id = subst T (same-hasId n) t; left = p; right = q }
+  -- the identifiers of one number stand together
+  together : (i : ℕ) (x y : Raw) → T (sameId x (identAt a i)) → T (sameId y (identAt b i)) → i < length (idents a) → Together a b x y
+  unfolding idents
+  together i x y p q l = go (twins-at a b (idents a) (idents b) (idents-twins a b P) i l)
+    where
+      go : Twin a b (identAt a i) (identAt b i) → Together a b x y
+      go t = record {
+        place = t .place;
+        left-id = t .has;
+        right-id = subst T (same-hasId (t .place)) (t .has);
+        left = subst (λ z. T (sameId x z)) (t .left) p;
+        right = subst (λ z. T (sameId y z)) (t .right) q;
+      }
 
   alike-node : (c : Core) → NamedC a c → AlikeNode a b (back a c) (back b c)
   unfolding back
@@ -58,7 +72,7 @@ module _ (a b : Script) (P : Paired a b) where
         one = λ t. subst T e t;
         two = λ t. subst T e t;
         agree = record { kinds = refl; forms = refl; arities = refl };
-        ids = λ t. together (c .num) (idOut a c .raw) (idOut b c .raw) (sameId-refl (nodeAt a (c .num))) (sameId-refl (nodeAt b (c .num))) (h .ident (is-T (idKind (c .kind)) f));
+        ids = λ t. together (c .num) (idOut a c .raw) (idOut b c .raw) (sameId-refl (identAt a (c .num))) (sameId-refl (identAt b (c .num))) (h .ident (is-T (idKind (c .kind)) f));
       })
       go false e false f = inr (record {
         one = λ t. subst T e t;
@@ -68,14 +82,15 @@ module _ (a b : Script) (P : Paired a b) where
       })
 
   alike-roots : (ms : List (ℕ × Bool)) → All (λ (m : ℕ × Bool). OkId (Named a) (to-ident a) (void-named a) (zero-named a) (m .0)) ms → AlikeRoots a b (map (rootOf a) ms) (map (rootOf b) ms)
+  unfolding rootOf
   alike-roots [] h = tt
-  alike-roots (m ∷ ms) h = (together (m .0) (nodeAt a (m .0)) (nodeAt b (m .0)) (sameId-refl (nodeAt a (m .0))) (sameId-refl (nodeAt b (m .0))) (h .0 .ok .ident tt), refl, alike-roots ms (h .1))
+  alike-roots (m ∷ ms) h = (together (m .0) (identAt a (m .0)) (identAt b (m .0)) (sameId-refl (identAt a (m .0))) (sameId-refl (identAt b (m .0))) (h .0 .ok .ident tt), refl, alike-roots ms (h .1))
 
   zeroCore : Core
   zeroCore = record { kind = 22; form = 0; arity = 0; num = 0 }
 
   alike-answer : (o : Outcome) → NamedOut a o → Alike a b (answer a o) (answer b o)
-  unfolding back zeroCore
+  unfolding back rootOf zeroCore
   alike-answer (refused n) h = refl
   alike-answer (result k c t ms) h = record {
     runs = refl;
@@ -98,7 +113,7 @@ unfolding back
 literal-kept s c h = go (litKind (c .kind)) refl (idKind (c .kind))
   where
     go : (p : Bool) → litKind (c .kind) ≡ p → (q : Bool) → T (isLit (pick p (litOut s c) (pick q (idOut s c) (plainOut s c)) .raw)) → KeptLit s (pick p (litOut s c) (pick q (idOut s c) (plainOut s c)))
-    go true e q t = record { origin = h .within; raw = refl }
+    go true e q t = record { origin = h .low (is-T (litKind (c .kind)) e); raw = refl }
     go false e true t = absurd (subst T e t)
     go false e false t = absurd (subst T e t)
 
@@ -107,19 +122,10 @@ kept-all s [] h = tt
 kept-all s (c ∷ cs) h = (literal-kept s c (h .0), kept-all s cs (h .1))
 
 kept-answer : (s : Script) (o : Outcome) → NamedOut s o → Kept s (answer s o)
-unfolding back
+unfolding back rootOf
 kept-answer s (refused n) h = tt
 kept-answer s (result k c t ms) h = kept-all s (flat t []) (flat-named s t [] (h .0) tt)
 
 pub kept : (s : Script) (n : ℕ) → Kept s (pass n s)
 unfolding pass
 kept s n = kept-answer s (passTree n (coreTree s)) (out-named s n)
-
--- from the files' bytes on
-pub demand3 : Demand3
-unfolding passFile
-demand3 as′ bs a b p q P n = (
-  subst₂ (λ (x y : Read). Alike a b (passRead n x) (passRead n y)) (sym p) (sym q) (alike a b P n),
-  subst (λ (x : Read). Kept a (passRead n x)) (sym p) (kept a n),
-  subst (λ (x : Read). Kept b (passRead n x)) (sym q) (kept b n),
-)

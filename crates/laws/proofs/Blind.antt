@@ -11,7 +11,7 @@ use Rattle.tree.specs.Base.{pick, orElse}
 use Rattle.definition.specs.Tree.{Tree, Forest, node, nil, cons, kind, form, num, kids, count, counts, height, heights, isIdent, isLit, isMember, isCheap, hasThis, hasThisF, identList, identListF, headT}
 use Rattle.definition.specs.Relabel.{relabel, relabelF}
 use Rattle.definition.specs.Scope as Scope
-use Rattle.laws.proofs.Pairs.{is-T}
+use Rattle.laws.proofs.Tests.{is-T}
 
 module _ (r : ℕ → ℕ) where
   -- the tree

@@ -6,9 +6,9 @@ use mathlib.Core.Option.{Option, none, some}
 use mathlib.Core.List.{List, [], _∷_, _++_, map}
 use Prim.Native.Nat.{ℕ, zero, suc, _+_, _-_}
 use lib.Dec.{T, eqb, ltb, leb, eqb→eq}
-use Rattle.laws.proofs.Pairs.{is-T}
+use Rattle.laws.proofs.Tests.{is-T}
 use lib.ListN.{length, getD}
-use Rattle.tree.specs.Base.{pick, orElse, member, insert, insertAll}
+use Rattle.tree.specs.Base.{pick, orElse}
 use Rattle.definition.specs.Tree.{Tree, Forest, node, nil, cons, kind, form, num, kids, headT, tailF, isIdent, isCheap, isMember, hasThis, count, height, identList, identListF, voidZero}
 use Rattle.definition.specs.Scope as Scope
 use Rattle.definition.specs.Walk as Walk
@@ -109,13 +109,13 @@ module _ (N : ℕ → ℕ → ℕ → Type 0) (to-ident : (f a : ℕ) → N 20 f
   ok-const i [] h = tt
   ok-const i (s ∷ st) h = ok-elseT (Scope.flat (Scope.constIn i (s .constants))) (Scope.findConstant i st) (ok-const-in i (s .constants) (h .0 .1)) (ok-const i st (h .1))
 
-  ok-drop : (i : ℕ) (cs : List (ℕ × Option Tree)) → All OkC cs → All OkC (Scope.dropIn i cs)
-  ok-drop i [] h = tt
-  ok-drop i (c ∷ cs) h = elim-ok (All OkC) (eqb (c .0) i) cs (c ∷ Scope.dropIn i cs) (h .1) (h .0, ok-drop i cs (h .1))
+  ok-putConst : (i : ℕ) (v : Option Tree) → OkO v → (cs : List (ℕ × Option Tree)) → All OkC cs → All OkC (Scope.putConst i v cs)
+  ok-putConst i v k [] h = (k, tt)
+  ok-putConst i v k (c ∷ cs) h = elim-ok (All OkC) (eqb (c .0) i) ((i, v) ∷ cs) (c ∷ Scope.putConst i v cs) (k, h .1) (h .0, ok-putConst i v k cs (h .1))
 
   pub ok-addConst : (i : ℕ) (v : Option Tree) → OkO v → (st : Scope.Stack) → OkSt st → OkSt (Scope.addConst i v st)
   ok-addConst i v k [] h = tt
-  ok-addConst i v k (s ∷ st) h = ((h .0 .0, (k, ok-drop i (s .constants) (h .0 .1))), h .1)
+  ok-addConst i v k (s ∷ st) h = ((h .0 .0, ok-putConst i v k (s .constants) (h .0 .1)), h .1)
 
   -- a change of one binding
   ok-changeIn : (i : ℕ) (f : Scope.VarInfo → Scope.VarInfo) → ((b : Scope.VarInfo) → OkB b → OkB (f b)) → (bs : List Scope.VarInfo) → All OkB bs → All OkB (Scope.changeIn i f bs)
@@ -229,7 +229,7 @@ module _ (N : ℕ → ℕ → ℕ → Type 0) (to-ident : (f a : ℕ) → N 20 f
   ok-put c k [] h = (k, tt)
   ok-put c k (b ∷ bs) h = elim-ok (All OkB) (eqb (b .id) (c .id)) (c ∷ bs) (b ∷ Scope.put c bs) (k, h .1) (h .0, ok-put c k bs (h .1))
 
-  ok-hoist : (us : List ℕ) (cs bs : List Scope.VarInfo) → All OkB cs → All OkB bs → All OkB (Scope.hoistAll us cs bs)
+  ok-hoist : (us : ℕ → Bool) (cs bs : List Scope.VarInfo) → All OkB cs → All OkB bs → All OkB (Scope.hoistAll us cs bs)
   ok-hoist us [] bs h k = k
   ok-hoist us (c ∷ cs) bs h k = ok-hoist us cs (pick (Scope.isVar (c .kind)) (Scope.put (Scope.hoist us c) bs) bs) (h .1)
       (pick-ok (All OkB) (Scope.isVar (c .kind)) (Scope.put (Scope.hoist us c) bs) bs (ok-put (Scope.hoist us c) (h .0 .0, tt) bs k) k)
@@ -239,7 +239,7 @@ module _ (N : ℕ → ℕ → ℕ → Type 0) (to-ident : (f a : ℕ) → N 20 f
   ok-close [] h = tt
   ok-close (c ∷ []) h = tt
   ok-close (c ∷ s ∷ st) h =
-      let us = insertAll (c .unresolvedUsages) (s .unresolvedUsages) in
+      let us : ℕ → Bool = λ j. c .unresolvedUsages j || s .unresolvedUsages j in
       ((pick-ok (All OkB) (Scope.isFn (c .kind)) (s .bindings) (Scope.hoistAll us (c .bindings) (s .bindings)) (h .1 .0 .0) (ok-hoist us (c .bindings) (s .bindings) (h .0 .0) (h .1 .0 .0)), h .1 .0 .1), h .1 .1)
 
   -- the walks

@@ -9,11 +9,13 @@ use native.Mathlib.Omega.{arith}
 use lib.Dec.{T, eqb, leb, eqb→eq, eqb-refl}
 use lib.ListN.{length, getD}
 use Rattle.tree.specs.Tree.{Core, plant, takeF, dropF, flat, flats}
-use Rattle.tree.specs.Base.{pick}
+use Rattle.tree.specs.Base.{pick, toNat}
 use Rattle.definition.specs.Tree.{Tree, Forest, node, nil, cons, headT}
 use Rattle.definition.specs.Walk.{Outcome, refused, result, corePass}
-use Rattle.definition.specs.Script.{Raw, Script, isLit, hasId, sameId, nodeAt, zeroNode, firstOf, coreNode, coreFrom, coreNodes, coreTree, toNat, isArguments, passTree}
-use Rattle.laws.proofs.Pairs.{is-true, is-T, lit-no-id}
+use Rattle.format.specs.Script.{Raw, Script, isLit, hasId, isArguments, nodeAt, zeroNode, idents, placeOf}
+use Rattle.definition.specs.Script.{coreNode, coreFrom, coreNodes, coreTree, passTree}
+use Rattle.laws.proofs.Tests.{is-T}
+use Rattle.laws.proofs.Idents.{ident-lt}
 use Rattle.laws.proofs.Keep.{All, OkId}
 use Rattle.laws.proofs.Keep as Keep
 
@@ -23,20 +25,20 @@ litKind k = leb 22 k && leb k 25
 abbrev pub idKind : ℕ → Bool
 idKind k = eqb k 20 || eqb k 21
 
--- the number of a node of kind k names a node of the right sort
+-- the number of a literal is 0 or a literal's, and the number of an identifier is one of those that the script has
 pub record Named (s : Script) (k f a : ℕ) : Type 0 where
   pub lit : T (litKind k) → T (isLit (nodeAt s a))
-  pub ident : T (idKind k) → T (hasId (nodeAt s a))
-  pub within : a ≤ length (s .nodes)
+  pub low : T (litKind k) → a ≤ length (s .nodes)
+  pub ident : T (idKind k) → a < length (idents s)
 
 pub to-ident : (s : Script) (f a : ℕ) → Named s 20 f a → Named s 21 f a
-to-ident s f a h = record { lit = λ t. absurd t; ident = λ t. h .ident tt; within = h .within }
+to-ident s f a h = record { lit = λ t. absurd t; low = λ t. absurd t; ident = λ t. h .ident tt }
 
 pub void-named : (s : Script) → Named s 30 0 0
-void-named s = record { lit = λ t. absurd t; ident = λ t. absurd t; within = zero-le }
+void-named s = record { lit = λ t. absurd t; low = λ t. absurd t; ident = λ t. absurd t }
 
 pub zero-named : (s : Script) → Named s 22 0 0
-zero-named s = record { lit = λ t. tt; ident = λ t. absurd t; within = zero-le }
+zero-named s = record { lit = λ t. tt; low = λ t. zero-le; ident = λ t. absurd t }
 
 abbrev pub NamedT : Script → Tree → Type 0
 NamedT s t = Keep.OkT (Named s) (to-ident s) (void-named s) (zero-named s) t
@@ -73,48 +75,6 @@ mutual
   flats-named s nil rest h r = r
   flats-named s (cons t ts) rest h r = flat-named s t (flats ts rest) (h .0) (flats-named s ts rest (h .1) r)
 
--- the first node with an identifier has one
-pub record First (x : Raw) (n : ℕ) (ys : List Raw) : Type 0 where
-  pub place : ℕ
-  pub there : firstOf x n ys ≡ n + place
-  pub inside : place < length ys
-  pub has : T (hasId (getD ys place zeroNode))
-
-and-left : (p q : Bool) → T (p && q) → T p
-and-left true q t = tt
-and-left false q t = t
-
-first-has : (x : Raw) (n : ℕ) (ys : List Raw) (i : ℕ) → i < length ys → T (hasId (getD ys i zeroNode) && sameId x (getD ys i zeroNode)) → First x n ys
-first-has x n [] i l t = absurd (not-suc-le-zero l)
-first-has x n (y ∷ ys) zero l t = record {
-  place = 0;
-  there = ap {B = ℕ} (λ b. elim b [ true ↦ n | false ↦ firstOf x (suc n) ys ]) (is-true (hasId y && sameId x y) t) ∙ sym (add-zero n);
-  inside = suc-le-suc zero-le;
-  has = and-left (hasId y) (sameId x y) t;
-}
-first-has x n (y ∷ ys) (suc i) l t = go (hasId y && sameId x y) refl (first-has x (suc n) ys i (le-of-suc-le-suc l) t)
-  where
-    go : (p : Bool) → (hasId y && sameId x y) ≡ p → First x (suc n) ys → First x n (y ∷ ys)
-    go true e r = record {
-      place = 0;
-      there = ap {B = ℕ} (λ b. elim b [ true ↦ n | false ↦ firstOf x (suc n) ys ]) e ∙ sym (add-zero n);
-      inside = suc-le-suc zero-le;
-      has = and-left (hasId y) (sameId x y) (is-T (hasId y && sameId x y) e);
-    }
-    go false e r = record {
-      place = suc (r .place);
-      there = ap {B = ℕ} (λ b. elim b [ true ↦ n | false ↦ firstOf x (suc n) ys ]) e ∙ r .there ∙ suc-add n (r .place) ∙ sym (add-suc n (r .place));
-      inside = suc-le-suc (r .inside);
-      has = r .has;
-    }
-
-pub sameId-refl : (x : Raw) → T (sameId x x)
-sameId-refl x = subst T (sym (ap (λ p. p && eqb (x .bits) (x .bits)) (is-true (eqb (x .text) (x .text)) (eqb-refl (x .text))))) (eqb-refl (x .bits))
-
-both : (p q : Bool) → T p → T q → T (p && q)
-both true q h k = k
-both false q h k = h
-
 one-add : (i : ℕ) → 1 + i ≡ suc i
 one-add i = omega arith
 
@@ -126,22 +86,14 @@ core-named s i l = go (isLit x) refl (hasId x) refl
     x : Raw
     x = nodeAt s (suc i)
 
-    isFirstRun : T (hasId x) → First x 1 (s .nodes)
-    isFirstRun t = first-has x 1 (s .nodes) i l (both (hasId x) (sameId x x) t (sameId-refl x))
-
-    found : T (hasId x) → T (hasId (nodeAt s (firstOf x 1 (s .nodes))))
-    found t = (let r = isFirstRun t in subst (λ (m : ℕ). T (hasId (nodeAt s m))) (sym (r .there ∙ one-add (r .place))) (r .has))
-
-    placed : T (hasId x) → firstOf x 1 (s .nodes) ≤ length (s .nodes)
-    placed t = (let r = isFirstRun t in subst (λ (m : ℕ). m ≤ length (s .nodes)) (sym (r .there ∙ one-add (r .place))) (r .inside))
-
     go : (p : Bool) → isLit x ≡ p → (q : Bool) → hasId x ≡ q
-        → NamedC s (pick p (record { kind = 22; form = 0; arity = 0; num = suc i }) (pick q (record { kind = x .kind; form = toNat (isArguments s x); arity = x .arity; num = firstOf x 1 (s .nodes) }) (record { kind = x .kind; form = x .form; arity = x .arity; num = suc i })))
-    go true e q f = record { lit = λ t. is-T (isLit x) e; ident = λ t. absurd t; within = l }
-    go false e true f = record { lit = λ t. absurd (subst T e t); ident = λ t. found t; within = placed (is-T (hasId x) f) }
-    go false e false f = record { lit = λ t. absurd (subst T e t); ident = λ t. absurd (subst T f t); within = l }
+        → NamedC s (pick p (record { kind = 22; form = 0; arity = 0; num = suc i }) (pick q (record { kind = x .kind; form = toNat (isArguments s x); arity = x .arity; num = placeOf x (idents s) }) (record { kind = x .kind; form = x .form; arity = x .arity; num = suc i })))
+    go true e q f = record { lit = λ t. is-T (isLit x) e; low = λ t. l; ident = λ t. absurd t }
+    go false e true f = record { lit = λ t. absurd (subst T e t); low = λ t. absurd (subst T e t); ident = λ t. ident-lt s i l (is-T (hasId x) f) }
+    go false e false f = record { lit = λ t. absurd (subst T e t); low = λ t. absurd (subst T e t); ident = λ t. absurd (subst T f t) }
 
 all-core : (s : Script) (n : ℕ) (xs : List Raw) → ((i : ℕ) → i < length xs → NamedC s (coreNode s (n + i) (getD xs i zeroNode))) → All (NamedC s) (coreFrom s n xs)
+unfolding coreNode
 all-core s n [] h = tt
 all-core s n (x ∷ xs) h = (
   subst (λ (m : ℕ). NamedC s (coreNode s m x)) (add-zero n) (h 0 (suc-le-suc zero-le)),
@@ -153,6 +105,7 @@ NamedO s none = Unit {0}
 NamedO s (some t) = NamedT s t
 
 tree-named : (s : Script) → NamedO s (coreTree s)
+unfolding coreNodes
 tree-named s = go (plant (coreNodes s)) (plant-named s (coreNodes s) (all-core s 1 (s .nodes) (λ i l. subst (λ (m : ℕ). NamedC s (coreNode s m (getD (s .nodes) i zeroNode))) (sym (one-add i)) (core-named s i l))))
   where
     go : (ts : Forest) → NamedF s ts → NamedO s (headT ts)
@@ -161,6 +114,7 @@ tree-named s = go (plant (coreNodes s)) (plant-named s (coreNodes s) (all-core s
 
 -- the whole pass
 pub out-named : (s : Script) (n : ℕ) → NamedOut s (passTree n (coreTree s))
+unfolding corePass
 out-named s n = go (coreTree s) (tree-named s)
   where
     go : (o : Option Tree) → NamedO s o → NamedOut s (passTree n o)
