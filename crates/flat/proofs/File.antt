@@ -8,16 +8,18 @@ use Prim.Native.Nat.{ℕ, zero, suc, _+_, _-_, _*_, _≤_}
 use native.Mathlib.Nat.{zero-add, suc-add, add-assoc, suc-inj, suc-ne-zero, not-suc-le-zero}
 use native.Mathlib.Decide.{decLe}
 use native.Mathlib.Omega.{arith}
-use lib.Dec.{T, eqb, leb, leb→le}
+use lib.Dec.{T, eqb, ltb, leb, leb→le}
 use lib.ListN.{length, drop}
 use Rattle.tree.specs.Tree.{Tree, Forest, node, nil, cons, lengthF, count, counts, Core, core, flat, flats, plant, takeF, dropF}
 use Rattle.tree.specs.Combine.{Flat}
 use Rattle.tree.proofs.Whole.{Whole, length-dropF, unplant}
-use Rattle.tree.specs.Base.{pick}
-use Rattle.definition.specs.Tree.{kind, height, headT}
+use Rattle.tree.specs.Base.{pick, toNat}
+use Rattle.definition.specs.Tree.{headT}
 use Rattle.definition.specs.Walk.{St, Outcome, refused, result, corePass, start}
-use Rattle.definition.specs.Script.{Raw, Script, Answer, isLit, hasId, toNat, isArguments, firstOf, coreNode, coreFrom, coreNodes, coreTree, answer, passTree, pass, back}
-use Rattle.definition.specs.Reader.{Read, bad, script, u32, endsFrom, textsFrom, nodesFrom, rising, distinct, firsts, read, checked, allFields, headOk, nodesOk, complete, rawCore, goodTree, good, goods, fits, none?, ruleOf, passRead, passFile}
+use Rattle.format.specs.Kinds.{allows, formOk, countOk, ruleOf}
+use Rattle.format.specs.Script.{Raw, Script, isLit, hasId, isArguments, idents, placeOf}
+use Rattle.format.specs.Read.{Read, bad, script, Place, u32, endsFrom, textsFrom, nodesFrom, rising, distinct, fieldsOk, nodeOk, below, fills, nodesOk, checked, read}
+use Rattle.definition.specs.Script.{Answer, coreNode, coreFrom, coreNodes, coreTree, answer, passTree, pass, back, rootOf, passRead, passFile}
 use Rattle.definition.specs.Entry.{Entry, refused as refusedE, written, entryRead, entry}
 use Rattle.flat.specs.WalkF.{OutcomeF, runsF, flatOutcome}
 use Rattle.flat.specs.PassF.{startF, answerF, passF, passReadF, passFileF, entryReadF, entryF}
@@ -48,7 +50,8 @@ passed false r x s e k = not-bad r s e
 passed true r x s e k = k tt e
 
 checked-ok : (a s : Script) → checked a ≡ script s → T (nodesOk s)
-checked-ok a s e = passed (nodesOk a) 6 _ s e λ t e₁. passed (leb (firsts 1 (a .nodes) (a .nodes)) 256) 7 (script a) s e₁ λ u e₂. subst (λ (x : Script). T (nodesOk x)) (same-script a s e₂) t
+unfolding nodesOk idents
+checked-ok a s e = passed (nodesOk a) 6 _ s e λ t e₁. passed (leb (length (idents a)) 256) 7 (script a) s e₁ λ u e₂. subst (λ (x : Script). T (nodesOk x)) (same-script a s e₂) t
 
 read-ok : (bs : List ℕ) (s : Script) → read bs ≡ script s → T (nodesOk s)
 unfolding read
@@ -70,12 +73,6 @@ Trees n cs = (lengthF (plant cs) ≡ n) × Whole cs
 trees-more : (n : ℕ) (c : Core) (cs : List Core) → Trees (c .arity + n) cs → Trees (suc n) (c ∷ cs)
 trees-more n c cs h = (ap suc (length-dropF (c .arity) (plant cs) ∙ omega (arith, h .0)), (omega (arith, h .0), h .1))
 
-raw-trees : (n : ℕ) (xs : List Raw) → T (complete n xs) → Trees n (map rawCore xs)
-raw-trees zero [] t = (refl, tt)
-raw-trees zero (x ∷ xs) t = absurd t
-raw-trees (suc n) [] t = absurd t
-raw-trees (suc n) (x ∷ xs) t = trees-more n (rawCore x) (map rawCore xs) (raw-trees (x .arity + n) xs t)
-
 -- a literal has no children
 by-lit : (P : ℕ → Type 0) → P 22 → P 23 → P 24 → P 25 → (k : ℕ) → T (leb 22 k && leb k 25) → P k
 by-lit P a b c d k t = go (decLe k 22) (decLe k 23) (decLe k 24)
@@ -92,39 +89,21 @@ by-lit P a b c d k t = go (decLe k 22) (decLe k 23) (decLe k 24)
     go (no f) (no g) (yes l) = subst P (omega (arith, lo, g, l)) c
     go (no f) (no g) (no h) = subst P (omega (arith, hi, h)) d
 
-lit-leaf : (k : ℕ) → T (leb 22 k && leb k 25) → (f : ℕ) (ts : Forest) → T (fits (ruleOf k .items f) ts) → T (none? ts)
-lit-leaf = by-lit (λ (k : ℕ). (f : ℕ) (ts : Forest) → T (fits (ruleOf k .items f) ts) → T (none? ts)) (λ f ts h. h) (λ f ts h. h) (λ f ts h. h) (λ f ts h. h)
+lit-leaf : (k : ℕ) → T (leb 22 k && leb k 25) → (f n : ℕ) → T (countOk k f n) → n ≡ 0
+unfolding countOk
+lit-leaf = by-lit (λ (k : ℕ). (f n : ℕ) → T (leb (ruleOf k .least f) n && leb n (ruleOf k .most f)) → n ≡ 0) none none none none
+  where
+    none : (f n : ℕ) → T (leb 0 n && leb n 0) → n ≡ 0
+    none f n h = omega (arith, leb→le n 0 (and-right (leb 0 n) (leb n 0) h))
 
-take-none : (n : ℕ) (ts : Forest) → n ≤ lengthF ts → T (none? (takeF n ts)) → n ≡ 0
-take-none zero ts l t = refl
-take-none (suc n) nil l t = absurd (not-suc-le-zero l)
-take-none (suc n) (cons u us) l t = absurd t
+node-leaf : (t : ℕ) (p : Place) (x : Raw) → T (nodeOk t p x) → T (isLit x) → x .arity ≡ 0
+unfolding nodeOk
+node-leaf t p x h l = lit-leaf (x .kind) l (x .form) (x .arity) (and-right (ltb 0 (p .left) && allows (p .class) (x .kind) (x .arity) && fieldsOk t x && formOk (x .kind) (x .form)) (countOk (x .kind) (x .form) (x .arity)) h)
 
-goods-join : (n : ℕ) (ts : Forest) → T (goods (takeF n ts)) → T (goods (dropF n ts)) → T (goods ts)
-goods-join zero ts h k = k
-goods-join (suc n) nil h k = tt
-goods-join (suc n) (cons t ts) h k = both (good t) (goods ts) (and-left (good t) (goods (takeF n ts)) h) (goods-join n ts (and-right (good t) (goods (takeF n ts)) h) k)
-
-good-parts : (k f : ℕ) (ts : Forest) → T (good (node k f 0 ts)) → T (fits (ruleOf k .items f) ts) × T (goods ts)
-good-parts k f ts h =
-    let a = leb (ruleOf k .from) f && leb f (ruleOf k .to) in
-    let b = fits (ruleOf k .items f) ts in
-    (and-right a b (and-left (a && b) (headOk k ts) (and-left (a && b && headOk k ts) (goods ts) h)), and-right (a && b && headOk k ts) (goods ts) h)
-
-abbrev Leaves : List Raw → Type 0
-Leaves [] = Unit {0}
-Leaves (x ∷ xs) = (T (isLit x) → x .arity ≡ 0) × Leaves xs
-
-leaves : (xs : List Raw) → Whole (map rawCore xs) → T (goods (plant (map rawCore xs))) → Leaves xs
-leaves [] w g = tt
-leaves (x ∷ xs) w g =
-    let ts = plant (map rawCore xs) in
-    let us = takeF (x .arity) ts in
-    let h = good-parts (x .kind) (x .form) us (and-left (good (node (x .kind) (x .form) 0 us)) (goods (dropF (x .arity) ts)) g) in
-    let k = and-right (good (node (x .kind) (x .form) 0 us)) (goods (dropF (x .arity) ts)) g in (
-      λ t. take-none (x .arity) ts (w .0) (lit-leaf (x .kind) t (x .form) us (h .0)),
-      leaves xs (w .1) (goods-join (x .arity) ts (h .1) k),
-    )
+length-below : (p : Place) (x : Raw) (i m : ℕ) (ps : List Place) → length (below p x i m ps) ≡ m + length ps
+unfolding below
+length-below p x i zero ps = sym (zero-add (length ps))
+length-below p x i (suc m) ps = ap suc (length-below p x (suc i) m ps) ∙ sym (suc-add m (length ps))
 
 -- so the core's nodes are as many trees
 pick-arity : (p q : Bool) (a b c : Core) (m : ℕ) → (T p → a .arity ≡ m) → b .arity ≡ m → c .arity ≡ m → pick p a (pick q b c) .arity ≡ m
@@ -134,14 +113,22 @@ pick-arity false false a b c m h k l = l
 
 core-arity : (s : Script) (n : ℕ) (x : Raw) → (T (isLit x) → x .arity ≡ 0) → coreNode s n x .arity ≡ x .arity
 unfolding coreNode
-core-arity s n x h = pick-arity (isLit x) (hasId x) (core 22 0 0 n) (core (x .kind) (toNat (isArguments s x)) (x .arity) (firstOf x 1 (s .nodes))) (core (x .kind) (x .form) (x .arity) n) (x .arity) (λ t. sym (h t)) refl refl
+core-arity s n x h = pick-arity (isLit x) (hasId x) (core 22 0 0 n) (core (x .kind) (toNat (isArguments s x)) (x .arity) (placeOf x (idents s))) (core (x .kind) (x .form) (x .arity) n) (x .arity) (λ t. sym (h t)) refl refl
 
-core-trees : (s : Script) (m n : ℕ) (xs : List Raw) → Leaves xs → T (complete n xs) → Trees n (coreFrom s m xs)
-core-trees s m zero [] l t = (refl, tt)
-core-trees s m zero (x ∷ xs) l t = absurd t
-core-trees s m (suc n) [] l t = absurd t
-core-trees s m (suc n) (x ∷ xs) l t = trees-more n (coreNode s m x) (coreFrom s (suc m) xs)
-    (rw (core-arity s m x (l .0)) (core-trees s (suc m) (x .arity + n) xs (l .1) t))
+-- the nodes that fill the places are as many trees
+core-trees : (s : Script) (m t : ℕ) (ps : List Place) (xs : List Raw) → T (fills t ps xs) → Trees (length ps) (coreFrom s m xs)
+unfolding fills coreNode
+core-trees s m t [] [] h = (refl, tt)
+core-trees s m t [] (x ∷ xs) h = absurd h
+core-trees s m t (p ∷ ps) [] h = absurd h
+core-trees s m t (p ∷ ps) (x ∷ xs) h = go (nodeOk t p x) refl h (core-trees s (suc m) t (below p x 0 (x .arity) ps) xs)
+  where
+    go : (q : Bool) → nodeOk t p x ≡ q → T (elim q [ true ↦ fills t (below p x 0 (x .arity) ps) xs | false ↦ false ])
+        → (T (fills t (below p x 0 (x .arity) ps) xs) → Trees (length (below p x 0 (x .arity) ps)) (coreFrom s (suc m) xs))
+        → Trees (suc (length ps)) (coreNode s m x ∷ coreFrom s (suc m) xs)
+    go true e h ih = trees-more (length ps) (coreNode s m x) (coreFrom s (suc m) xs) (subst (λ (n : ℕ). Trees n (coreFrom s (suc m) xs))
+        (length-below p x 0 (x .arity) ps ∙ ap (λ (n : ℕ). n + length ps) (sym (core-arity s m x (node-leaf t p x (subst T (sym e) tt))))) (ih h))
+    go false e h ih = absurd h
 
 record One (ts : Forest) : Type 0 where
   tree : Tree
@@ -159,25 +146,11 @@ record Planted (s : Script) : Type 0 where
   nodes : flat tree [] ≡ coreNodes s
 
 planted-ok : (s : Script) → T (nodesOk s) → Planted s
+unfolding nodesOk coreNodes
 planted-ok s t = record { tree = o .tree; planted = o .is; nodes = ap (λ (ts : Forest). flats ts []) (sym (o .is)) ∙ unplant (coreNodes s) (c .1) }
   where
-    whole : T (complete 1 (s .nodes))
-    whole = and-right (allFields (length (s .texts)) (s .nodes)) (complete 1 (s .nodes)) (and-left (allFields (length (s .texts)) (s .nodes) && complete 1 (s .nodes)) (goodTree (headT (plant (map rawCore (s .nodes))))) t)
-
-    good-tree : T (goodTree (headT (plant (map rawCore (s .nodes)))))
-    good-tree = and-right (allFields (length (s .texts)) (s .nodes) && complete 1 (s .nodes)) (goodTree (headT (plant (map rawCore (s .nodes))))) t
-
-    r : Trees 1 (map rawCore (s .nodes))
-    r = raw-trees 1 (s .nodes) whole
-
-    all-good : (ts : Forest) → One ts → T (goodTree (headT ts)) → T (goods ts)
-    all-good ts p h =
-        let u = p .tree in
-        let k : T (goodTree (some u)) = rw (p .is) at h in
-        rw (p .is) (both (good u) true (and-right (eqb (kind u) 1) (good u) (and-left (eqb (kind u) 1 && good u) (leb (height u) 200) k)) tt)
-
     c : Trees 1 (coreNodes s)
-    c = core-trees s 1 1 (s .nodes) (leaves (s .nodes) (r .1) (all-good (plant (map rawCore (s .nodes))) (one-tree (plant (map rawCore (s .nodes))) (r .0)) good-tree)) whole
+    c = core-trees s 1 (length (s .texts)) _ (s .nodes) t
 
     o : One (plant (coreNodes s))
     o = one-tree (plant (coreNodes s)) (c .0)
@@ -192,10 +165,12 @@ mutual
   length-flats (cons t ts) xs = length-flat t (flats ts xs) ∙ ap (λ (n : ℕ). count t + n) (length-flats ts xs) ∙ omega arith
 
 length-core : (s : Script) (n : ℕ) (xs : List Raw) → length (coreFrom s n xs) ≡ length xs
+unfolding coreNode
 length-core s n [] = refl
 length-core s n (x ∷ xs) = ap suc (length-core s (suc n) xs)
 
 answer-same : (s : Script) (o : Outcome) → answerF s (flatOutcome o) ≡ answer s o
+unfolding back rootOf
 answer-same s (refused n) = refl
 answer-same s (result k c t ms) = refl
 

@@ -7,8 +7,9 @@ use lib.Dec.{leb}
 use lib.ListN.{length}
 use Rattle.definition.specs.Scope.{vVar, fn, newScope}
 use Rattle.definition.specs.Walk.{St, declaring}
-use Rattle.definition.specs.Script.{Script, Answer, no!, yes!, back, rootOf, coreNodes}
-use Rattle.definition.specs.Reader.{Read, bad, script, read}
+use Rattle.format.specs.Script.{Script}
+use Rattle.format.specs.Read.{Read, bad, script, read}
+use Rattle.definition.specs.Script.{Answer, no!, yes!, back, rootOf, coreNodes}
 use Rattle.definition.specs.Entry.{Entry, refused, written}
 use Rattle.flat.specs.WalkF.{OutcomeF, refusedF, resultF, runsF}
 
