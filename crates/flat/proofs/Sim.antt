@@ -163,7 +163,7 @@ module _ {w : Walks} {v : WalkF.WalksF} (h : Sims w v) where
 
   sim-catchParam : (p : ℕ) → Sim (Walk.catchParam w p) (WalkF.catchParamF v p)
   unfolding Walk.catchParam WalkF.catchParamF
-  sim-catchParam p = sim-node (λ s c. c .num) (λ x. sim-tap (λ u s. when (not (s .inlining)) (mark (preventInline x)) s) (h .full p))
+  sim-catchParam p = sim-node (λ s c. c) (λ x. sim-tap (λ u s. when (eqb (x .kind) 20 && not (s .inlining)) (mark (preventInline (x .num))) s) (h .full p))
 
   sim-catch : (p : ℕ) → Sim (Walk.visitMutCatchClause w p) (WalkF.visitMutCatchClauseF v p)
   unfolding Walk.visitMutCatchClause WalkF.visitMutCatchClauseF

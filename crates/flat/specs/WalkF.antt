@@ -117,7 +117,7 @@ visitMutTryStmtF v p i = onKidsF (splitF (λ i₁. act (writeTree true) i₁ >> 
 unfoldable pub catchParamF : WalksF → ℕ → One St
 catchParamF v p i = λ st. (do
   j ← v .full p i
-  onRest (λ s. when (not (s .inlining)) (mark (preventInline (nodeAt st i .num))) s)
+  onRest (λ s. when (eqb (nodeAt st i .kind) 20 && not (s .inlining)) (mark (preventInline (nodeAt st i .num))) s)
   ret j) st
 
 unfoldable pub visitMutCatchClauseF : WalksF → ℕ → One St

@@ -617,7 +617,7 @@ module _ (N : ℕ → ℕ → ℕ → Type 0) (to-ident : (f a : ℕ) → N 20 f
 
     catchParam-ok : (p : ℕ) (b : Tree) → OkT b → Pres OkT (Walk.catchParam w p b)
     unfolding Walk.catchParam
-    catchParam-ok p b o = bind (W .full p b o) λ b′ o′. bind get-ok λ s h. after (when-ok (not (s .inlining)) (mark-ok (Scope.preventInline (num b)) (ok-prevent (num b)))) (ret-ok b′ o′)
+    catchParam-ok p b o = bind (W .full p b o) λ b′ o′. bind get-ok λ s h. after (when-ok (Walk.isBind b && not (s .inlining)) (mark-ok (Scope.preventInline (num b)) (ok-prevent (num b)))) (ret-ok b′ o′)
 
     catch-ok : (p : ℕ) (t : Tree) → OkT t → Pres OkT (Walk.visitMutCatchClause w p t)
     unfolding Walk.visitMutCatchClause
