@@ -1,0 +1,318 @@
+-- A computation and the same computation on relabelled things: laws for the parts of walks. Assumes nothing.
+use mathlib.Core.Path.{_≡_, refl, sym, ap, ap₂, _∙_, subst}
+use mathlib.Core.Bool.{Bool, true, false, _&&_, _||_, not}
+use mathlib.Core.Option.{Option, none, some}
+use mathlib.Core.List.{List, [], _∷_, map}
+use Prim.Native.Nat.{ℕ, zero, suc, _+_, _-_}
+use lib.Dec.{T, eqb, ltb, leb}
+use lib.ListN.{length, length-map}
+use Rattle.tree.specs.Base.{pick}
+use Rattle.tree.specs.Combine.{Res, stop, done, Nothing, andThen, _>>=_, _>>_, ret, refuse, iff, within, each, split, eachBut, onKids}
+use Rattle.definition.specs.Tree.{Tree, Forest, node, nil, cons, kind, form, num, kids, headT, tailF, isIdent, isCheap, hasThis, count, height, identList, identListF, voidZero}
+use Rattle.definition.specs.Relabel.{relabel, relabelF}
+use Rattle.definition.specs.Scope as Scope
+use Rattle.definition.specs.Scope.{VarInfo, Stack, Init}
+use Rattle.definition.specs.Walk as Walk
+use Rattle.definition.specs.Walk.{St, M, get, when, modify, mark, grow, inScope}
+use Rattle.laws.proofs.Tests.{is-T, and-left}
+use Rattle.laws.proofs.Blind.{pick-same, elim-same, onO, Bound, bound, ident-num, same-kind, same-form, same-head, same-tail, same-butLast, same-count, same-height, same-this, same-idents, same-identsF, same-void}
+use Rattle.laws.proofs.BlindScope.{onB, onOB, onI, on, find-same, here-same, const-same, change-same, prevent-same, addRead-same, addWrite-same, sensitive-same, barrier-same, addConst-same, identOf-same, prevented-same, preventedO-same, varPrevented-same, sameThis-same, declare-same, close-same, recorded-same, live-same}
+
+module _ (r : ℕ → ℕ) where
+  abbrev pub rel : Tree → Tree
+  rel t = relabel r t
+
+  abbrev pub rels : Forest → Forest
+  rels ts = relabelF r ts
+
+  abbrev pub lab : St → St
+  lab s = Walk.setStack (on r (s .stack)) s
+
+  abbrev pub keep : {A : Type 0} → A → A
+  keep a = a
+
+  abbrev pub mapR : {A : Type 0} → (A → A) → Res St A → Res St A
+  mapR e (stop n) = stop n
+  mapR e (done s a) = done (lab s) (e a)
+
+  -- m′ does on relabelled things what m does; e relabels the answers
+  pub record Eq {A : Type 0} (e : A → A) (m m′ : M A) : Type 0 where
+    pub from : (s : St) → m′ (lab s) ≡ mapR e (m s)
+
+  pub bind : {A B : Type 0} {e : A → A} {g : B → B} {m m′ : M A} {f : A → M B} (f′ : A → M B) → Eq e m m′ → ((a : A) → Eq g (f a) (f′ (e a))) → Eq g (m >>= f) (m′ >>= f′)
+  bind {A} {B} {e} {g} {m} {m′} {f} f′ h k = record { from = λ s. ap (λ (x : Res St A). andThen x f′) (h .from s) ∙ go (m s) }
+    where
+      go : (x : Res St A) → andThen (mapR e x) f′ ≡ mapR g (andThen x f)
+      go (stop n) = refl
+      go (done s a) = k a .from s
+
+  pub after : {A B : Type 0} {e : A → A} {g : B → B} {m m′ : M A} {k k′ : M B} → Eq e m m′ → Eq g k k′ → Eq g (m >> k) (m′ >> k′)
+  after {A} {B} {e} {g} {m} {m′} {k} {k′} h l = record { from = λ s. ap (λ (x : Res St A). andThen x (λ a. k′)) (h .from s) ∙ go (m s) }
+    where
+      go : (x : Res St A) → andThen (mapR e x) (λ a. k′) ≡ mapR g (andThen x (λ a. k))
+      go (stop n) = refl
+      go (done s a) = l .from s
+
+  pub ret-to : {A : Type 0} {e : A → A} (a b : A) → b ≡ e a → Eq e (ret a) (ret b)
+  ret-to a b q = record { from = λ s. ap (done (lab s)) q }
+
+  pub ret-eq : {A : Type 0} {e : A → A} (a : A) → Eq e (ret a) (ret (e a))
+  ret-eq a = record { from = λ s. refl }
+
+  pub get-eq : Eq lab get get
+  get-eq = record { from = λ s. refl }
+
+  pub refuse-eq : {A : Type 0} {e : A → A} (n : ℕ) → Eq e (refuse n) (refuse n)
+  refuse-eq n = record { from = λ s. refl }
+
+  -- choices: by one test, with its outcome at hand, or by two that agree
+  pub iff-by : {A : Type 0} {e : A → A} (c : Bool) {m m′ k k′ : M A} → (T c → Eq e m m′) → Eq e k k′ → Eq e (iff c m k) (iff c m′ k′)
+  iff-by true h l = h tt
+  iff-by false h l = l
+
+  pub iff-eq : {A : Type 0} {e : A → A} (c d : Bool) {m m′ k k′ : M A} → d ≡ c → Eq e m m′ → Eq e k k′ → Eq e (iff c m k) (iff d m′ k′)
+  iff-eq {A} {e} c d {m} {m′} {k} {k′} q h l = subst (λ (b : Bool). Eq e (iff c m k) (iff b m′ k′)) (sym q) (iff-by c (λ t. h) l)
+
+  pub when-by : (c : Bool) {m m′ : M Nothing} → (T c → Eq keep m m′) → Eq keep (when c m) (when c m′)
+  when-by c h = iff-by c h (ret-eq tt)
+
+  pub when-eq : (c d : Bool) {m m′ : M Nothing} → d ≡ c → Eq keep m m′ → Eq keep (when c m) (when d m′)
+  when-eq c d q h = iff-eq c d q h (ret-eq tt)
+
+  pub elim-by : {A : Type 0} {e : A → A} (c : Bool) (m m′ k k′ : M A) → (T c → Eq e m m′) → Eq e k k′ → Eq e (elim c [ true ↦ m | false ↦ k ]) (elim c [ true ↦ m′ | false ↦ k′ ])
+  elim-by true m m′ k k′ h l = h tt
+  elim-by false m m′ k k′ h l = l
+
+  -- changes of the state
+  pub mod-eq : (f : St → St) → ((s : St) → f (lab s) ≡ lab (f s)) → Eq keep (modify f) (modify f)
+  mod-eq f h = record { from = λ s. ap {B = Res St Nothing} (λ (x : St). done x tt) (h s) }
+
+  pub mark-eq : (f g : Stack → Stack) → ((st : Stack) → g (on r st) ≡ on r (f st)) → Eq keep (mark f) (mark g)
+  mark-eq f g h = record { from = λ s. ap {B = Res St Nothing} (λ (x : Stack). done (Walk.setStack x s) tt) (h (s .stack)) }
+
+  records-eq : Eq keep Walk.withinRecords Walk.withinRecords
+  records-eq = record {
+    from = λ s. elim-same (mapR (keep {A = Nothing})) (ltb 512 (Scope.recordedNodes (s .stack)) || ltb 256 (Scope.live (s .stack))) (ltb 512 (Scope.recordedNodes (on r (s .stack))) || ltb 256 (Scope.live (on r (s .stack)))) (stop 9) (done s tt) (stop 9) (done (lab s) tt)
+        (ap₂ (λ m n. ltb 512 m || ltb 256 n) (recorded-same r (s .stack)) (live-same r (s .stack))) refl refl;
+  }
+
+  pub grow-eq : (f g : Stack → Stack) → ((st : Stack) → g (on r st) ≡ on r (f st)) → Eq keep (grow f) (grow g)
+  grow-eq f g h = after (mark-eq f g h) records-eq
+
+  -- scopes
+  pub within-eq : {A : Type 0} {e : A → A} {enter : M Nothing} (leave : St → St → St) {m m′ : M A} → Eq keep enter enter → ((old s : St) → leave (lab old) (lab s) ≡ lab (leave old s)) → Eq e m m′ → Eq e (within enter leave m) (within enter leave m′)
+  within-eq {A} {e} {enter} leave {m} {m′} h l k = record { from = λ s. ap (λ (x : Res St Nothing). andThen x (rest (lab s) m′)) (h .from s) ∙ first s (enter s) }
+    where
+      rest : St → M A → Nothing → M A
+      rest old n u = λ s₁. andThen (n s₁) (λ a s₂. done (leave old s₂) a)
+
+      last : (old : St) (x : Res St A) → andThen (mapR e x) (λ a s. done (leave (lab old) s) a) ≡ mapR e (andThen x (λ a s. done (leave old s) a))
+      last old (stop n) = refl
+      last old (done s a) = ap (λ (y : St). done y (e a)) (l old s)
+
+      first : (old : St) (x : Res St Nothing) → andThen (mapR (keep {A = Nothing}) x) (rest (lab old) m′) ≡ mapR e (andThen x (rest old m))
+      first old (stop n) = refl
+      first old (done s u) = ap (λ (y : Res St A). andThen y (λ a s₂. done (leave (lab old) s₂) a)) (k .from s) ∙ last old (m s)
+
+  opening-eq : (k : Scope.ScopeKind) → Eq keep (Walk.opening k) (Walk.opening k)
+  unfolding Walk.opening
+  opening-eq k = record {
+    from = λ s. elim-same (mapR (keep {A = Nothing})) (leb 32 (length (s .stack))) (leb 32 (length (on r (s .stack)))) (stop 8) (done (Walk.setVarDeclKind Scope.vVar (Walk.setStack (Scope.newScope k ∷ s .stack) s)) tt) (stop 8) (done (Walk.setVarDeclKind Scope.vVar (Walk.setStack (Scope.newScope k ∷ on r (s .stack)) s)) tt)
+        (ap (leb 32) (length-map (s .stack) _)) refl refl;
+  }
+
+  pub inScope-eq : {A : Type 0} {e : A → A} (k : Scope.ScopeKind) {m m′ : M A} → Eq e m m′ → Eq e (inScope k m) (inScope k m′)
+  unfolding inScope
+  inScope-eq k h = within-eq Walk.restore (opening-eq k) (λ old s. ap (λ (x : Stack). record { stack = x; changed = s .changed; inlining = old .inlining; isFirstRun = s .isFirstRun; varDeclKind = old .varDeclKind; patMode = old .patMode; inTest = old .inTest; conds = s .conds; nodes = s .nodes }) (close-same r (s .stack))) h
+
+  deeper-eq : Eq keep Walk.deeper Walk.deeper
+  unfolding Walk.deeper
+  deeper-eq = record { from = λ s. elim-same (mapR (keep {A = Nothing})) (leb 12 (s .conds)) (leb 12 (s .conds)) (stop 8) (done (Walk.setConds (suc (s .conds)) s) tt) (stop 8) (done (Walk.setConds (suc (s .conds)) (lab s)) tt) refl refl refl }
+
+  pub inCond-eq : {A : Type 0} {e : A → A} {m m′ : M A} → Eq e m m′ → Eq e (Walk.inCond m) (Walk.inCond m′)
+  unfolding Walk.inCond
+  inCond-eq h = within-eq Walk.shallower deeper-eq (λ old s. refl) (inScope-eq Scope.cond h)
+
+  -- children
+  pub each-eq : (f : Tree → M Tree) → ((t : Tree) → Eq rel (f t) (f (rel t))) → (ts : Forest) → Eq rels (each f ts) (each f (rels ts))
+  each-eq f h nil = ret-eq nil
+  each-eq f h (cons t ts) = bind _ (h t) λ t′. bind _ (each-eq f h ts) λ ts′. ret-eq (cons t′ ts′)
+
+  pub split-eq : (f : Tree → M Tree) (g g′ : Forest → M Forest) → ((t : Tree) → Eq rel (f t) (f (rel t))) → ((ts : Forest) → Eq rels (g ts) (g′ (rels ts))) → (ts : Forest) → Eq rels (split f g ts) (split f g′ (rels ts))
+  split-eq f g g′ h k nil = ret-eq nil
+  split-eq f g g′ h k (cons t ts) = bind _ (h t) λ t′. bind _ (k ts) λ ts′. ret-eq (cons t′ ts′)
+
+  pub eachBut-eq : (f g : Tree → M Tree) → ((t : Tree) → Eq rel (f t) (f (rel t))) → ((t : Tree) → Eq rel (g t) (g (rel t))) → (ts : Forest) → Eq rels (eachBut f g ts) (eachBut f g (rels ts))
+  eachBut-eq f g h k nil = ret-eq nil
+  eachBut-eq f g h k (cons t nil) = bind _ (k t) λ t′. ret-eq (cons t′ nil)
+  eachBut-eq f g h k (cons t (cons u us)) = bind _ (h t) λ t′. bind _ (eachBut-eq f g h k (cons u us)) λ ts′. ret-eq (cons t′ ts′)
+
+  pub onKids-eq : (g : Forest → M Forest) → ((ts : Forest) → Eq rels (g ts) (g (rels ts))) → (t : Tree) → Eq rel (onKids g t) (onKids g (rel t))
+  onKids-eq g h (node k f a ts) = bind _ (h ts) λ ts′. ret-eq (node k f a ts′)
+
+  -- by the binding that is found, and by the state
+  pub byLook-eq : {A : Type 0} {e : A → A} (look look′ : Stack → Option VarInfo) → ((st : Stack) → look′ (on r st) ≡ onOB r (look st)) → (m m′ : M A) (k k′ : VarInfo → M A) → Eq e m m′ → ((b : VarInfo) → Eq e (k b) (k′ (onB r b)))
+      → Eq e (λ s. elim (look (s .stack)) [ none ↦ m s | some b ↦ k b s ]) (λ s. elim (look′ (s .stack)) [ none ↦ m′ s | some b ↦ k′ b s ])
+  byLook-eq {A} {e} look look′ q m m′ k k′ h l = record { from = λ s. ap {B = Res St A} (λ (o : Option VarInfo). elim o [ none ↦ m′ (lab s) | some b ↦ k′ b (lab s) ]) (q (s .stack)) ∙ go s (look (s .stack)) }
+    where
+      go : (s : St) (o : Option VarInfo) → elim (onOB r o) as (λ x. Res St A) [ none ↦ m′ (lab s) | some b ↦ k′ b (lab s) ] ≡ mapR e (elim o [ none ↦ m s | some b ↦ k b s ])
+      go s none = h .from s
+      go s (some b) = l b .from s
+
+  pub byState-eq : {A : Type 0} {e : A → A} (k k′ : St → M A) → ((s : St) → Eq e (k s) (k′ (lab s))) → Eq e (λ s. k s s) (λ s. k′ s s)
+  byState-eq k k′ h = record { from = λ s. h s .from s }
+
+  -- a tree's place taken by another of the same size
+  step : ℕ → ℕ → ℕ → ℕ → M Nothing
+  step p new old high = λ s.
+      let n = (s .nodes + new) - old in
+      elim (ltb 201 (p + high)) [ true ↦ stop 8 | false ↦ elim (ltb 1024 n) [ true ↦ stop 9 | false ↦ done (Walk.setNodes n s) tt ] ]
+
+  step-eq : (p new old high : ℕ) → Eq keep (step p new old high) (step p new old high)
+  unfolding step
+  step-eq p new old high = record {
+    from = λ s.
+        let n = (s .nodes + new) - old in
+        let x : Res St Nothing = elim (ltb 1024 n) [ true ↦ stop 9 | false ↦ done (Walk.setNodes n s) tt ] in
+        let y : Res St Nothing = elim (ltb 1024 n) [ true ↦ stop 9 | false ↦ done (Walk.setNodes n (lab s)) tt ] in
+        elim-same (mapR (keep {A = Nothing})) (ltb 201 (p + high)) (ltb 201 (p + high)) (stop 8) x (stop 8) y refl refl
+        (elim-same (mapR (keep {A = Nothing})) (ltb 1024 n) (ltb 1024 n) (stop 9) (done (Walk.setNodes n s) tt) (stop 9) (done (Walk.setNodes n (lab s)) tt) refl refl refl);
+  }
+
+  pub replace-eq : (p : ℕ) (old new old′ new′ : Tree) → count old′ ≡ count old → count new′ ≡ count new → height new′ ≡ height new → Eq keep (Walk.replace p old new) (Walk.replace p old′ new′)
+  unfolding step
+  replace-eq p old new old′ new′ a b c = go (count old′) (count new′) (height new′) a b c
+    where
+      go : (x y z : ℕ) → x ≡ count old → y ≡ count new → z ≡ height new → Eq keep (step p (count new) (count old) (height new)) (step p y x z)
+      go x y z a b c = subst (λ (n : ℕ). Eq keep (step p (count new) (count old) (height new)) (step p y n z)) (sym a) (subst (λ (n : ℕ). Eq keep (step p (count new) (count old) (height new)) (step p n (count old) z)) (sym b)
+          (subst (λ (n : ℕ). Eq keep (step p (count new) (count old) (height new)) (step p (count new) (count old) n)) (sym c) (step-eq p (count new) (count old) (height new))))
+
+  pub leave-eq : (t : Tree) → Eq keep (Walk.leave t) (Walk.leave (rel t))
+  leave-eq t = record { from = λ s. ap {B = Res St Nothing} (λ (n : ℕ). done (Walk.setNodes (s .nodes - n) (lab s)) tt) (same-count r t) }
+
+  -- identifiers that are written
+  pub write-eq : (force : Bool) (t u : Tree) → num u ≡ num t → form u ≡ form t → Eq keep (Walk.write force t) (Walk.write force u)
+  unfolding Walk.write
+  write-eq force t u p q = grow-eq (Scope.addWrite (num t) (eqb (form t) 1) force) (Scope.addWrite (num u) (eqb (form u) 1) force) (λ st. ap₂ (λ (i f : ℕ). Scope.addWrite i (eqb f 1) force (on r st)) p q ∙ addWrite-same r (num t) (eqb (form t) 1) force st)
+
+  writes-eq : (force : Bool) (ts : List Tree) → Eq keep (Walk.writes force ts) (Walk.writes force ts)
+  unfolding Walk.writes
+  writes-eq force [] = ret-eq tt
+  writes-eq force (t ∷ ts) = after (write-eq force t t refl refl) (writes-eq force ts)
+
+  pub writeT-eq : (force : Bool) (t : Tree) → Eq keep (Walk.writeTree force t) (Walk.writeTree force (rel t))
+  unfolding Walk.writeTree
+  writeT-eq force t = subst (λ (l : List Tree). Eq keep (Walk.writes force (identList t [])) (Walk.writes force l)) (sym (same-idents r t [])) (writes-eq force (identList t []))
+
+  pub writeF-eq : (force : Bool) (ts us : Forest) → us ≡ rels ts → Eq keep (Walk.writeForest force ts) (Walk.writeForest force us)
+  unfolding Walk.writeForest
+  writeF-eq force ts us e = subst (λ (l : List Tree). Eq keep (Walk.writes force (identListF ts [])) (Walk.writes force l)) (sym (ap (λ (vs : Forest). identListF vs []) e ∙ same-identsF r ts [])) (writes-eq force (identListF ts []))
+
+  -- a name that is declared
+  noValue-same : (v : Init) → Walk.noValue (onI r v) ≡ Walk.noValue v
+  noValue-same Scope.noInit = refl
+  noValue-same (Scope.recorded t) = refl
+  noValue-same (Scope.seen t) = refl
+
+  pub declareM-eq : (name name′ : Tree) → num name′ ≡ num name → (v v′ : Init) → v′ ≡ onI r v → (c : Bool) (k : Scope.VarType) → Eq keep (Walk.declareM name v c k) (Walk.declareM name′ v′ c k)
+  unfolding Walk.declareM
+  declareM-eq name name′ p v v′ q c k = subst (λ (x : Init). Eq keep (Walk.declareM name v c k) (Walk.declareM name′ x c k)) (sym q) (bind (λ s. grow (Scope.declare (num name′) (onI r v) (Scope.isVar (s .varDeclKind) && not c && Walk.noValue (onI r v) && s .inlining) k)) get-eq λ s.
+      let u = Scope.isVar (s .varDeclKind) && not c && Walk.noValue v && s .inlining in
+      let u′ = Scope.isVar (s .varDeclKind) && not c && Walk.noValue (onI r v) && s .inlining in
+      grow-eq (Scope.declare (num name) v u k) (Scope.declare (num name′) (onI r v) u′ k) (λ st. ap₂ (λ (i : ℕ) (b : Bool). Scope.declare i (onI r v) b k (on r st)) p (ap (λ (b : Bool). Scope.isVar (s .varDeclKind) && not c && b && s .inlining) (noValue-same v)) ∙ declare-same r (num name) v u k st))
+
+  -- the declarator
+
+  cheap-same : (e : Tree) → isCheap (rel e) ≡ isCheap e
+  cheap-same (node k f a ts) = refl
+
+  cheapO-is : (e : Tree) → pick (isCheap (rel e)) (some (rel e)) none ≡ onO r (pick (isCheap e) (some e) none)
+  cheapO-is e = pick-same (onO r) (isCheap e) (isCheap (rel e)) (some e) none (some (rel e)) none (cheap-same e) refl refl
+
+  seenInit-is : (e : Tree) → Scope.seenInit (rel e) ≡ onI r (Scope.seenInit e)
+  seenInit-is e = pick-same (onI r) (isCheap e) (isCheap (rel e)) (Scope.recorded e) (Scope.seen e) (Scope.recorded (rel e)) (Scope.seen (rel e)) (cheap-same e) refl refl
+
+  preventM-eq : (i j : ℕ) → j ≡ i → Eq keep (mark (Scope.preventInline i)) (mark (Scope.preventInline j))
+  preventM-eq i j p = mark-eq (Scope.preventInline i) (Scope.preventInline j) (λ st. ap (λ (n : ℕ). Scope.preventInline n (on r st)) p ∙ prevent-same r i st)
+
+  module _ (name : Tree) (B : Bound r name) where
+    declared-eq : (v v′ : Init) → v′ ≡ onI r v → (c : Bool) (k : Scope.VarType) → Eq keep (Walk.declareM name v c k) (Walk.declareM (rel name) v′ c k)
+    declared-eq v v′ q c k = declareM-eq name (rel name) (B .number) v v′ q c k
+
+    analysis-eq : (v : Option Tree) → Eq keep (Walk.declrAnalysis name v) (Walk.declrAnalysis (rel name) (onO r v))
+    unfolding Walk.declrAnalysis
+    analysis-eq none = bind (λ s. when (not (Scope.isConst (s .varDeclKind))) (Walk.declareM (rel name) Scope.noInit true (s .varDeclKind)) >> ret false) get-eq λ s.
+        after (when-by (not (Scope.isConst (s .varDeclKind))) (λ t. declared-eq Scope.noInit Scope.noInit refl true (s .varDeclKind))) (ret-eq false)
+    analysis-eq (some e) = bind (λ s. iff (Scope.isConst (s .varDeclKind)) (when (s .isFirstRun) (grow (Scope.addConst (num (rel name)) (pick (isCheap (rel e)) (some (rel e)) none))) >> ret false) (iff (isCheap (rel e)) (do
+          Walk.declareM (rel name) (Scope.seenInit (rel e)) false (s .varDeclKind)
+          s₁ ← get
+          when (Scope.isInlinePrevented (rel e) (s₁ .stack)) (mark (Scope.preventInline (num (rel name))))
+          ret false) (do
+            Walk.declareM (rel name) (Scope.seenInit (rel e)) false (s .varDeclKind)
+            iff (hasThis (rel e)) (mark (Scope.preventInline (num (rel name))) >> ret true) (ret false)))) get-eq λ s.
+        iff-by (Scope.isConst (s .varDeclKind))
+        (λ t. after (when-by (s .isFirstRun) (λ u. grow-eq (Scope.addConst (num name) (pick (isCheap e) (some e) none)) (Scope.addConst (num (rel name)) (pick (isCheap (rel e)) (some (rel e)) none))
+            (λ st. ap₂ (λ (i : ℕ) (v : Option Tree). Scope.addConst i v (on r st)) (B .number) (cheapO-is e) ∙ addConst-same r (num name) (pick (isCheap e) (some e) none) st))) (ret-eq false))
+        (iff-eq (isCheap e) (isCheap (rel e)) (cheap-same e)
+        (after (declared-eq (Scope.seenInit e) (Scope.seenInit (rel e)) (seenInit-is e) false (s .varDeclKind))
+            (bind (λ s₁. when (Scope.isInlinePrevented (rel e) (s₁ .stack)) (mark (Scope.preventInline (num (rel name)))) >> ret false) get-eq λ s₁. after (when-eq (Scope.isInlinePrevented e (s₁ .stack)) (Scope.isInlinePrevented (rel e) (on r (s₁ .stack))) (prevented-same r e (s₁ .stack)) (preventM-eq (num name) (num (rel name)) (B .number))) (ret-eq false)))
+        (after (declared-eq (Scope.seenInit e) (Scope.seenInit (rel e)) (seenInit-is e) false (s .varDeclKind))
+            (iff-eq (hasThis e) (hasThis (rel e)) (same-this r e) (after (preventM-eq (num name) (num (rel name)) (B .number)) (ret-eq true)) (ret-eq false))))
+
+    over-eq : (ts : Forest) → Eq keep (Walk.overM name ts) (Walk.overM (rel name) (rels ts))
+    unfolding Walk.overM
+    over-eq ts = subst (λ (v : Option Tree). Eq keep (Walk.declrAnalysis name (headT (tailF ts))) (Walk.declrAnalysis (rel name) v)) (sym (ap headT (same-tail r ts) ∙ same-head r (tailF ts))) (analysis-eq (headT (tailF ts)))
+
+    asIdent-prevented : (st : Stack) → Scope.isInlinePrevented (Walk.asIdent (rel name)) (on r st) ≡ Scope.isInlinePrevented (Walk.asIdent name) st
+    asIdent-prevented st = ap (λ (t : Tree). Scope.isInlinePrevented t (on r st)) (B .ident) ∙ prevented-same r (Walk.asIdent name) st
+
+    found-same : (st : Stack) → Scope.findBinding (num (rel name)) (on r st) ≡ onOB r (Scope.findBinding (num name) st)
+    found-same st = ap (λ (i : ℕ). Scope.findBinding i (on r st)) (B .number) ∙ find-same r (num name) st
+
+    stays-same : (ts : Forest) (st : Stack) → Walk.stays (rel name) (rels ts) (on r st) ≡ Walk.stays name ts st
+    unfolding Walk.stays
+    stays-same nil st = asIdent-prevented st
+    stays-same (cons e es) st = ap₂ (λ (c d : Bool). c || not d) (asIdent-prevented st) (ap (λ (o : Option VarInfo). Scope.hasSameThis o (some (rel e))) (found-same st) ∙ sameThis-same r (Scope.findBinding (num name) st) (some e))
+
+    readOnce-same : (st : Stack) → Walk.readOnce? (Scope.findBinding (num (rel name)) (on r st)) ≡ Walk.readOnce? (Scope.findBinding (num name) st)
+    readOnce-same st = ap Walk.readOnce? (found-same st) ∙ go (Scope.findBinding (num name) st)
+      where
+        go : (o : Option VarInfo) → Walk.readOnce? (onOB r o) ≡ Walk.readOnce? o
+        go none = refl
+        go (some b) = refl
+
+    takes-eq : (k : Scope.VarType) (ts : Forest) → Eq keep (Walk.takes k name ts) (Walk.takes k (rel name) (rels ts))
+    unfolding Walk.takes
+    takes-eq k nil = after (declared-eq Scope.noInit Scope.noInit refl false k) (ret-eq false)
+    takes-eq k (cons e es) = after (when-eq (isIdent e) (isIdent (rel e)) (ap (λ (n : ℕ). eqb n 21) (same-kind r e)) (declared-eq (Scope.recorded e) (Scope.recorded (rel e)) refl false k))
+        (bind (λ s. iff (Scope.isInlinePrevented (rel e) (s .stack)) (mark (Scope.preventInline (num (rel name))) >> ret false) (
+            iff (isCheap (rel e) || (not (Scope.isInlinePrevented (Walk.asIdent (rel name)) (s .stack)) && Walk.readOnce? (Scope.findBinding (num (rel name)) (s .stack)))) (do
+              Walk.declareM (rel name) (Scope.recorded (rel e)) false k
+              Walk.leave (rel e)
+              ret true) (ret false))) get-eq λ s.
+        iff-eq (Scope.isInlinePrevented e (s .stack)) (Scope.isInlinePrevented (rel e) (on r (s .stack))) (prevented-same r e (s .stack)) (after (preventM-eq (num name) (num (rel name)) (B .number)) (ret-eq false))
+        (iff-eq (isCheap e || (not (Scope.isInlinePrevented (Walk.asIdent name) (s .stack)) && Walk.readOnce? (Scope.findBinding (num name) (s .stack)))) (isCheap (rel e) || (not (Scope.isInlinePrevented (Walk.asIdent (rel name)) (on r (s .stack))) && Walk.readOnce? (Scope.findBinding (num (rel name)) (on r (s .stack)))))
+            (ap₂ (λ (c d : Bool). c || d) (cheap-same e) (ap₂ (λ (c d : Bool). not c && d) (asIdent-prevented (s .stack)) (readOnce-same (s .stack))))
+            (after (declared-eq (Scope.recorded e) (Scope.recorded (rel e)) refl false k) (after (leave-eq e) (ret-eq true))) (ret-eq false)))
+
+  -- names that are written or declared only where they are bindings
+  declareName-eq : (v : Option Tree) → Eq keep (Walk.declareName v) (Walk.declareName (onO r v))
+  unfolding Walk.declareName
+  declareName-eq none = ret-eq tt
+  declareName-eq (some (node k f a ts)) = (let t = node k f a ts in bind (λ s. when (eqb k 20 && not (s .inlining)) (Walk.declareM (rel t) Scope.noInit true Scope.vVar)) get-eq λ s.
+      when-by (eqb k 20 && not (s .inlining)) λ b. declareM-eq t (rel t) (bound r t (and-left (eqb k 20) (not (s .inlining)) b) .number) Scope.noInit Scope.noInit refl true Scope.vVar)
+
+  writeName-eq : (v : Option Tree) → Eq keep (Walk.writeName v) (Walk.writeName (onO r v))
+  unfolding Walk.writeName
+  writeName-eq none = ret-eq tt
+  writeName-eq (some (node k f a ts)) = (let t = node k f a ts in when-by (eqb k 20) λ b. write-eq true t (rel t) (bound r t b .number) refl)
+
+  keepT-eq : (t : Tree) → Eq rel (ret t) (ret (rel t))
+  keepT-eq t = ret-eq t
+
+  keepF-eq : (ts : Forest) → Eq rels (ret ts) (ret (rels ts))
+  keepF-eq ts = ret-eq ts
+
+  barrierM-eq : Eq keep Walk.storeInlineBarrierM Walk.storeInlineBarrierM
+  unfolding Walk.storeInlineBarrierM
+  barrierM-eq = byState-eq (λ s. iff (s .inlining) (ret tt) (mark Scope.storeInlineBarrier)) (λ s. iff (s .inlining) (ret tt) (mark Scope.storeInlineBarrier)) λ s. iff-by (s .inlining) (λ t. ret-eq tt) (mark-eq Scope.storeInlineBarrier Scope.storeInlineBarrier (barrier-same r))
