@@ -13,7 +13,7 @@ use Rattle.definition.specs.Relabel.{relabel, relabelF}
 use Rattle.definition.specs.Scope as Scope
 use Rattle.definition.specs.Scope.{VarInfo, Stack, Init}
 use Rattle.definition.specs.Walk as Walk
-use Rattle.definition.specs.Walk.{St, M, get, when, modify, mark, grow, inScope}
+use Rattle.definition.specs.Walk.{St, M, Walks, get, when, modify, mark, grow, inScope, visitMutStmts, plain}
 use Rattle.laws.proofs.Tests.{is-T, and-left}
 use Rattle.laws.proofs.Blind.{pick-same, elim-same, onO, Bound, bound, ident-num, same-kind, same-form, same-head, same-tail, same-butLast, same-count, same-height, same-this, same-idents, same-identsF, same-void}
 use Rattle.laws.proofs.BlindScope.{onB, onOB, onI, on, find-same, here-same, const-same, change-same, prevent-same, addRead-same, addWrite-same, sensitive-same, barrier-same, addConst-same, identOf-same, prevented-same, preventedO-same, varPrevented-same, sameThis-same, declare-same, close-same, recorded-same, live-same}
@@ -316,3 +316,182 @@ module _ (r : ℕ → ℕ) where
   barrierM-eq : Eq keep Walk.storeInlineBarrierM Walk.storeInlineBarrierM
   unfolding Walk.storeInlineBarrierM
   barrierM-eq = byState-eq (λ s. iff (s .inlining) (ret tt) (mark Scope.storeInlineBarrier)) (λ s. iff (s .inlining) (ret tt) (mark Scope.storeInlineBarrier)) λ s. iff-by (s .inlining) (λ t. ret-eq tt) (mark-eq Scope.storeInlineBarrier Scope.storeInlineBarrier (barrier-same r))
+
+  -- the handlers, over walks that are blind
+  record EqW (w : Walks) : Type 0 where
+    full : (p : ℕ) (t : Tree) → Eq rel (w .full p t) (w .full p (rel t))
+    bare : (p : ℕ) (t : Tree) → Eq rel (w .bare p t) (w .bare p (rel t))
+    inner : (p : ℕ) (t : Tree) → Eq rel (w .inner p t) (w .inner p (rel t))
+
+  module _ (w : Walks) (W : EqW w) where
+    all-eq : (p : ℕ) (ts : Forest) → Eq rels (each (w .full p) ts) (each (w .full p) (rels ts))
+    all-eq p = each-eq (w .full p) (W .full p)
+
+    stmts-eq : (p : ℕ) (ts : Forest) → Eq rels (visitMutStmts w p ts) (visitMutStmts w p (rels ts))
+    unfolding visitMutStmts
+    stmts-eq p ts = bind (λ s. iff (s .inlining) (do
+        modify (Walk.setInlining false)
+        ts₁ ← each (w .full p) (rels ts)
+        modify (Walk.setInlining true)
+        each (w .full p) ts₁) (each (w .full p) (rels ts))) get-eq λ s. iff-by (s .inlining)
+        (λ t. after (mod-eq (Walk.setInlining false) (λ s. refl)) (bind _ (all-eq p ts) λ ts₁. after (mod-eq (Walk.setInlining true) (λ s. refl)) (all-eq p ts₁)))
+        (all-eq p ts)
+
+    plain-eq : (p : ℕ) (t : Tree) → Eq rel (plain w p t) (plain w p (rel t))
+    plain-eq p t = onKids-eq (each (w .full (suc p))) (all-eq (suc p)) t
+
+    script-eq : (p : ℕ) (t : Tree) → Eq rel (Walk.scriptWalk w p t) (Walk.scriptWalk w p (rel t))
+    unfolding Walk.scriptWalk
+    script-eq p t = onKids-eq (visitMutStmts w (suc p)) (stmts-eq (suc p)) t
+
+    block-eq : (p : ℕ) (t : Tree) → Eq rel (Walk.visitMutBlockStmt w p t) (Walk.visitMutBlockStmt w p (rel t))
+    unfolding Walk.visitMutBlockStmt
+    block-eq p t = inScope-eq Scope.block (onKids-eq (visitMutStmts w (suc p)) (stmts-eq (suc p)) t)
+
+    branch-eq : (p : ℕ) (k : Scope.ScopeKind) (t : Tree) → Eq rel (Walk.visitWithChild w p k t) (Walk.visitWithChild w p k (rel t))
+    unfolding Walk.visitWithChild
+    branch-eq p k t = inScope-eq k (W .bare p t)
+
+    decl-eq : (p : ℕ) (t : Tree) → Eq rel (Walk.visitMutVarDecl w p t) (Walk.visitMutVarDecl w p (rel t))
+    unfolding Walk.visitMutVarDecl
+    decl-eq p (node k f a ts) = after (mod-eq (Walk.setVarDeclKind (Walk.declKindOf f)) (λ s. refl)) (plain-eq p (node k f a ts))
+
+    nameLast-eq : (p : ℕ) (ts : Forest) → Eq rels (Walk.nameLast w p ts) (Walk.nameLast w p (rels ts))
+    nameLast-eq p ts = split-eq (w .full (suc p)) ret ret (W .full (suc p)) keepF-eq ts
+
+    restFirst-eq : (p : ℕ) (ts : Forest) → Eq rels (split ret (each (w .full (suc p))) ts) (split ret (each (w .full (suc p))) (rels ts))
+    restFirst-eq p ts = split-eq ret (each (w .full (suc p))) (each (w .full (suc p))) keepT-eq (all-eq (suc p)) ts
+
+    gone-eq : (gone : Bool) (us : Forest) → Eq rels (iff gone (ret (tailF us)) (ret us)) (iff gone (ret (tailF (rels us))) (ret (rels us)))
+    gone-eq gone us = iff-by gone (λ t. ret-to (tailF us) (tailF (rels us)) (same-tail r us)) (ret-eq us)
+
+    inlining-eq : (p : ℕ) (k : Scope.VarType) (name : Tree) → Bound r name → (ts : Forest) → Eq rels (Walk.declrInlining w p k name ts) (Walk.declrInlining w p k (rel name) (rels ts))
+    unfolding Walk.declrInlining
+    inlining-eq p k name B ts = byState-eq (λ s. iff (Walk.stays name ts (s .stack)) (ret ts) (do
+        us ← split (w .full (suc p)) ret ts
+        gone ← Walk.takes k name us
+        iff gone (ret (tailF us)) (ret us))) (λ s. iff (Walk.stays (rel name) (rels ts) (s .stack)) (ret (rels ts)) (do
+          us ← split (w .full (suc p)) ret (rels ts)
+          gone ← Walk.takes k (rel name) us
+          iff gone (ret (tailF us)) (ret us))) λ s.
+        iff-eq (Walk.stays name ts (s .stack)) (Walk.stays (rel name) (rels ts) (on r (s .stack))) (stays-same name B ts (s .stack)) (ret-eq ts)
+        (bind (λ us. Walk.takes k (rel name) us >>= λ gone. iff gone (ret (tailF us)) (ret us)) (nameLast-eq p ts) λ us. bind (λ gone. iff gone (ret (tailF (rels us))) (ret (rels us))) (takes-eq name B k us) λ gone. gone-eq gone us)
+
+    declrSome-eq : (p : ℕ) (name : Tree) → Bound r name → (inl : Bool) (k : Scope.VarType) (ts : Forest) → Eq rels (Walk.declrTo w p (some name) inl k ts) (Walk.declrTo w p (some (rel name)) inl k (rels ts))
+    unfolding Walk.declrTo
+    declrSome-eq p name B inl k ts = iff-by inl
+        (λ t. iff-by (Scope.isConst k) (λ u. nameLast-eq p ts) (split-eq ret (Walk.declrInlining w p k name) (Walk.declrInlining w p k (rel name)) keepT-eq (inlining-eq p k name B) ts))
+        (bind (λ over. iff over (ret (rels ts)) (nameLast-w (rels ts))) (over-eq name B ts) λ over. iff-by over (λ t. ret-eq ts) (nameLast-eq p ts))
+      where
+        nameLast-w : Forest → M Forest
+        nameLast-w us = Walk.nameLast w p us
+
+    declrTo-eq : (p : ℕ) (inl : Bool) (k : Scope.VarType) (ts : Forest) → Eq rels (Walk.declrTo w p (Walk.headBind ts) inl k ts) (Walk.declrTo w p (Walk.headBind (rels ts)) inl k (rels ts))
+    unfolding Walk.declrTo
+    declrTo-eq p inl k nil = nameLast-eq p nil
+    declrTo-eq p inl k (cons (node l f a us) ts) = go (eqb l 20) refl
+      where
+        t : Tree
+        t = node l f a us
+
+        go : (b : Bool) → eqb l 20 ≡ b → Eq rels (Walk.declrTo w p (pick b (some t) none) inl k (cons t ts)) (Walk.declrTo w p (pick b (some (rel t)) none) inl k (rels (cons t ts)))
+        go true e = declrSome-eq p t (bound r t (is-T (eqb l 20) e)) inl k (cons t ts)
+        go false e = nameLast-eq p (cons t ts)
+
+    declr-eq : (p : ℕ) (t : Tree) → Eq rel (Walk.visitMutVarDeclarator w p t) (Walk.visitMutVarDeclarator w p (rel t))
+    unfolding Walk.visitMutVarDeclarator
+    declr-eq p t = onKids-eq _ (λ ts. bind (λ us. modify (Walk.setPatMode Walk.declaring) >> (λ s. Walk.declrTo w p (Walk.headBind us) (s .inlining) (s .varDeclKind) us s)) (restFirst-eq p ts) λ us. after (mod-eq (Walk.setPatMode Walk.declaring) (λ s. refl))
+        (byState-eq (λ s. Walk.declrTo w p (Walk.headBind us) (s .inlining) (s .varDeclKind) us) (λ s. Walk.declrTo w p (Walk.headBind (rels us)) (s .inlining) (s .varDeclKind) (rels us)) λ s. declrTo-eq p (s .inlining) (s .varDeclKind) us)) t
+
+    function-eq : (p : ℕ) (named : Bool) (ts : Forest) → Eq rels (Walk.visitMutFunction w p named ts) (Walk.visitMutFunction w p named (rels ts))
+    unfolding Walk.visitMutFunction
+    function-eq p named ts = inScope-eq (Scope.fn named) (after (mod-eq (Walk.setPatMode Walk.asParam) (λ s. refl)) (eachBut-eq (w .full (suc p)) (w .inner (suc p)) (W .full (suc p)) (W .inner (suc p)) ts))
+
+    named-eq : (p : ℕ) (named : Bool) (t : Tree) → Eq rel (onKids (split ret (Walk.visitMutFunction w p named)) t) (onKids (split ret (Walk.visitMutFunction w p named)) (rel t))
+    named-eq p named t = onKids-eq (split ret (Walk.visitMutFunction w p named)) (split-eq ret (Walk.visitMutFunction w p named) (Walk.visitMutFunction w p named) keepT-eq (function-eq p named)) t
+
+    headed : (f : Option Tree → M Nothing) → ((v : Option Tree) → Eq keep (f v) (f (onO r v))) → (ts : Forest) → Eq keep (f (headT ts)) (f (headT (rels ts)))
+    headed f h ts = subst (λ (v : Option Tree). Eq keep (f (headT ts)) (f v)) (sym (same-head r ts)) (h (headT ts))
+
+    fun-eq : (p : ℕ) (t : Tree) → Eq rel (Walk.visitMutFnDecl w p t) (Walk.visitMutFnDecl w p (rel t))
+    unfolding Walk.visitMutFnDecl
+    fun-eq p (node k f a ts) = after (headed Walk.declareName declareName-eq ts) (named-eq p true (node k f a ts))
+
+    funExpr-eq : (p : ℕ) (t : Tree) → Eq rel (Walk.visitMutFnExpr w p t) (Walk.visitMutFnExpr w p (rel t))
+    unfolding Walk.visitMutFnExpr
+    funExpr-eq p (node k f a ts) = iff-by (eqb f 1) (λ t. after (headed Walk.writeName writeName-eq ts) (named-eq p false (node k f a ts))) (onKids-eq (Walk.visitMutFunction w p false) (function-eq p false) (node k f a ts))
+
+    arrow-eq : (p : ℕ) (t : Tree) → Eq rel (Walk.visitMutArrowExpr w p t) (Walk.visitMutArrowExpr w p (rel t))
+    unfolding Walk.visitMutArrowExpr
+    arrow-eq p t = inScope-eq (Scope.fn false) (plain-eq p t)
+
+    tested-eq : (p : ℕ) (t : Tree) → Eq rel (Walk.tested w p t) (Walk.tested w p (rel t))
+    unfolding Walk.tested
+    tested-eq p t = bind (λ s. modify (Walk.setInTest true) >> w .full p (rel t) >>= λ t′. modify (Walk.setInTest (s .inTest)) >> ret t′) get-eq λ s.
+        after (mod-eq (Walk.setInTest true) (λ s. refl)) (bind _ (W .full p t) λ t′. after (mod-eq (Walk.setInTest (s .inTest)) (λ s. refl)) (ret-eq t′))
+
+    if-eq : (p : ℕ) (t : Tree) → Eq rel (Walk.visitMutIfStmt w p t) (Walk.visitMutIfStmt w p (rel t))
+    unfolding Walk.visitMutIfStmt
+    if-eq p t = onKids-eq _ (split-eq (Walk.tested w (suc p)) (each (Walk.visitWithChild w (suc p) Scope.cond)) (each (Walk.visitWithChild w (suc p) Scope.cond)) (tested-eq (suc p)) (each-eq (Walk.visitWithChild w (suc p) Scope.cond) (branch-eq (suc p) Scope.cond))) t
+
+    loop-eq : (p : ℕ) (ts : Forest) → Eq rels (eachBut (w .full (suc p)) (Walk.visitWithChild w (suc p) Scope.loop) ts) (eachBut (w .full (suc p)) (Walk.visitWithChild w (suc p) Scope.loop) (rels ts))
+    loop-eq p ts = eachBut-eq (w .full (suc p)) (Walk.visitWithChild w (suc p) Scope.loop) (W .full (suc p)) (branch-eq (suc p) Scope.loop) ts
+
+    heads-eq : (ts : Forest) → Eq keep (Walk.writeForest true (Walk.butLast ts)) (Walk.writeForest true (Walk.butLast (rels ts)))
+    heads-eq ts = writeF-eq true (Walk.butLast ts) (Walk.butLast (rels ts)) (same-butLast r ts)
+
+    while-eq : (p : ℕ) (t : Tree) → Eq rel (Walk.visitMutWhileStmt w p t) (Walk.visitMutWhileStmt w p (rel t))
+    unfolding Walk.visitMutWhileStmt
+    while-eq p (node k f a ts) = after (heads-eq ts) (onKids-eq _ (loop-eq p) (node k f a ts))
+
+    for-eq : (p : ℕ) (t : Tree) → Eq rel (Walk.visitMutForStmt w p t) (Walk.visitMutForStmt w p (rel t))
+    unfolding Walk.visitMutForStmt
+    for-eq p (node k f a ts) = after (heads-eq ts) (bind _ (onKids-eq _ (loop-eq p) (node k f a ts)) λ t′. after (when-by (eqb f 0) (λ b. barrierM-eq)) (ret-eq t′))
+
+    forIn-eq : (p : ℕ) (t : Tree) → Eq rel (Walk.visitMutForInStmt w p t) (Walk.visitMutForInStmt w p (rel t))
+    unfolding Walk.visitMutForInStmt
+    forIn-eq p t = after (mod-eq (Walk.setPatMode Walk.asParam) (λ s. refl)) (onKids-eq _ (split-eq _ _ _
+        (λ l. bind _ (W .full (suc p) l) λ l′. after (writeT-eq true l′) (ret-eq l′))
+        (λ ts. after (heads-eq ts) (loop-eq p ts))) t)
+
+    try-eq : (p : ℕ) (t : Tree) → Eq rel (Walk.visitMutTryStmt w p t) (Walk.visitMutTryStmt w p (rel t))
+    unfolding Walk.visitMutTryStmt
+    try-eq p t = onKids-eq _ (split-eq _ _ _ (λ b. after (writeT-eq true b) (ret-eq b)) (each-eq _ (λ h. iff-eq (Walk.isCatch h) (Walk.isCatch (rel h)) (ap (λ (n : ℕ). eqb n 17) (same-kind r h)) (W .full (suc p) h) (ret-eq h)))) t
+
+    catchParam-eq : (p : ℕ) (b : Tree) → Eq rel (Walk.catchParam w p b) (Walk.catchParam w p (rel b))
+    unfolding Walk.catchParam
+    catchParam-eq p (node k f a ts) = (let b = node k f a ts in bind _ (W .full p b) λ b′. bind (λ s. when (eqb k 20 && not (s .inlining)) (mark (Scope.preventInline (num (rel b)))) >> ret (rel b′)) get-eq λ s.
+        after (when-by (eqb k 20 && not (s .inlining)) (λ t. preventM-eq a (num (rel b)) (bound r b (and-left (eqb k 20) (not (s .inlining)) t) .number))) (ret-eq b′))
+
+    catch-eq : (p : ℕ) (t : Tree) → Eq rel (Walk.visitMutCatchClause w p t) (Walk.visitMutCatchClause w p (rel t))
+    unfolding Walk.visitMutCatchClause
+    catch-eq p t = inScope-eq Scope.block (after (mod-eq (Walk.setPatMode Walk.asCatch) (λ s. refl)) (onKids-eq _ (eachBut-eq (Walk.catchParam w (suc p)) (w .full (suc p)) (catchParam-eq (suc p)) (W .full (suc p))) t))
+
+    case-eq : (p : ℕ) (t : Tree) → Eq rel (Walk.visitMutSwitchCase w p t) (Walk.visitMutSwitchCase w p (rel t))
+    unfolding Walk.visitMutSwitchCase
+    case-eq p (node k f a ts) = inScope-eq Scope.block (iff-by (eqb f 1) (λ t. onKids-eq _ (split-eq (w .full (suc p)) (visitMutStmts w (suc p)) (visitMutStmts w (suc p)) (W .full (suc p)) (stmts-eq (suc p))) (node k f a ts)) (onKids-eq _ (stmts-eq (suc p)) (node k f a ts)))
+
+    unary-eq : (p : ℕ) (t : Tree) → Eq rel (Walk.visitMutUnaryExpr w p t) (Walk.visitMutUnaryExpr w p (rel t))
+    unfolding Walk.visitMutUnaryExpr
+    unary-eq p (node k f a ts) = iff-by (eqb f 6) (λ t. after (writeF-eq true ts (rels ts) refl) (ret-eq (node k f a ts))) (plain-eq p (node k f a ts))
+
+    update-eq : (p : ℕ) (t : Tree) → Eq rel (Walk.visitMutUpdateExpr w p t) (Walk.visitMutUpdateExpr w p (rel t))
+    unfolding Walk.visitMutUpdateExpr
+    update-eq p (node k f a ts) = after (writeF-eq true ts (rels ts) refl) (ret-eq (node k f a ts))
+
+    callee-eq : (p : ℕ) (f : Tree) → Eq rel (do
+      f′ ← w .full p f
+      s ← get
+      when (not (s .inlining)) (mark (Scope.markThisSensitive (Scope.identOf (some f′))))
+      ret f′) (do
+        f′ ← w .full p (rel f)
+        s ← get
+        when (not (s .inlining)) (mark (Scope.markThisSensitive (Scope.identOf (some f′))))
+        ret f′)
+    callee-eq p f = bind (λ f′. get >>= λ s. when (not (s .inlining)) (mark (Scope.markThisSensitive (Scope.identOf (some f′)))) >> ret f′) (W .full p f) λ f′.
+        bind (λ s. when (not (s .inlining)) (mark (Scope.markThisSensitive (Scope.identOf (some (rel f′))))) >> ret (rel f′)) get-eq λ s.
+        after (when-by (not (s .inlining)) (λ t. mark-eq (Scope.markThisSensitive (Scope.identOf (some f′))) (Scope.markThisSensitive (Scope.identOf (some (rel f′)))) (λ st. ap (λ (i : Option ℕ). Scope.markThisSensitive i (on r st)) (identOf-same r (some f′)) ∙ sensitive-same r (Scope.identOf (some f′)) st))) (ret-eq f′)
+
+    call-eq : (c : Bool) (p : ℕ) (t : Tree) → Eq rel (Walk.visitMutCallExpr c w p t) (Walk.visitMutCallExpr c w p (rel t))
+    unfolding Walk.visitMutCallExpr
+    call-eq c p t = bind _ (onKids-eq _ (split-eq _ _ _ (callee-eq (suc p)) (λ ts. after (when-by c (λ b. writeF-eq false ts (rels ts) refl)) (all-eq (suc p) ts))) t) λ t′. after barrierM-eq (ret-eq t′)
