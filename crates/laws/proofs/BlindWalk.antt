@@ -5,11 +5,11 @@ use mathlib.Core.Option.{Option, none, some}
 use mathlib.Core.List.{List, [], _∷_, map}
 use Prim.Native.Nat.{ℕ, zero, suc, _+_, _-_}
 use lib.Dec.{T, eqb, ltb, leb}
-use lib.ListN.{length, length-map}
+use lib.ListN.{length, getD, length-map}
 use Rattle.tree.specs.Base.{pick}
 use Rattle.tree.specs.Combine.{Res, stop, done, Nothing, andThen, _>>=_, _>>_, ret, refuse, iff, within, each, split, eachBut, onKids}
 use Rattle.definition.specs.Tree.{Tree, Forest, node, nil, cons, kind, form, num, kids, headT, tailF, isIdent, isCheap, hasThis, count, height, identList, identListF, voidZero}
-use Rattle.definition.specs.Relabel.{relabel, relabelF}
+use Rattle.definition.specs.Relabel.{relabel, relabelF, relabelOut, OriginBlind}
 use Rattle.definition.specs.Scope as Scope
 use Rattle.definition.specs.Scope.{VarInfo, Stack, Init}
 use Rattle.definition.specs.Walk as Walk
@@ -244,20 +244,20 @@ module _ (r : ℕ → ℕ) where
     analysis-eq none = bind (λ s. when (not (Scope.isConst (s .varDeclKind))) (Walk.declareM (rel name) Scope.noInit true (s .varDeclKind)) >> ret false) get-eq λ s.
         after (when-by (not (Scope.isConst (s .varDeclKind))) (λ t. declared-eq Scope.noInit Scope.noInit refl true (s .varDeclKind))) (ret-eq false)
     analysis-eq (some e) = bind (λ s. iff (Scope.isConst (s .varDeclKind)) (when (s .isFirstRun) (grow (Scope.addConst (num (rel name)) (pick (isCheap (rel e)) (some (rel e)) none))) >> ret false) (iff (isCheap (rel e)) (do
-          Walk.declareM (rel name) (Scope.seenInit (rel e)) false (s .varDeclKind)
-          s₁ ← get
-          when (Scope.isInlinePrevented (rel e) (s₁ .stack)) (mark (Scope.preventInline (num (rel name))))
-          ret false) (do
-            Walk.declareM (rel name) (Scope.seenInit (rel e)) false (s .varDeclKind)
-            iff (hasThis (rel e)) (mark (Scope.preventInline (num (rel name))) >> ret true) (ret false)))) get-eq λ s.
+      Walk.declareM (rel name) (Scope.seenInit (rel e)) false (s .varDeclKind)
+      s₁ ← get
+      when (Scope.isInlinePrevented (rel e) (s₁ .stack)) (mark (Scope.preventInline (num (rel name))))
+      ret false) (do
+        Walk.declareM (rel name) (Scope.seenInit (rel e)) false (s .varDeclKind)
+        iff (hasThis (rel e)) (mark (Scope.preventInline (num (rel name))) >> ret true) (ret false)))) get-eq λ s.
         iff-by (Scope.isConst (s .varDeclKind))
         (λ t. after (when-by (s .isFirstRun) (λ u. grow-eq (Scope.addConst (num name) (pick (isCheap e) (some e) none)) (Scope.addConst (num (rel name)) (pick (isCheap (rel e)) (some (rel e)) none))
-            (λ st. ap₂ (λ (i : ℕ) (v : Option Tree). Scope.addConst i v (on r st)) (B .number) (cheapO-is e) ∙ addConst-same r (num name) (pick (isCheap e) (some e) none) st))) (ret-eq false))
+        (λ st. ap₂ (λ (i : ℕ) (v : Option Tree). Scope.addConst i v (on r st)) (B .number) (cheapO-is e) ∙ addConst-same r (num name) (pick (isCheap e) (some e) none) st))) (ret-eq false))
         (iff-eq (isCheap e) (isCheap (rel e)) (cheap-same e)
         (after (declared-eq (Scope.seenInit e) (Scope.seenInit (rel e)) (seenInit-is e) false (s .varDeclKind))
-            (bind (λ s₁. when (Scope.isInlinePrevented (rel e) (s₁ .stack)) (mark (Scope.preventInline (num (rel name)))) >> ret false) get-eq λ s₁. after (when-eq (Scope.isInlinePrevented e (s₁ .stack)) (Scope.isInlinePrevented (rel e) (on r (s₁ .stack))) (prevented-same r e (s₁ .stack)) (preventM-eq (num name) (num (rel name)) (B .number))) (ret-eq false)))
+        (bind (λ s₁. when (Scope.isInlinePrevented (rel e) (s₁ .stack)) (mark (Scope.preventInline (num (rel name)))) >> ret false) get-eq λ s₁. after (when-eq (Scope.isInlinePrevented e (s₁ .stack)) (Scope.isInlinePrevented (rel e) (on r (s₁ .stack))) (prevented-same r e (s₁ .stack)) (preventM-eq (num name) (num (rel name)) (B .number))) (ret-eq false)))
         (after (declared-eq (Scope.seenInit e) (Scope.seenInit (rel e)) (seenInit-is e) false (s .varDeclKind))
-            (iff-eq (hasThis e) (hasThis (rel e)) (same-this r e) (after (preventM-eq (num name) (num (rel name)) (B .number)) (ret-eq true)) (ret-eq false))))
+        (iff-eq (hasThis e) (hasThis (rel e)) (same-this r e) (after (preventM-eq (num name) (num (rel name)) (B .number)) (ret-eq true)) (ret-eq false))))
 
     over-eq : (ts : Forest) → Eq keep (Walk.overM name ts) (Walk.overM (rel name) (rels ts))
     unfolding Walk.overM
@@ -286,14 +286,14 @@ module _ (r : ℕ → ℕ) where
     takes-eq k nil = after (declared-eq Scope.noInit Scope.noInit refl false k) (ret-eq false)
     takes-eq k (cons e es) = after (when-eq (isIdent e) (isIdent (rel e)) (ap (λ (n : ℕ). eqb n 21) (same-kind r e)) (declared-eq (Scope.recorded e) (Scope.recorded (rel e)) refl false k))
         (bind (λ s. iff (Scope.isInlinePrevented (rel e) (s .stack)) (mark (Scope.preventInline (num (rel name))) >> ret false) (
-            iff (isCheap (rel e) || (not (Scope.isInlinePrevented (Walk.asIdent (rel name)) (s .stack)) && Walk.readOnce? (Scope.findBinding (num (rel name)) (s .stack)))) (do
-              Walk.declareM (rel name) (Scope.recorded (rel e)) false k
-              Walk.leave (rel e)
-              ret true) (ret false))) get-eq λ s.
+        iff (isCheap (rel e) || (not (Scope.isInlinePrevented (Walk.asIdent (rel name)) (s .stack)) && Walk.readOnce? (Scope.findBinding (num (rel name)) (s .stack)))) (do
+          Walk.declareM (rel name) (Scope.recorded (rel e)) false k
+          Walk.leave (rel e)
+          ret true) (ret false))) get-eq λ s.
         iff-eq (Scope.isInlinePrevented e (s .stack)) (Scope.isInlinePrevented (rel e) (on r (s .stack))) (prevented-same r e (s .stack)) (after (preventM-eq (num name) (num (rel name)) (B .number)) (ret-eq false))
         (iff-eq (isCheap e || (not (Scope.isInlinePrevented (Walk.asIdent name) (s .stack)) && Walk.readOnce? (Scope.findBinding (num name) (s .stack)))) (isCheap (rel e) || (not (Scope.isInlinePrevented (Walk.asIdent (rel name)) (on r (s .stack))) && Walk.readOnce? (Scope.findBinding (num (rel name)) (on r (s .stack)))))
-            (ap₂ (λ (c d : Bool). c || d) (cheap-same e) (ap₂ (λ (c d : Bool). not c && d) (asIdent-prevented (s .stack)) (readOnce-same (s .stack))))
-            (after (declared-eq (Scope.recorded e) (Scope.recorded (rel e)) refl false k) (after (leave-eq e) (ret-eq true))) (ret-eq false)))
+        (ap₂ (λ (c d : Bool). c || d) (cheap-same e) (ap₂ (λ (c d : Bool). not c && d) (asIdent-prevented (s .stack)) (readOnce-same (s .stack))))
+        (after (declared-eq (Scope.recorded e) (Scope.recorded (rel e)) refl false k) (after (leave-eq e) (ret-eq true))) (ret-eq false)))
 
   -- names that are written or declared only where they are bindings
   declareName-eq : (v : Option Tree) → Eq keep (Walk.declareName v) (Walk.declareName (onO r v))
@@ -330,10 +330,10 @@ module _ (r : ℕ → ℕ) where
     stmts-eq : (p : ℕ) (ts : Forest) → Eq rels (visitMutStmts w p ts) (visitMutStmts w p (rels ts))
     unfolding visitMutStmts
     stmts-eq p ts = bind (λ s. iff (s .inlining) (do
-        modify (Walk.setInlining false)
-        ts₁ ← each (w .full p) (rels ts)
-        modify (Walk.setInlining true)
-        each (w .full p) ts₁) (each (w .full p) (rels ts))) get-eq λ s. iff-by (s .inlining)
+      modify (Walk.setInlining false)
+      ts₁ ← each (w .full p) (rels ts)
+      modify (Walk.setInlining true)
+      each (w .full p) ts₁) (each (w .full p) (rels ts))) get-eq λ s. iff-by (s .inlining)
         (λ t. after (mod-eq (Walk.setInlining false) (λ s. refl)) (bind _ (all-eq p ts) λ ts₁. after (mod-eq (Walk.setInlining true) (λ s. refl)) (all-eq p ts₁)))
         (all-eq p ts)
 
@@ -368,12 +368,12 @@ module _ (r : ℕ → ℕ) where
     inlining-eq : (p : ℕ) (k : Scope.VarType) (name : Tree) → Bound r name → (ts : Forest) → Eq rels (Walk.declrInlining w p k name ts) (Walk.declrInlining w p k (rel name) (rels ts))
     unfolding Walk.declrInlining
     inlining-eq p k name B ts = byState-eq (λ s. iff (Walk.stays name ts (s .stack)) (ret ts) (do
-        us ← split (w .full (suc p)) ret ts
-        gone ← Walk.takes k name us
-        iff gone (ret (tailF us)) (ret us))) (λ s. iff (Walk.stays (rel name) (rels ts) (s .stack)) (ret (rels ts)) (do
-          us ← split (w .full (suc p)) ret (rels ts)
-          gone ← Walk.takes k (rel name) us
-          iff gone (ret (tailF us)) (ret us))) λ s.
+      us ← split (w .full (suc p)) ret ts
+      gone ← Walk.takes k name us
+      iff gone (ret (tailF us)) (ret us))) (λ s. iff (Walk.stays (rel name) (rels ts) (s .stack)) (ret (rels ts)) (do
+        us ← split (w .full (suc p)) ret (rels ts)
+        gone ← Walk.takes k (rel name) us
+        iff gone (ret (tailF us)) (ret us))) λ s.
         iff-eq (Walk.stays name ts (s .stack)) (Walk.stays (rel name) (rels ts) (on r (s .stack))) (stays-same name B ts (s .stack)) (ret-eq ts)
         (bind (λ us. Walk.takes k (rel name) us >>= λ gone. iff gone (ret (tailF us)) (ret us)) (nameLast-eq p ts) λ us. bind (λ gone. iff gone (ret (tailF (rels us))) (ret (rels us))) (takes-eq name B k us) λ gone. gone-eq gone us)
 
@@ -495,3 +495,224 @@ module _ (r : ℕ → ℕ) where
     call-eq : (c : Bool) (p : ℕ) (t : Tree) → Eq rel (Walk.visitMutCallExpr c w p t) (Walk.visitMutCallExpr c w p (rel t))
     unfolding Walk.visitMutCallExpr
     call-eq c p t = bind _ (onKids-eq _ (split-eq _ _ _ (callee-eq (suc p)) (λ ts. after (when-by c (λ b. writeF-eq false ts (rels ts) refl)) (all-eq (suc p) ts))) t) λ t′. after barrierM-eq (ret-eq t′)
+
+    pat-eq : (p : ℕ) (t : Tree) → Eq rel (Walk.visitMutPat w p t) (Walk.visitMutPat w p (rel t))
+    unfolding Walk.visitMutPat Walk.patBy
+    pat-eq p (node k f a ts) = bind (λ s. when (eqb k 20) (Walk.patBy (s .patMode) (rel t)) >> ret (rel t)) get-eq λ s. after (when-by (eqb k 20) λ b. by (s .patMode) (bound r t b)) (ret-eq t)
+      where
+        t : Tree
+        t = node k f a ts
+
+        by : (m : Walk.PatMode) → Bound r t → Eq keep (Walk.patBy m t) (Walk.patBy m (rel t))
+        by Walk.asParam B = declareM-eq t (rel t) (B .number) (Scope.recorded (Walk.asIdent t)) (Scope.recorded (Walk.asIdent (rel t))) (ap Scope.recorded (B .ident)) false Scope.param
+        by Walk.asCatch B = declareM-eq t (rel t) (B .number) (Scope.recorded (Walk.asIdent t)) (Scope.recorded (Walk.asIdent (rel t))) (ap Scope.recorded (B .ident)) false Scope.vVar
+        by Walk.declaring B = ret-eq tt
+        by Walk.assigning B = byLook-eq (Scope.findBindingFromCurrent (num t)) (Scope.findBindingFromCurrent (num (rel t))) (λ st. ap (λ (i : ℕ). Scope.findBindingFromCurrent i (on r st)) (B .number) ∙ here-same r (num t) st)
+            (Walk.write false t) (Walk.write false (rel t)) (λ c. ret tt) (λ c. ret tt) (write-eq false t (rel t) (B .number) refl) (λ c. ret-eq tt)
+
+    -- the value of an assignment, stored
+    store-eq : (l : Tree) → Bound r l → (v : Option Tree) → Eq keep (Walk.storeO l v) (Walk.storeO (rel l) (onO r v))
+    store-eq l B none = ret-eq tt
+    store-eq l B (some e) = byLook-eq (Scope.findBinding (num l)) (Scope.findBinding (num (rel l))) (found-same l B) (ret tt) (ret tt)
+        (λ b. iff (Scope.varInlinePrevented b) (ret tt) (grow (Scope.change (num l) (Scope.withValue (pick (isCheap e) (some e) none)))))
+        (λ b. iff (Scope.varInlinePrevented b) (ret tt) (grow (Scope.change (num (rel l)) (Scope.withValue (pick (isCheap (rel e)) (some (rel e)) none)))))
+        (ret-eq tt) (λ b. iff-eq (Scope.varInlinePrevented b) (Scope.varInlinePrevented (onB r b)) (varPrevented-same r b) (ret-eq tt)
+        (grow-eq (Scope.change (num l) (Scope.withValue (pick (isCheap e) (some e) none))) (Scope.change (num (rel l)) (Scope.withValue (pick (isCheap (rel e)) (some (rel e)) none))) (λ st.
+        ap (λ (i : ℕ). Scope.change i (Scope.withValue (pick (isCheap (rel e)) (some (rel e)) none)) (on r st)) (B .number)
+        ∙ change-same r (num l) (Scope.withValue (pick (isCheap e) (some e) none)) (Scope.withValue (pick (isCheap (rel e)) (some (rel e)) none)) (λ c. ap (λ (v : Option Tree). Scope.withValue v c) (cheapO-is e)) st)))
+
+    assignFirst-eq : (f : ℕ) (ts : Forest) → Eq keep (Walk.assignFirst f ts) (Walk.assignFirst f (rels ts))
+    unfolding Walk.assignFirst
+    assignFirst-eq f nil = ret-eq tt
+    assignFirst-eq f (cons l rs) = iff-by (eqb f 0)
+        (λ t. after (writeT-eq false l) (after (writeF-eq false rs (rels rs) refl) (when-eq (not (eqb (kind l) 20)) (not (eqb (kind (rel l)) 20)) (ap (λ (n : ℕ). not (eqb n 20)) (same-kind r l)) (after (writeT-eq true l) (writeF-eq true rs (rels rs) refl)))))
+        (after (writeT-eq true l) (writeF-eq true rs (rels rs) refl))
+
+    assignLast-eq : (ts : Forest) → Eq keep (Walk.assignLast ts) (Walk.assignLast (rels ts))
+    unfolding Walk.assignLast
+    assignLast-eq nil = ret-eq tt
+    assignLast-eq (cons (node k f a us) rs) = (let l = node k f a us in bind (λ s. iff (Scope.preventedO (headT (rels rs)) (s .stack)) (when (eqb k 20) (mark (Scope.preventInline (num (rel l))))) (when (eqb k 20) (do
+      Walk.write false (rel l)
+      Walk.storeO (rel l) (headT (rels rs))))) get-eq λ s.
+        iff-eq (Scope.preventedO (headT rs) (s .stack)) (Scope.preventedO (headT (rels rs)) (on r (s .stack))) (ap (λ (v : Option Tree). Scope.preventedO v (on r (s .stack))) (same-head r rs) ∙ preventedO-same r (headT rs) (s .stack))
+        (when-by (eqb k 20) (λ b. preventM-eq a (num (rel l)) (bound r l b .number)))
+        (when-by (eqb k 20) (λ b. after (write-eq false l (rel l) (bound r l b .number) refl) (subst (λ (v : Option Tree). Eq keep (Walk.storeO l (headT rs)) (Walk.storeO (rel l) v)) (sym (same-head r rs)) (store-eq l (bound r l b) (headT rs))))))
+
+    assignKids-eq : (p f : ℕ) (ts : Forest) → Eq rels (Walk.assignKids w p f ts) (Walk.assignKids w p f (rels ts))
+    unfolding Walk.assignKids
+    assignKids-eq p f ts = after (assignFirst-eq f ts) (bind _ (restFirst-eq p ts) λ us. after (assignLast-eq us) (ret-eq us))
+
+    assign-eq : (p : ℕ) (t : Tree) → Eq rel (Walk.visitMutAssignExpr w p t) (Walk.visitMutAssignExpr w p (rel t))
+    unfolding Walk.visitMutAssignExpr
+    assign-eq p (node k f a ts) = after (mod-eq (Walk.setPatMode Walk.assigning) (λ s. refl)) (onKids-eq (Walk.assignKids w p f) (assignKids-eq p f) (node k f a ts))
+
+    handle-eq : (h : Walk.Handler) (p : ℕ) (t : Tree) → Eq rel (Walk.handle h w p t) (Walk.handle h w p (rel t))
+    unfolding Walk.handle
+    handle-eq Walk.hPlain p t = plain-eq p t
+    handle-eq Walk.hScript p t = script-eq p t
+    handle-eq Walk.hBlock p t = block-eq p t
+    handle-eq Walk.hDecl p t = decl-eq p t
+    handle-eq Walk.hDeclr p t = declr-eq p t
+    handle-eq Walk.hFun p t = fun-eq p t
+    handle-eq Walk.hIf p t = if-eq p t
+    handle-eq Walk.hWhile p t = while-eq p t
+    handle-eq Walk.hFor p t = for-eq p t
+    handle-eq Walk.hForIn p t = forIn-eq p t
+    handle-eq Walk.hTry p t = try-eq p t
+    handle-eq Walk.hCatch p t = catch-eq p t
+    handle-eq Walk.hCase p t = case-eq p t
+    handle-eq Walk.hPat p t = pat-eq p t
+    handle-eq Walk.hUnary p t = unary-eq p t
+    handle-eq Walk.hUpdate p t = update-eq p t
+    handle-eq Walk.hAssign p t = assign-eq p t
+    handle-eq Walk.hCall p t = call-eq true p t
+    handle-eq Walk.hNew p t = call-eq false p t
+    handle-eq Walk.hFunExpr p t = funExpr-eq p t
+    handle-eq Walk.hArrow p t = arrow-eq p t
+
+    own-eq : (p : ℕ) (t : Tree) → Eq rel (Walk.own w p t) (Walk.own w p (rel t))
+    unfolding Walk.own
+    own-eq p (node k f a ts) = handle-eq (getD Walk.handlers k Walk.hPlain) p (node k f a ts)
+
+    -- the steps after a node's own handler
+
+    logical-eq : (p : ℕ) (t : Tree) → Eq rel (Walk.logical w p t) (Walk.logical w p (rel t))
+    unfolding Walk.logical
+    logical-eq p (node k f a ts) = iff-by (eqb k 32 && ltb f 2) (λ t. onKids-eq _ (split-eq ret _ _ keepT-eq (each-eq _ (λ e. inCond-eq (W .bare (suc p) e)))) (node k f a ts)) (ret-eq (node k f a ts))
+
+    afterSides-eq : (p : ℕ) (t : Tree) (l e : Option Tree) → Eq rel (Walk.afterSides p t l e) (Walk.afterSides p (rel t) (onO r l) (onO r e))
+    unfolding Walk.afterSides
+    afterSides-eq p t none e = ret-eq t
+    afterSides-eq p t (some l) none = ret-eq t
+    afterSides-eq p t (some (node k f a ts)) (some e) = iff-by (eqb k 20) (λ b. first (bound r l b)) (ret-eq t)
+      where
+        l : Tree
+        l = node k f a ts
+
+        value : Tree → VarInfo → VarInfo
+        value u c = Scope.defined (Scope.withValue (some u) c)
+
+        first : Bound r l → Eq rel (Walk.firstValue p t l e) (Walk.firstValue p (rel t) (rel l) (rel e))
+        first B = byState-eq (λ s s₁. elim (Scope.findBindingFromCurrent (num l) (s₁ .stack)) [
+          | none ↦ done s₁ t
+          | some b ↦ iff (b .isUndefined && not (Scope.varInlinePrevented b) && not (Scope.isInlinePrevented e (s .stack))) (grow (Scope.change (num l) (value e)) >> Walk.replace p t e >> ret e) (ret t) s₁
+        ]) (λ s s₁. elim (Scope.findBindingFromCurrent (num (rel l)) (s₁ .stack)) [
+          | none ↦ done s₁ (rel t)
+          | some b ↦ iff (b .isUndefined && not (Scope.varInlinePrevented b) && not (Scope.isInlinePrevented (rel e) (s .stack))) (grow (Scope.change (num (rel l)) (value (rel e))) >> Walk.replace p (rel t) (rel e) >> ret (rel e)) (ret (rel t)) s₁
+        ]) λ s. byLook-eq (Scope.findBindingFromCurrent (num l)) (Scope.findBindingFromCurrent (num (rel l))) (λ st. ap (λ (i : ℕ). Scope.findBindingFromCurrent i (on r st)) (B .number) ∙ here-same r (num l) st) (ret t) (ret (rel t))
+            (λ b. iff (b .isUndefined && not (Scope.varInlinePrevented b) && not (Scope.isInlinePrevented e (s .stack))) (grow (Scope.change (num l) (value e)) >> Walk.replace p t e >> ret e) (ret t))
+            (λ b. iff (b .isUndefined && not (Scope.varInlinePrevented b) && not (Scope.isInlinePrevented (rel e) (on r (s .stack)))) (grow (Scope.change (num (rel l)) (value (rel e))) >> Walk.replace p (rel t) (rel e) >> ret (rel e)) (ret (rel t)))
+            (ret-eq t) (λ b. iff-eq (b .isUndefined && not (Scope.varInlinePrevented b) && not (Scope.isInlinePrevented e (s .stack))) (b .isUndefined && not (Scope.varInlinePrevented (onB r b)) && not (Scope.isInlinePrevented (rel e) (on r (s .stack))))
+            (ap₂ (λ (c d : Bool). b .isUndefined && not c && not d) (varPrevented-same r b) (prevented-same r e (s .stack)))
+            (after (grow-eq (Scope.change (num l) (value e)) (Scope.change (num (rel l)) (value (rel e))) (λ st. ap (λ (i : ℕ). Scope.change i (value (rel e)) (on r st)) (B .number) ∙ change-same r (num l) (value e) (value (rel e)) (λ c. refl) st))
+            (after (replace-eq p t e (rel t) (rel e) (same-count r t) (same-count r e) (same-height r e)) (ret-eq e))) (ret-eq t))
+
+    afterAssign-eq : (p : ℕ) (t : Tree) → Eq rel (Walk.afterAssign p t) (Walk.afterAssign p (rel t))
+    unfolding Walk.afterAssign
+    afterAssign-eq p (node k f a ts) = (let t = node k f a ts in
+        subst (λ (v : Option Tree). Eq rel (Walk.afterSides p t (headT ts) (headT (tailF ts))) (Walk.afterSides p (rel t) v (headT (tailF (rels ts))))) (sym (same-head r ts))
+        (subst (λ (v : Option Tree). Eq rel (Walk.afterSides p t (headT ts) (headT (tailF ts))) (Walk.afterSides p (rel t) (onO r (headT ts)) v)) (sym (ap headT (same-tail r ts) ∙ same-head r (tailF ts))) (afterSides-eq p t (headT ts) (headT (tailF ts)))))
+
+    -- an identifier
+    module _ (p : ℕ) (t : Tree) (N : num (rel t) ≡ num t) where
+      look-same : (st : Stack) → Scope.findBinding (num (rel t)) (on r st) ≡ onOB r (Scope.findBinding (num t) st)
+      look-same st = ap (λ (i : ℕ). Scope.findBinding i (on r st)) N ∙ find-same r (num t) st
+
+      cheap?-same : (v : Option Tree) → Walk.cheapO (onO r v) ≡ Walk.cheapO v
+      cheap?-same none = refl
+      cheap?-same (some e) = cheap-same e
+
+      tests : (t : Tree) → VarInfo → M Nothing
+      tests u b = when (not (Walk.cheapO (b .value))) (mark (Scope.preventInline (num u)))
+
+      identAnalysis-eq : Eq rel (Walk.identAnalysis t) (Walk.identAnalysis (rel t))
+      unfolding Walk.identAnalysis tests
+      identAnalysis-eq = bind (λ s. when (s .inTest) (λ s₁. elim (Scope.findBinding (num (rel t)) (s₁ .stack)) [ none ↦ done s₁ tt | some b ↦ tests (rel t) b s₁ ]) >> mark (Scope.addRead (num (rel t)) (eqb (form (rel t)) 1)) >> ret (rel t)) get-eq λ s.
+          after (when-by (s .inTest) (λ u. byLook-eq (Scope.findBinding (num t)) (Scope.findBinding (num (rel t))) look-same (ret tt) (ret tt) (tests t) (tests (rel t)) (ret-eq tt)
+          (λ b. when-eq (not (Walk.cheapO (b .value))) (not (Walk.cheapO (onO r (b .value)))) (ap not (cheap?-same (b .value))) (preventM-eq (num t) (num (rel t)) N))))
+          (after (mark-eq (Scope.addRead (num t) (eqb (form t) 1)) (Scope.addRead (num (rel t)) (eqb (form (rel t)) 1)) (λ st. ap₂ (λ (i f : ℕ). Scope.addRead i (eqb f 1) (on r st)) N (same-form r t) ∙ addRead-same r (num t) (eqb (form t) 1) st)) (ret-eq t))
+
+      sameIdent-same : (e : Tree) → Walk.sameIdent (rel t) (rel e) ≡ Walk.sameIdent t e
+      sameIdent-same (node k f a ts) = go (eqb k 21) refl
+        where
+          go : (c : Bool) → eqb k 21 ≡ c → (c && eqb (num (rel (node k f a ts))) (num (rel t))) ≡ (c && eqb a (num t))
+          go false e = refl
+          go true e = ap₂ eqb (ident-num r (node k f a ts) (is-T (eqb k 21) e)) N
+
+      inlineValue-eq : r 0 ≡ 0 → (b : VarInfo) (v : Option Tree) → Eq rel (Walk.inlineValue w p t b v) (Walk.inlineValue w p (rel t) (onB r b) (onO r v))
+      unfolding Walk.inlineValue
+      inlineValue-eq r0 b none = iff-by (b .isUndefined) (λ u. after (replace-eq p t voidZero (rel t) voidZero (same-count r t) refl refl) (ret-to voidZero voidZero (sym (same-void r r0)))) (ret-eq t)
+      inlineValue-eq r0 b (some e) = after (when-eq (not (Walk.sameIdent t e)) (not (Walk.sameIdent (rel t) (rel e))) (ap not (sameIdent-same e)) (mod-eq (Walk.setChanged true) (λ s. refl)))
+          (after (replace-eq p t e (rel t) (rel e) (same-count r t) (same-count r e) (same-height r e)) (logical-eq p e))
+
+      identInlining-eq : r 0 ≡ 0 → Eq rel (Walk.identInlining w p t) (Walk.identInlining w p (rel t))
+      unfolding Walk.identInlining
+      identInlining-eq r0 = byLook-eq (Scope.findBinding (num t)) (Scope.findBinding (num (rel t))) look-same (ret t) (ret (rel t))
+          (λ b. iff (Scope.varInlinePrevented b) (ret t) (Walk.inlineValue w p t b (b .value))) (λ b. iff (Scope.varInlinePrevented b) (ret (rel t)) (Walk.inlineValue w p (rel t) b (b .value))) (ret-eq t)
+          (λ b. iff-eq (Scope.varInlinePrevented b) (Scope.varInlinePrevented (onB r b)) (varPrevented-same r b) (ret-eq t) (inlineValue-eq r0 b (b .value)))
+
+      byConst-eq : r 0 ≡ 0 → (v : Option Tree) → Eq rel (Walk.byConst w p t v) (Walk.byConst w p (rel t) (onO r v))
+      unfolding Walk.byConst
+      byConst-eq r0 none = byState-eq (λ s. iff (s .inlining) (Walk.identInlining w p t) (Walk.identAnalysis t)) (λ s. iff (s .inlining) (Walk.identInlining w p (rel t)) (Walk.identAnalysis (rel t))) λ s. iff-by (s .inlining) (λ u. identInlining-eq r0) identAnalysis-eq
+      byConst-eq r0 (some e) = after (mod-eq (Walk.setChanged true) (λ s. refl)) (after (replace-eq p t e (rel t) (rel e) (same-count r t) (same-count r e) (same-height r e)) (W .full p e))
+
+      afterIdent-eq : r 0 ≡ 0 → Eq rel (Walk.afterIdent w p t) (Walk.afterIdent w p (rel t))
+      unfolding Walk.afterIdent
+      afterIdent-eq r0 = byState-eq (λ s. Walk.byConst w p t (pick (s .isFirstRun) (Scope.findConstant (num t) (s .stack)) none)) (λ s. Walk.byConst w p (rel t) (pick (s .isFirstRun) (Scope.findConstant (num (rel t)) (s .stack)) none)) λ s.
+          (let v = pick (s .isFirstRun) (Scope.findConstant (num t) (s .stack)) none in
+          subst (λ (x : Option Tree). Eq rel (Walk.byConst w p t v) (Walk.byConst w p (rel t) x))
+          (sym (pick-same (onO r) (s .isFirstRun) (s .isFirstRun) (Scope.findConstant (num t) (s .stack)) none (Scope.findConstant (num (rel t)) (on r (s .stack))) none refl (ap (λ (i : ℕ). Scope.findConstant i (on r (s .stack))) N ∙ const-same r (num t) (s .stack)) refl))
+          (byConst-eq r0 v))
+
+    after-eq : r 0 ≡ 0 → (p : ℕ) (t : Tree) → Eq rel (Walk.after w p t) (Walk.after w p (rel t))
+    unfolding Walk.after
+    after-eq r0 p (node k f a ts) = (let t = node k f a ts in elim-by (eqb k 21) (Walk.afterIdent w p t) (Walk.afterIdent w p (rel t)) _ _ (λ h. afterIdent-eq p t (ident-num r t h) r0)
+        (elim-by (eqb k 33 && eqb f 0) (λ s. iff (s .inlining) (Walk.afterAssign p t) (ret t) s) (λ s. iff (s .inlining) (Walk.afterAssign p (rel t)) (ret (rel t)) s) (Walk.logical w p t) (Walk.logical w p (rel t))
+        (λ h. byState-eq (λ s. iff (s .inlining) (Walk.afterAssign p t) (ret t)) (λ s. iff (s .inlining) (Walk.afterAssign p (rel t)) (ret (rel t))) λ s. iff-by (s .inlining) (λ u. afterAssign-eq p t) (ret-eq t)) (logical-eq p t)))
+
+    fullStep-eq : r 0 ≡ 0 → (p : ℕ) (t : Tree) → Eq rel (Walk.visitMutExpr w p t) (Walk.visitMutExpr w p (rel t))
+    unfolding Walk.visitMutExpr
+    fullStep-eq r0 p t = bind (Walk.after w p) (own-eq p t) λ t′. after-eq r0 p t′
+
+  -- the knot, by depth
+  walks-eq : r 0 ≡ 0 → (d : ℕ) → EqW (Walk.walks d)
+  unfolding Walk.walks
+  walks-eq r0 zero = record { full = λ p t. refuse-eq 8; bare = λ p t. refuse-eq 8; inner = λ p t. refuse-eq 8 }
+  walks-eq r0 (suc d) = record { full = fullStep-eq (Walk.walks d) (walks-eq r0 d) r0; bare = own-eq (Walk.walks d) (walks-eq r0 d); inner = script-eq (Walk.walks d) (walks-eq r0 d) }
+
+  run-eq : r 0 ≡ 0 → (t : Tree) → Eq rel (Walk.run t) (Walk.run (rel t))
+  unfolding Walk.run
+  run-eq r0 t = after (mod-eq (Walk.setInlining false) (λ s. refl)) (bind _ (own-eq (Walk.walks 199) (walks-eq r0 199) 1 t) λ t₁.
+      after (mod-eq (Walk.setInlining true) (λ s. refl)) (bind _ (own-eq (Walk.walks 199) (walks-eq r0 199) 1 t₁) λ t₂.
+      after (mod-eq (Walk.setInlining false) (λ s. refl)) (ret-eq t₂)))
+
+  -- the runs
+  marks-same : (st : Stack) → Walk.rootMarks (on r st) ≡ Walk.rootMarks st
+  marks-same [] = refl
+  marks-same (s ∷ []) = go (s .bindings)
+    where
+      one : VarInfo → ℕ × Bool
+      one b = (b .id, b .inlinePrevented)
+
+      go : (bs : List VarInfo) → map one (map (onB r) bs) ≡ map one bs
+      go [] = refl
+      go (b ∷ bs) = ap (λ (ms : List (ℕ × Bool)). one b ∷ ms) (go bs)
+  marks-same (s ∷ q ∷ st) = marks-same (q ∷ st)
+
+  again-same : (k : ℕ) (go : Tree → St → Walk.Outcome) → ((t : Tree) (s : St) → go (rel t) (lab s) ≡ relabelOut r (go t s)) → (x : Res St Tree) → Walk.again go k (mapR rel x) ≡ relabelOut r (Walk.again go k x)
+  again-same k go h (stop n) = refl
+  again-same k go h (done s t) = elim-same (relabelOut r) (s .changed) (s .changed) (go t (Walk.setIsFirstRun false s)) (Walk.result k false t (Walk.rootMarks (s .stack))) (go (rel t) (Walk.setIsFirstRun false (lab s))) (Walk.result k false (rel t) (Walk.rootMarks (on r (s .stack)))) refl
+      (h t (Walk.setIsFirstRun false s)) (ap (Walk.result k false (rel t)) (marks-same (s .stack)))
+
+  runs-same : r 0 ≡ 0 → (n k : ℕ) (t : Tree) (s : St) → Walk.runs n k (rel t) (lab s) ≡ relabelOut r (Walk.runs n k t s)
+  unfolding Walk.runs
+  runs-same r0 zero k t s = ap (Walk.result k true (rel t)) (marks-same (s .stack))
+  runs-same r0 (suc n) k t s = ap (Walk.again (Walk.runs n (suc k)) (suc k)) (run-eq r0 t .from (Walk.setChanged false s)) ∙ again-same (suc k) (Walk.runs n (suc k)) (runs-same r0 n (suc k)) (Walk.run t (Walk.setChanged false s))
+
+  start-is : (t : Tree) → Walk.start (rel t) ≡ lab (Walk.start t)
+  start-is t = ap (λ (n : ℕ). Walk.setNodes n (Walk.start t)) (same-count r t)
+
+-- relabelling the origins and then passing is passing and then relabelling
+pub origin-blind : OriginBlind
+unfolding Walk.corePass
+origin-blind r r0 n t = ap (Walk.runs n 0 (relabel r t)) (start-is r t) ∙ runs-same r r0 n 0 t (Walk.start t)
