@@ -3,7 +3,7 @@
 -- The whole crate is checked in about 20 s on two processors.
 use mathlib.Core.Bool.{Bool, true, false, _&&_}
 use mathlib.Core.List.{List, [], _∷_, _++_}
-use Prim.Native.Nat.{ℕ, zero, suc, _-_}
+use Prim.Native.Nat.{ℕ, suc, _-_}
 use lib.ListN.{length}
 use Rattle.tree.specs.Base.{toNat}
 use Rattle.format.specs.Script.{sameText}

@@ -1,12 +1,12 @@
 -- Cases that the worthless versions of document 01's "Imitations of the pass" fail, beside the tables: run limits, runs that change the
 -- tree after the first, and scripts at the limits of rows 8 and 9 that pass. One theorem.
 use mathlib.Core.Path.{_≡_, refl}
-use mathlib.Core.Bool.{Bool, true, false}
+use mathlib.Core.Bool.{true, false}
 use mathlib.Core.List.{List, [], _∷_, map}
-use Prim.Native.Nat.{ℕ, zero, suc}
-use Rattle.definition.specs.Tree.{Tree, Forest, node, nil, cons}
-use Rattle.definition.specs.Walk.{corePass, Outcome}
-use Rattle.definition.specs.Cases.{Answer, no!, yes!, meets, script, decl, declTo, do′, name, bind, lit, array, assign, block, f1, f2, f3}
+use Prim.Native.Nat.{ℕ}
+use Rattle.definition.specs.Tree.{Tree, node, nil, cons}
+use Rattle.definition.specs.Walk.{corePass}
+use Rattle.definition.specs.Cases.{Answer, yes!, meets, script, decl, declTo, do′, name, bind, lit, array, assign, block, f1, f2, f3}
 use Rattle.definition.specs.Stress.{nest, many}
 
 -- a run limit, a script, and what is expected

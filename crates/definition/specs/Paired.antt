@@ -3,8 +3,8 @@ use mathlib.Core.Path.{_≡_}
 use mathlib.Core.Logic.{_⊎_}
 use mathlib.Core.Bool.{Bool}
 use mathlib.Core.List.{List, [], _∷_, map}
-use Prim.Native.Nat.{ℕ, zero, suc, _<_, _≤_}
-use lib.Dec.{T, not-T}
+use Prim.Native.Nat.{ℕ, _<_, _≤_}
+use lib.Dec.{T}
 use lib.ListN.{length, getD}
 use Rattle.format.specs.Script.{Raw, Script, isLit, hasId, sameId, isArguments, nodeAt, zeroNode}
 use Rattle.format.specs.Read.{script, read}

@@ -1,27 +1,26 @@
 -- A file that is read is one tree in preorder, whose literals have no children; so the pass on the list of its nodes is the pass of the
 -- definition. Assumes nothing.
 use mathlib.Core.Path.{_≡_, refl, sym, ap, ap₂, _∙_, subst}
-use mathlib.Core.Bool.{Bool, true, false, _&&_, _||_}
-use mathlib.Core.Option.{Option, none, some}
-use mathlib.Core.List.{List, [], _∷_, map}
-use Prim.Native.Nat.{ℕ, zero, suc, _+_, _-_, _*_, _≤_}
-use native.Mathlib.Nat.{zero-add, suc-add, add-assoc, suc-inj, suc-ne-zero, not-suc-le-zero}
+use mathlib.Core.Bool.{Bool, true, false, _&&_}
+use mathlib.Core.Option.{none}
+use mathlib.Core.List.{List, [], _∷_}
+use Prim.Native.Nat.{ℕ, zero, suc, _+_, _*_, _≤_}
+use native.Mathlib.Nat.{zero-add, suc-add, suc-inj, suc-ne-zero}
 use native.Mathlib.Decide.{decLe}
 use native.Mathlib.Omega.{arith}
 use lib.Dec.{T, eqb, ltb, leb, leb→le}
 use lib.ListN.{length, drop}
-use Rattle.tree.specs.Tree.{Tree, Forest, node, nil, cons, lengthF, count, counts, Core, core, flat, flats, plant, takeF, dropF}
-use Rattle.tree.specs.Combine.{Flat}
+use Rattle.tree.specs.Tree.{Tree, Forest, node, nil, cons, lengthF, count, counts, Core, core, flat, flats, plant}
 use Rattle.tree.proofs.Whole.{Whole, length-dropF, unplant}
 use Rattle.tree.specs.Base.{pick, toNat}
 use Rattle.definition.specs.Tree.{headT}
-use Rattle.definition.specs.Walk.{St, Outcome, refused, result, corePass, start}
+use Rattle.definition.specs.Walk.{Outcome, refused, result, corePass}
 use Rattle.format.specs.Kinds.{allows, formOk, countOk, ruleOf}
 use Rattle.format.specs.Script.{Raw, Script, isLit, hasId, isArguments, idents, placeOf}
 use Rattle.format.specs.Read.{Read, bad, script, Place, u32, endsFrom, textsFrom, nodesFrom, rising, distinct, fieldsOk, nodeOk, below, fills, nodesOk, checked, read}
-use Rattle.definition.specs.Script.{Answer, coreNode, coreFrom, coreNodes, coreTree, answer, passTree, pass, back, rootOf, passRead, passFile}
+use Rattle.definition.specs.Script.{Answer, coreNode, coreFrom, coreNodes, answer, passTree, pass, back, rootOf, passRead, passFile}
 use Rattle.definition.specs.Entry.{Entry, refused as refusedE, written, entryRead, entry}
-use Rattle.flat.specs.WalkF.{OutcomeF, runsF, flatOutcome}
+use Rattle.flat.specs.WalkF.{runsF, flatOutcome}
 use Rattle.flat.specs.PassF.{startF, answerF, passF, passReadF, passFileF, entryReadF, entryF}
 use Rattle.flat.proofs.Sim.{pass-same}
 

@@ -1,23 +1,23 @@
 -- The walks on the list do what the walks on trees do: every handler, a run, and the pass. Each handler is one term of
 -- the laws of its parts (Sims of the crate `tree`). Assumes nothing.
-use mathlib.Core.Path.{_≡_, refl, sym, ap, _∙_}
-use mathlib.Core.Bool.{Bool, true, false, _&&_, _||_, not}
+use mathlib.Core.Path.{_≡_, refl, _∙_}
+use mathlib.Core.Bool.{Bool, true, false, _&&_, not}
 use mathlib.Core.Option.{Option, none, some}
-use mathlib.Core.List.{List, [], _∷_}
-use Prim.Native.Nat.{ℕ, zero, suc, _+_}
+use mathlib.Core.List.{[]}
+use Prim.Native.Nat.{ℕ, zero, suc}
 use native.Mathlib.Nat.{zero-add}
 use lib.Dec.{eqb, ltb}
 use lib.ListN.{length, getD}
 use Rattle.tree.specs.Base.{pick}
-use Rattle.definition.specs.Tree.{Tree, Forest, kind, form, num, kids, isIdent, headT, tailF, voidZero, count}
+use Rattle.definition.specs.Tree.{Tree, kind, form, num, kids, headT, tailF, voidZero, count}
 use Rattle.definition.specs.Scope.{VarType, isConst, ScopeKind, cond, loop, block, fn, VarInfo, preventInline, isInlinePrevented, varInlinePrevented, findBinding, findBindingFromCurrent, findConstant, addRead, markThisSensitive, identOf, change, withValue, defined}
 use Rattle.tree.specs.Tree.{Core, flat}
 use Rattle.tree.specs.Combine
-use Rattle.tree.specs.Combine.{Res, stop, done, Nothing, andThen, _>>=_, _>>_, ret, refuse, iff, Flat, carry}
+use Rattle.tree.specs.Combine.{Res, stop, done, _>>=_, _>>_, ret, iff, Flat, carry}
 use Rattle.tree.proofs.Place.{past, length-past}
 use Rattle.tree.proofs.Sims.{Sim, SimF, SimR, sim-skip, sim-skips, sim-put, sim-refuse, sim-then, sim-if, sim-ask, sim-node, sim-act, sim-actN, sim-tap, sim-within, sim-each, sim-split, sim-eachBut, sim-onKids, sim-reKids, simF-then, simF-if, simF-ask, simF-act, simF-tap, simF-within, simR-same, simR-then, simR-act, simR-ask, simR-if, simR-split, simR-cutFirst}
 use Rattle.definition.specs.Walk
-use Rattle.definition.specs.Walk.{St, M, Walks, Handler, hPlain, hScript, hBlock, hDecl, hDeclr, hFun, hIf, hWhile, hFor, hForIn, hTry, hCatch, hCase, hPat, hUnary, hUpdate, hAssign, hCall, hNew, hFunExpr, hArrow, handlers, when, modify, mark, grow, replace, restore, opening, deeper, shallower, setInlining, setVarDeclKind, setPatMode, setInTest, setChanged, declaring, assigning, asParam, asCatch, declKindOf, declareName, writeName, writeTree, writeForest, butLast, storeInlineBarrierM, isBind, patBy, overM, stays, takes, headBind, assignFirst, assignLast, sameIdent, cheapO}
+use Rattle.definition.specs.Walk.{St, M, Walks, Handler, hPlain, hScript, hBlock, hDecl, hDeclr, hFun, hIf, hWhile, hFor, hForIn, hTry, hCatch, hCase, hPat, hUnary, hUpdate, hAssign, hCall, hNew, hFunExpr, hArrow, handlers, when, modify, mark, grow, replace, restore, opening, deeper, shallower, setInlining, setVarDeclKind, setPatMode, setInTest, setChanged, declaring, assigning, asParam, asCatch, declKindOf, declareName, writeName, writeTree, writeForest, butLast, storeInlineBarrierM, isBind, patBy, overM, stays, takes, headBind, assignFirst, assignLast, sameIdent}
 use Rattle.flat.specs.WalkF
 
 pub record Sims (w : Walks) (v : WalkF.WalksF) : Type 0 where

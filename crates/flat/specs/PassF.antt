@@ -1,6 +1,6 @@
 -- The pass over a script, a file's bytes, and the entry, with the walks on the list: `pass`, `passFile` and `entry` of the definition
 -- without a tree. Assumes nothing: these are definitions.
-use mathlib.Core.Bool.{Bool, true, false, _&&_}
+use mathlib.Core.Bool.{true, false, _&&_}
 use mathlib.Core.List.{List, [], _∷_, map}
 use Prim.Native.Nat.{ℕ}
 use lib.Dec.{leb}

@@ -1,17 +1,17 @@
 -- The walks of Walk, on the list of nodes with an index: each part of a handler under its other name (Combine of the crate `tree`).
 -- Each stands for the Rust item that Walk names at the one of the same name (`visitMutBlockStmtF`: `visitMutBlockStmt`).
 -- This is what the port's functions are proved against. Assumes nothing: these are definitions.
-use mathlib.Core.Bool.{Bool, true, false, _&&_, _||_, not}
+use mathlib.Core.Bool.{Bool, true, false, _&&_, not}
 use mathlib.Core.Option.{Option, none, some}
-use mathlib.Core.List.{List, [], _∷_}
-use Prim.Native.Nat.{ℕ, zero, suc, _+_, _-_}
+use mathlib.Core.List.{List, []}
+use Prim.Native.Nat.{ℕ, zero, suc}
 use lib.Dec.{eqb, ltb}
-use lib.ListN.{length, getD}
+use lib.ListN.{getD}
 use Rattle.tree.specs.Base.{pick}
-use Rattle.definition.specs.Tree.{Tree, Forest, kind, form, num, kids, isIdent, headT, tailF, voidZero}
+use Rattle.definition.specs.Tree.{Tree, kind, form, num, kids, headT, tailF, voidZero}
 use Rattle.definition.specs.Scope.{VarType, isConst, ScopeKind, cond, loop, block, fn, VarInfo, preventInline, isInlinePrevented, varInlinePrevented, findBinding, findBindingFromCurrent, findConstant, addRead, markThisSensitive, identOf, change, withValue, defined}
 use Rattle.tree.specs.Tree.{Core, flat}
-use Rattle.tree.specs.Combine.{Res, stop, done, M as MS, Nothing, andThen, _>>=_, _>>_, ret, refuse, iff, Flat, nodeAt, treeAt, forestAt, Walk as One, Walks as Many, ReWalks, onRest, actN, act, actF, withinF, skip, skips, put, many, splitF, eachButF, onKidsF, reKidsF, same, splitR, cutFirst}
+use Rattle.tree.specs.Combine.{Res, stop, done, M as MS, Nothing, _>>=_, _>>_, ret, refuse, iff, Flat, nodeAt, treeAt, forestAt, Walk as One, Walks as Many, ReWalks, onRest, actN, act, actF, withinF, skip, skips, put, many, splitF, eachButF, onKidsF, reKidsF, same, splitR, cutFirst}
 use Rattle.definition.specs.Walk as Walk
 use Rattle.definition.specs.Walk.{Outcome, refused, result, rootMarks, setIsFirstRun, St, Handler, hPlain, hScript, hBlock, hDecl, hDeclr, hFun, hIf, hWhile, hFor, hForIn, hTry, hCatch, hCase, hPat, hUnary, hUpdate, hAssign, hCall, hNew, hFunExpr, hArrow, handlers, when, modify, mark, grow, replace, restore, opening, deeper, shallower, setInlining, setVarDeclKind, setPatMode, setInTest, setChanged, declaring, assigning, asParam, asCatch, declKindOf, declareName, writeName, writeTree, writeForest, butLast, storeInlineBarrierM, isBind, patBy, overM, stays, takes, headBind, assignFirst, assignLast, sameIdent, cheapO}
 

@@ -1,22 +1,21 @@
 -- Demand 3: paired scripts are treated alike; and a result's literals are the input's. Assumes nothing.
 use mathlib.Core.Path.{_≡_, refl, sym, ap, _∙_, subst, subst₂}
 use mathlib.Core.Logic.{_⊎_, inl, inr}
-use mathlib.Core.Bool.{Bool, true, false, _&&_, _||_}
+use mathlib.Core.Bool.{Bool, true, false}
 use mathlib.Core.List.{List, [], _∷_, map}
-use Prim.Native.Nat.{ℕ, zero, suc, _+_, _<_, _≤_, suc-le-suc, zero-le}
+use Prim.Native.Nat.{ℕ, zero, suc, _<_, _≤_, suc-le-suc, zero-le}
 use native.Mathlib.Nat.{le-of-suc-le-suc, not-suc-le-zero}
 use native.Mathlib.Omega.{arith}
 use native.Mathlib.Decide.{decLe}
-use lib.Dec.{T, eqb, leb}
+use lib.Dec.{T}
 use lib.ListN.{length, getD, length-map, List·getD-map, List·getD-eq-default}
 use Rattle.tree.specs.Tree.{Core, flat, plant}
 use Rattle.tree.specs.Base.{pick}
-use Rattle.definition.specs.Tree.{Tree, headT}
+use Rattle.definition.specs.Tree.{headT}
 use Rattle.definition.specs.Walk.{Outcome, refused, result}
 use Rattle.format.specs.Script.{Raw, Script, isLit, hasId, sameId, nodeAt, zeroNode, idents}
-use Rattle.format.specs.Read.{Read, read}
-use Rattle.definition.specs.Script.{Out, Root, Answer, back, litOut, idOut, plainOut, identAt, coreNodes, coreTree, passTree, answer, pass, rootOf, passRead, passFile}
-use Rattle.definition.specs.Paired.{Agree, Paired, Number, Together, BothLit, Neither, AlikeNode, AlikeRoots, AlikeResults, Alike, noOut, KeptLit, KeptAll, Kept, Demand3}
+use Rattle.definition.specs.Script.{back, litOut, idOut, plainOut, identAt, coreNodes, coreTree, passTree, answer, pass, rootOf}
+use Rattle.definition.specs.Paired.{Agree, Paired, Together, AlikeNode, AlikeRoots, Alike, KeptLit, KeptAll, Kept}
 use Rattle.laws.proofs.Tests.{is-true, is-T, lit-no-id}
 use Rattle.laws.proofs.Idents.{sameId-refl}
 use Rattle.laws.proofs.Pairs.{Twin, twins-at, idents-twins, same-cores}

@@ -1,9 +1,9 @@
 -- What the pass asks of a tree is the same after its literals' origins are relabelled (`OriginBlind` of specs/Relabel). Assumes nothing.
-use mathlib.Core.Path.{_≡_, refl, sym, ap, ap₂, _∙_, subst}
-use mathlib.Core.Bool.{Bool, true, false, _&&_, _||_, not}
+use mathlib.Core.Path.{_≡_, refl, ap, ap₂, _∙_, subst}
+use mathlib.Core.Bool.{Bool, true, false, _||_}
 use mathlib.Core.Option.{Option, none, some}
-use mathlib.Core.List.{List, [], _∷_}
-use Prim.Native.Nat.{ℕ, zero, suc, _+_, max}
+use mathlib.Core.List.{List, _∷_}
+use Prim.Native.Nat.{ℕ, suc, _+_, max}
 use lib.Dec.{T, eqb, eqb→eq}
 use Rattle.tree.specs.Base.{pick}
 use Rattle.definition.specs.Tree.{Tree, Forest, node, nil, cons, kind, form, num, kids, count, counts, countO, height, heights, hasThis, hasThisF, identList, identListF, headT, tailF, voidZero}

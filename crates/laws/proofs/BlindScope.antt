@@ -1,19 +1,19 @@
 -- What the pass asks of the scopes, and what it does to them, is the same after the literals of the recorded values and the constants are
 -- relabelled. Assumes nothing.
-use mathlib.Core.Path.{_≡_, refl, sym, ap, ap₂, _∙_, subst}
+use mathlib.Core.Path.{_≡_, refl, ap, ap₂, _∙_}
 use mathlib.Core.Bool.{Bool, true, false, _&&_, _||_, not}
 use mathlib.Core.Option.{Option, none, some}
 use mathlib.Core.List.{List, [], _∷_, _++_, map}
-use Prim.Native.Nat.{ℕ, zero, suc, _+_, _-_}
-use lib.Dec.{T, eqb, leb, ltb}
+use Prim.Native.Nat.{ℕ, suc, _+_}
+use lib.Dec.{eqb}
 use lib.ListN.{length, length-map}
 use Rattle.tree.specs.Base.{pick, orElse}
-use Rattle.definition.specs.Tree.{Tree, Forest, node, nil, cons, kind, num, kids, isIdent, isMember, isCheap, headT}
+use Rattle.definition.specs.Tree.{Tree, Forest, node, nil, cons, kind, kids, isMember, headT}
 use Rattle.definition.specs.Relabel.{relabel, relabelF}
 use Rattle.definition.specs.Scope
 use Rattle.definition.specs.Scope.{VarInfo, Scope as Sc, Stack, Init, noInit, recorded, seen, VarType}
 use Rattle.laws.proofs.Tests.{is-T}
-use Rattle.laws.proofs.Blind.{pick-same, elim-same, onO, ident-num, same-num, same-countO}
+use Rattle.laws.proofs.Blind.{pick-same, elim-same, onO, ident-num, same-countO}
 
 module _ (r : ℕ → ℕ) where
   abbrev pub onB : VarInfo → VarInfo

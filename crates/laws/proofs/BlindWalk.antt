@@ -8,7 +8,7 @@ use lib.Dec.{T, eqb, ltb, leb}
 use lib.ListN.{length, getD, length-map}
 use Rattle.tree.specs.Base.{pick}
 use Rattle.tree.specs.Combine.{Res, stop, done, Nothing, andThen, _>>=_, _>>_, ret, refuse, iff, within, each, split, eachBut, onKids}
-use Rattle.definition.specs.Tree.{Tree, Forest, node, nil, cons, kind, form, num, kids, headT, tailF, isIdent, isCheap, hasThis, count, height, identList, identListF, voidZero}
+use Rattle.definition.specs.Tree.{Tree, Forest, node, nil, cons, kind, form, num, headT, tailF, isIdent, isCheap, hasThis, count, height, identList, identListF, voidZero}
 use Rattle.definition.specs.Relabel.{relabel, relabelF, relabelOut, OriginBlind}
 use Rattle.definition.specs.Scope as Scope
 use Rattle.definition.specs.Scope.{VarInfo, Stack, Init}

@@ -1,16 +1,15 @@
 -- Demand 3, about the pass over two files, and about the whole entry. Assumes nothing.
-use mathlib.Core.Path.{_≡_, refl, sym, subst, subst₂}
+use mathlib.Core.Path.{refl, sym, subst, subst₂}
 use mathlib.Core.Bool.{Bool, true, false, _&&_}
-use mathlib.Core.List.{List, map}
-use Prim.Native.Nat.{ℕ, _+_}
+use Prim.Native.Nat.{ℕ}
 use lib.Dec.{leb}
 use lib.ListN.{length}
 use Rattle.format.specs.Script.{Script}
 use Rattle.format.specs.Read.{Read, read}
 use Rattle.format.specs.Write.{file}
-use Rattle.definition.specs.Script.{Out, Root, Answer, no!, yes!, pass, passRead, passFile}
-use Rattle.definition.specs.Entry.{Entry, refused, passed, written, entryRead, entry}
-use Rattle.definition.specs.Paired.{Paired, AlikeResults, Alike, KeptAll, Kept, Demand3, fileOf, AlikeEntry, Demand3Entry}
+use Rattle.definition.specs.Script.{Answer, no!, yes!, pass, passRead, passFile}
+use Rattle.definition.specs.Entry.{refused, passed, written, entryRead, entry}
+use Rattle.definition.specs.Paired.{Alike, Kept, Demand3, fileOf, AlikeEntry, Demand3Entry}
 use Rattle.laws.proofs.Alike.{alike, kept}
 
 -- from the files' bytes on

@@ -1,6 +1,6 @@
 -- What every walk keeps: a property N of each node's kind, form and number, in the tree, the recorded values and the constants,
 -- and of each binding's identifier. The walks make no node but `void 0` and an identifier from a binding. Assumes nothing.
-use mathlib.Core.Path.{_≡_, refl, sym, ap, _∙_, subst}
+use mathlib.Core.Path.{_≡_, refl, subst}
 use mathlib.Core.Bool.{Bool, true, false, _&&_, _||_, not}
 use mathlib.Core.Option.{Option, none, some}
 use mathlib.Core.List.{List, [], _∷_, _++_, map}
@@ -9,7 +9,7 @@ use lib.Dec.{T, eqb, ltb, leb, eqb→eq}
 use Rattle.laws.proofs.Tests.{is-T}
 use lib.ListN.{length, getD}
 use Rattle.tree.specs.Base.{pick, orElse}
-use Rattle.definition.specs.Tree.{Tree, Forest, node, nil, cons, kind, form, num, kids, headT, tailF, isIdent, isCheap, isMember, hasThis, count, height, identList, identListF, voidZero}
+use Rattle.definition.specs.Tree.{Tree, Forest, node, nil, cons, kind, form, num, kids, headT, tailF, isIdent, isCheap, hasThis, count, height, identList, identListF, voidZero}
 use Rattle.definition.specs.Scope as Scope
 use Rattle.definition.specs.Walk as Walk
 use Rattle.definition.specs.Walk.{St, M, Walks, get, when, modify, mark, grow, inScope, visitMutStmts, plain}

@@ -1,22 +1,22 @@
 -- Every number in a core, and in a result, names an input node of the right sort. Assumes nothing.
-use mathlib.Core.Path.{_≡_, refl, sym, ap, _∙_, subst}
+use mathlib.Core.Path.{_≡_, refl, sym, _∙_, subst}
 use mathlib.Core.Bool.{Bool, true, false, _&&_, _||_}
 use mathlib.Core.Option.{Option, none, some}
-use mathlib.Core.List.{List, [], _∷_, map}
+use mathlib.Core.List.{List, [], _∷_}
 use Prim.Native.Nat.{ℕ, zero, suc, _+_, _<_, _≤_, suc-le-suc, zero-le}
-use native.Mathlib.Nat.{add-zero, add-suc, suc-add, le-of-suc-le-suc, not-suc-le-zero}
+use native.Mathlib.Nat.{add-zero, add-suc, suc-add}
 use native.Mathlib.Omega.{arith}
-use lib.Dec.{T, eqb, leb, eqb→eq, eqb-refl}
+use lib.Dec.{T, eqb, leb}
 use lib.ListN.{length, getD}
 use Rattle.tree.specs.Tree.{Core, plant, takeF, dropF, flat, flats}
 use Rattle.tree.specs.Base.{pick, toNat}
 use Rattle.definition.specs.Tree.{Tree, Forest, node, nil, cons, headT}
-use Rattle.definition.specs.Walk.{Outcome, refused, result, corePass}
+use Rattle.definition.specs.Walk.{Outcome, corePass}
 use Rattle.format.specs.Script.{Raw, Script, isLit, hasId, isArguments, nodeAt, zeroNode, idents, placeOf}
 use Rattle.definition.specs.Script.{coreNode, coreFrom, coreNodes, coreTree, passTree}
 use Rattle.laws.proofs.Tests.{is-T}
 use Rattle.laws.proofs.Idents.{ident-lt}
-use Rattle.laws.proofs.Keep.{All, OkId}
+use Rattle.laws.proofs.Keep.{All}
 use Rattle.laws.proofs.Keep as Keep
 
 abbrev pub litKind : ℕ → Bool

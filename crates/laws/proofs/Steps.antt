@@ -1,14 +1,12 @@
 -- How the definition is used in a proof about a variable depth and state: big-step laws. Assumes nothing.
-use mathlib.Core.Path.{_≡_, refl, sym, ap, _∙_, subst}
-use mathlib.Core.Bool.{Bool, true, false}
-use mathlib.Core.Option.{Option, none, some}
-use mathlib.Core.List.{List, [], _∷_}
-use Prim.Native.Nat.{ℕ, zero, suc, _+_}
-use lib.Dec.{eqb, ltb}
-use Rattle.tree.specs.Combine.{Res, stop, done}
-use Rattle.definition.specs.Tree.{Tree, Forest, node, nil, cons, kind, form, count, height}
+use mathlib.Core.Path.{_≡_, refl}
+use mathlib.Core.Bool.{true, false}
+use mathlib.Core.Option.{some}
+use Prim.Native.Nat.{ℕ, suc}
+use Rattle.tree.specs.Combine.{stop, done}
+use Rattle.definition.specs.Tree.{Tree, Forest, node, nil, cons}
 use Rattle.definition.specs.Scope.{VarInfo, findBinding, varInlinePrevented}
-use Rattle.definition.specs.Walk.{St, M, Walks, walks, visitMutExpr, own, handle, after, afterIdent, identInlining, inlineValue, logical, replace, setNodes, setChanged}
+use Rattle.definition.specs.Walk.{St, walks, visitMutExpr, afterIdent, identInlining, inlineValue}
 
 -- an expression statement, when its expression's walk ends
 stmt-done : (d p : ℕ) (e e′ : Tree) (s s′ : St) → walks d .full (suc p) e s ≡ done s′ e′ → walks (suc d) .full p (node 4 0 0 (cons e nil)) s ≡ done s′ (node 4 0 0 (cons e′ nil))
