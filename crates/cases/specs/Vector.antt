@@ -1,5 +1,5 @@
 -- Vectors: files with the answers of the original Rust, and which of them the definition answers otherwise. The tables beside this file
--- are written by tools/vectors.py from tests/vectors/small.txt: 432 vectors over all kinds, with refusals 2 to 9 and run limits 1 to 16.
+-- are written by tools/vectors.py from tests/vectors/small.txt, some hundreds over all kinds, with refusals 2 to 9 and run limits 1 to 16.
 -- The whole crate is checked in about 20 s on two processors.
 use mathlib.Core.Bool.{Bool, true, false, _&&_}
 use mathlib.Core.List.{List, [], _∷_, _++_}
