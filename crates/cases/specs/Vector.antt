@@ -9,7 +9,8 @@ use Rattle.tree.specs.Base.{toNat}
 use Rattle.format.specs.Script.{sameText}
 use Rattle.format.specs.Read.{Read, bad, script, read}
 use Rattle.format.specs.Write.{bytes, rawBytes, file}
-use Rattle.definition.specs.Script.{Out, Root, Answer, no!, yes!, passFile}
+use Rattle.format.specs.Core.{Out}
+use Rattle.definition.specs.Script.{Root, Answer, no!, yes!, passFile}
 
 -- a run limit, and the file and its answer, each with its length
 pub record Vector : Type 0 where

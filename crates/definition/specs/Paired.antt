@@ -6,7 +6,8 @@ use mathlib.Core.List.{List, [], _∷_, map}
 use Prim.Native.Nat.{ℕ, _<_, _≤_}
 use lib.Dec.{T}
 use lib.ListN.{length, getD}
-use Rattle.format.specs.Script.{Raw, Script, isLit, hasId, sameId, isArguments, nodeAt, zeroNode}
+use Rattle.format.specs.declared.Raw.{Raw}
+use Rattle.format.specs.Script.{Script, isLit, hasId, sameId, isArguments, nodeAt, zeroNode}
 use Rattle.format.specs.Read.{script, read}
 use Rattle.format.specs.Write.{file}
 use Rattle.definition.specs.Script.{Out, Root, Answer, no!, yes!, passFile}

@@ -3,7 +3,8 @@ use mathlib.Core.Path.{_≡_, refl}
 use mathlib.Core.List.{List, [], _∷_}
 use Prim.Native.Nat.{ℕ, zero, suc}
 use lib.ListN.{set}
-use Rattle.format.specs.Script.{Raw, Script}
+use Rattle.format.specs.declared.Raw.{Raw}
+use Rattle.format.specs.Script.{Script}
 use Rattle.format.specs.Write.{file}
 use Rattle.definition.specs.Entry.{Entry, refused, passed, entry}
 use Rattle.definition.specs.Table.{n}

@@ -5,7 +5,8 @@ use Prim.Native.Nat.{ℕ, zero, suc, _+_}
 use lib.Dec.{T}
 use Rattle.definition.specs.Tree.{Tree, Forest, node, nil, cons}
 use Rattle.definition.specs.Walk.{corePass}
-use Rattle.format.specs.Script.{Raw, Script}
+use Rattle.format.specs.declared.Raw.{Raw}
+use Rattle.format.specs.Script.{Script}
 use Rattle.format.specs.Write.{file}
 use Rattle.definition.specs.Script.{passFile}
 use Rattle.definition.specs.Table.{n, seen, refusal}

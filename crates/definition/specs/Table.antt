@@ -3,7 +3,8 @@ use mathlib.Core.Path.{_≡_, refl}
 use mathlib.Core.Bool.{Bool, true, false, _&&_}
 use mathlib.Core.List.{List, [], _∷_, map}
 use Prim.Native.Nat.{ℕ}
-use Rattle.format.specs.Script.{Raw, Script}
+use Rattle.format.specs.declared.Raw.{Raw}
+use Rattle.format.specs.Script.{Script}
 use Rattle.definition.specs.Script.{Out, Root, Answer, no!, yes! }
 use Rattle.format.specs.Write.{file}
 use Rattle.definition.specs.Script.{passFile}

@@ -5,7 +5,8 @@ use mathlib.Core.List.{List, [], _∷_, _++_}
 use Prim.Native.Nat.{ℕ, zero, suc, _+_, _-_}
 use lib.ListN.{length}
 use Rattle.tree.specs.Base.{pick}
-use Rattle.format.specs.Script.{Raw, Script, isLit, sameText}
+use Rattle.format.specs.declared.Raw.{Raw}
+use Rattle.format.specs.Script.{Script, isLit, sameText}
 use Rattle.tree.specs.Base.{toNat}
 use Rattle.definition.specs.Script.{Out, Root, Answer, no!, yes! }
 use Rattle.format.specs.Read.{Read, bad, script, read}

@@ -4,7 +4,7 @@ use mathlib.Core.Path.{_≡_, refl, sym, ap, ap₂, _∙_, subst}
 use mathlib.Core.Bool.{Bool, true, false, _&&_}
 use mathlib.Core.Option.{none}
 use mathlib.Core.List.{List, [], _∷_}
-use Prim.Native.Nat.{ℕ, zero, suc, _+_, _*_, _≤_}
+use Prim.Native.Nat.{ℕ, zero, suc, _+_, _-_, _*_, _≤_}
 use native.Mathlib.Nat.{zero-add, suc-add, suc-inj, suc-ne-zero}
 use native.Mathlib.Decide.{decLe}
 use native.Mathlib.Omega.{arith}
@@ -15,10 +15,12 @@ use Rattle.tree.proofs.Whole.{Whole, length-dropF, unplant}
 use Rattle.tree.specs.Base.{pick, toNat}
 use Rattle.definition.specs.Tree.{headT}
 use Rattle.definition.specs.Walk.{Outcome, refused, result, corePass}
-use Rattle.format.specs.Kinds.{allows, formOk, countOk, ruleOf}
-use Rattle.format.specs.Script.{Raw, Script, isLit, hasId, isArguments, idents, placeOf}
+use Rattle.format.specs.Kinds.{allows, rowOf, formOk, countOk}
+use Rattle.format.specs.declared.Raw.{Raw}
+use Rattle.format.specs.Script.{Script, isLit, hasId, isArguments, idents, placeOf}
 use Rattle.format.specs.Read.{Read, bad, script, Place, u32, endsFrom, textsFrom, nodesFrom, rising, distinct, fieldsOk, nodeOk, below, fills, nodesOk, checked, read}
-use Rattle.definition.specs.Script.{Answer, coreNode, coreFrom, coreNodes, answer, passTree, pass, back, rootOf, passRead, passFile}
+use Rattle.format.specs.Core.{coreNode, coreFrom, coreNodes, back}
+use Rattle.definition.specs.Script.{Answer, answer, passTree, pass, rootOf, passRead, passFile}
 use Rattle.definition.specs.Entry.{Entry, refused as refusedE, written, entryRead, entry}
 use Rattle.flat.specs.WalkF.{runsF, flatOutcome}
 use Rattle.flat.specs.PassF.{startF, answerF, passF, passReadF, passFileF, entryReadF, entryF}
@@ -88,21 +90,21 @@ by-lit P a b c d k t = go (decLe k 22) (decLe k 23) (decLe k 24)
     go (no f) (no g) (yes l) = subst P (omega (arith, lo, g, l)) c
     go (no f) (no g) (no h) = subst P (omega (arith, hi, h)) d
 
-lit-leaf : (k : ℕ) → T (leb 22 k && leb k 25) → (f n : ℕ) → T (countOk k f n) → n ≡ 0
-unfolding countOk
-lit-leaf = by-lit (λ (k : ℕ). (f n : ℕ) → T (leb (ruleOf k .least f) n && leb n (ruleOf k .most f)) → n ≡ 0) none none none none
+lit-leaf : (k : ℕ) → T (leb 22 k && leb k 25) → (f n : ℕ) → T (countOk (rowOf k f) n) → n ≡ 0
+unfolding rowOf
+lit-leaf = by-lit (λ (k : ℕ). (f n : ℕ) → T (countOk (rowOf k f) n) → n ≡ 0) none none none none
   where
     none : (f n : ℕ) → T (leb 0 n && leb n 0) → n ≡ 0
     none f n h = omega (arith, leb→le n 0 (and-right (leb 0 n) (leb n 0) h))
 
 node-leaf : (t : ℕ) (p : Place) (x : Raw) → T (nodeOk t p x) → T (isLit x) → x .arity ≡ 0
 unfolding nodeOk
-node-leaf t p x h l = lit-leaf (x .kind) l (x .form) (x .arity) (and-right (ltb 0 (p .left) && allows (p .class) (x .kind) (x .arity) && fieldsOk t x && formOk (x .kind) (x .form)) (countOk (x .kind) (x .form) (x .arity)) h)
+node-leaf t p x h l = lit-leaf (x .kind) l (x .form) (x .arity) (and-right (ltb 0 (p .left) && allows (p .class) (x .kind) (x .arity) && fieldsOk t x && formOk (rowOf (x .kind) (x .form)) (x .form)) (countOk (rowOf (x .kind) (x .form)) (x .arity)) h)
 
-length-below : (p : Place) (x : Raw) (i m : ℕ) (ps : List Place) → length (below p x i m ps) ≡ m + length ps
+length-below : (n : ℕ) (x : Raw) (i m : ℕ) (ps : List Place) → length (below n x i m ps) ≡ m + length ps
 unfolding below
-length-below p x i zero ps = sym (zero-add (length ps))
-length-below p x i (suc m) ps = ap suc (length-below p x (suc i) m ps) ∙ sym (suc-add m (length ps))
+length-below n x i zero ps = sym (zero-add (length ps))
+length-below n x i (suc m) ps = ap suc (length-below n x (suc i) m ps) ∙ sym (suc-add m (length ps))
 
 -- so the core's nodes are as many trees
 pick-arity : (p q : Bool) (a b c : Core) (m : ℕ) → (T p → a .arity ≡ m) → b .arity ≡ m → c .arity ≡ m → pick p a (pick q b c) .arity ≡ m
@@ -120,13 +122,13 @@ unfolding fills coreNode
 core-trees s m t [] [] h = (refl, tt)
 core-trees s m t [] (x ∷ xs) h = absurd h
 core-trees s m t (p ∷ ps) [] h = absurd h
-core-trees s m t (p ∷ ps) (x ∷ xs) h = go (nodeOk t p x) refl h (core-trees s (suc m) t (below p x 0 (x .arity) ps) xs)
+core-trees s m t (p ∷ ps) (x ∷ xs) h = go (nodeOk t p x) refl h (core-trees s (suc m) t (below (p .left - 1) x 0 (x .arity) ps) xs)
   where
-    go : (q : Bool) → nodeOk t p x ≡ q → T (elim q [ true ↦ fills t (below p x 0 (x .arity) ps) xs | false ↦ false ])
-        → (T (fills t (below p x 0 (x .arity) ps) xs) → Trees (length (below p x 0 (x .arity) ps)) (coreFrom s (suc m) xs))
+    go : (q : Bool) → nodeOk t p x ≡ q → T (elim q [ true ↦ fills t (below (p .left - 1) x 0 (x .arity) ps) xs | false ↦ false ])
+        → (T (fills t (below (p .left - 1) x 0 (x .arity) ps) xs) → Trees (length (below (p .left - 1) x 0 (x .arity) ps)) (coreFrom s (suc m) xs))
         → Trees (suc (length ps)) (coreNode s m x ∷ coreFrom s (suc m) xs)
     go true e h ih = trees-more (length ps) (coreNode s m x) (coreFrom s (suc m) xs) (subst (λ (n : ℕ). Trees n (coreFrom s (suc m) xs))
-        (length-below p x 0 (x .arity) ps ∙ ap (λ (n : ℕ). n + length ps) (sym (core-arity s m x (node-leaf t p x (subst T (sym e) tt))))) (ih h))
+        (length-below (p .left - 1) x 0 (x .arity) ps ∙ ap (λ (n : ℕ). n + length ps) (sym (core-arity s m x (node-leaf t p x (subst T (sym e) tt))))) (ih h))
     go false e h ih = absurd h
 
 record One (ts : Forest) : Type 0 where

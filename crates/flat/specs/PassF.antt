@@ -9,7 +9,8 @@ use Rattle.definition.specs.Scope.{vVar, fn, newScope}
 use Rattle.definition.specs.Walk.{St, declaring}
 use Rattle.format.specs.Script.{Script}
 use Rattle.format.specs.Read.{Read, bad, script, read}
-use Rattle.definition.specs.Script.{Answer, no!, yes!, back, rootOf, coreNodes}
+use Rattle.format.specs.Core.{back, coreNodes}
+use Rattle.definition.specs.Script.{Answer, no!, yes!, rootOf}
 use Rattle.definition.specs.Entry.{Entry, refused, written}
 use Rattle.flat.specs.WalkF.{OutcomeF, refusedF, resultF, runsF}
 

@@ -5,8 +5,9 @@ use mathlib.Core.List.{List, [], _∷_}
 use Prim.Native.Nat.{ℕ, zero, suc, _+_, _/_, _%_}
 use lib.Dec.{eqb, ltb, leb}
 use lib.ListN.{getD}
-use Rattle.tree.specs.Base.{pick, toNat, member}
+use Rattle.tree.specs.Base.{pick}
 use Rattle.format.specs.declared.kinds.Class.{Class}
+use Rattle.format.specs.declared.kinds.Row.{Row}
 pub use Rattle.format.specs.declared.kinds.Class.the-variants.{Root, Statement, Expression, Binding, Block, Declarator, Catch, Case, Property, Updated, Assigned, Start, Head}
 
 -- s and e of document 01
@@ -32,139 +33,133 @@ allows Assigned k n = eqb k 20 || eqb k 37 || eqb k 38
 allows Start k n = eqb k 5 || isExpr k
 allows Head k n = eqb k 20 || (eqb k 5 && eqb n 1)
 
--- a kind's least and greatest form; by form, its least and greatest number of children; by form and that number, what child i is
-pub record Rule : Type 0 where
-  pub from : ℕ
-  pub to : ℕ
-  pub least : ℕ → ℕ
-  pub most : ℕ → ℕ
-  pub child : ℕ → ℕ → ℕ → Class
-
 -- any count: the field for it has two bytes
 abbrev pub any : ℕ
 any = 65535
 
--- one form; n to m children
-abbrev pub rule : ℕ → ℕ → (ℕ → ℕ → ℕ → Class) → Rule
-rule n m c = record { from = 0; to = 0; least = λ f. n; most = λ f. m; child = c }
+-- forms 0 to `to`; n to m children: all of one class; the first of another; the last of another
+abbrev pub every : ℕ → ℕ → ℕ → Class → Row
+every to n m c = record { from = 0; to = to; least = n; most = m; only = c; first = c; rest = c; last = c }
 
--- forms 0 to g
-abbrev pub ruleTo : ℕ → ℕ → ℕ → (ℕ → ℕ → ℕ → Class) → Rule
-ruleTo g n m c = record { from = 0; to = g; least = λ f. n; most = λ f. m; child = c }
+abbrev pub led : ℕ → ℕ → ℕ → Class → Class → Row
+led to n m a c = record { from = 0; to = to; least = n; most = m; only = a; first = a; rest = c; last = c }
 
--- children that are all of one class; the first of another; the last of another
-abbrev pub every : Class → ℕ → ℕ → ℕ → Class
-every c f n i = c
-
-abbrev pub firstThen : Class → Class → ℕ → ℕ → ℕ → Class
-firstThen a c f n i = pick (eqb i 0) a c
-
-abbrev pub thenLast : Class → Class → ℕ → ℕ → ℕ → Class
-thenLast c z f n i = pick (eqb (i + 1) n) z c
-
-abbrev pub leaf : ℕ → Rule
-leaf g = ruleTo g 0 0 (every Expression)
-
--- is the bit b (1, 2 or 4) of a form set
-abbrev pub bit : ℕ → ℕ → Bool
-bit b f = eqb (f / b % 2) 1
+abbrev pub ended : ℕ → ℕ → ℕ → Class → Class → Row
+ended to n m c z = record { from = 0; to = to; least = n; most = m; only = z; first = c; rest = c; last = z }
 
 -- no such kind: no form will do
-abbrev pub noRule : Rule
-noRule = record { from = 1; to = 0; least = λ f. 0; most = λ f. 0; child = every Expression }
+abbrev pub noRow : Row
+noRow = record { from = 1; to = 0; least = 0; most = 0; only = Expression; first = Expression; rest = Expression; last = Expression }
 
-abbrev pub rules : List Rule
-rules =
-    noRule
+-- 12 for (form bits 1, 2, 4: start (5 or e), test, update present) then s
+abbrev pub forRow : ℕ → Row
+forRow f =
+    let n = 1 + f % 2 + f / 2 % 2 + f / 4 % 2 in
+    record { from = 0; to = 7; least = n; most = n; only = Statement; first = pick (eqb (f % 2) 1) Start Expression; rest = Expression; last = Statement }
+
+-- 13 for-in and 14 for-of: (5 of one declarator, or b) e s
+abbrev pub headRow : Row
+headRow = record { from = 0; to = 0; least = 3; most = 3; only = Head; first = Head; rest = Expression; last = Statement }
+
+-- 16 try 2 (form bits 1: then 17, 2: then 2; not 0)
+abbrev pub tryRow : ℕ → Row
+tryRow f =
+    let n = 1 + f % 2 + f / 2 % 2 in
+    record { from = 1; to = 3; least = n; most = n; only = Block; first = Block; rest = Catch; last = pick (eqb f 1) Catch Block }
+
+-- 19 case (form 1: e) s*
+abbrev pub caseRow : ℕ → Row
+caseRow f = led 1 f any (pick (eqb f 1) Expression Statement) Statement
+
+-- 36 new e e* (form 1: has a list)
+abbrev pub newRow : ℕ → Row
+newRow f = every 1 1 (pick (eqb f 1) any 1) Expression
+
+-- 39 function expression (form 1: b) b* 2; 40 arrow b* then 2 (form 0) or e (form 1)
+abbrev pub functionRow : ℕ → Row
+functionRow f = ended 1 (1 + f) any Binding Block
+
+abbrev pub arrowRow : ℕ → Row
+arrowRow f = ended 1 1 any Binding (pick (eqb f 1) Expression Block)
+
+-- by kind, from 0 on, and form
+abbrev pub rows : List (ℕ → Row)
+rows =
+    (λ f. noRow)
     -- 1 script s*; 2 block s*; 3 empty; 4 e
-    ∷ rule 0 any (every Statement)
-    ∷ rule 0 any (every Statement)
-    ∷ leaf 0
-    ∷ rule 1 1 (every Expression)
+    ∷ (λ f. every 0 0 any Statement)
+    ∷ (λ f. every 0 0 any Statement)
+    ∷ (λ f. every 0 0 0 Expression)
+    ∷ (λ f. every 0 1 1 Expression)
     -- 5 declaration 6 (one or more; form 0 var, 1 let, 2 const); 6 declarator b [e]; 7 function b b* 2
-    ∷ ruleTo 2 1 any (every Declarator)
-    ∷ rule 1 2 (firstThen Binding Expression)
-    ∷ rule 2 any (thenLast Binding Block)
+    ∷ (λ f. every 2 1 any Declarator)
+    ∷ (λ f. led 0 1 2 Binding Expression)
+    ∷ (λ f. ended 0 2 any Binding Block)
     -- 8 return [e]; 9 if e s [s]; 10 while e s; 11 do e s
-    ∷ rule 0 1 (every Expression)
-    ∷ rule 2 3 (firstThen Expression Statement)
-    ∷ rule 2 2 (firstThen Expression Statement)
-    ∷ rule 2 2 (firstThen Expression Statement)
-    -- 12 for (form bits 1, 2, 4: start, test, update present) then s
-    ∷ record {
-      from = 0;
-      to = 7;
-      least = λ f. 1 + toNat (bit 1 f) + toNat (bit 2 f) + toNat (bit 4 f);
-      most = λ f. 1 + toNat (bit 1 f) + toNat (bit 2 f) + toNat (bit 4 f);
-      child = λ f n i. pick (eqb (i + 1) n) Statement (pick (eqb i 0 && bit 1 f) Start Expression);
-    }
-    -- 13 for-in and 14 for-of: (5 of one declarator, or b) e s
-    ∷ rule 3 3 (λ f n i. pick (eqb i 0) Head (pick (eqb i 1) Expression Statement))
-    ∷ rule 3 3 (λ f n i. pick (eqb i 0) Head (pick (eqb i 1) Expression Statement))
-    -- 15 throw e
-    ∷ rule 1 1 (every Expression)
-    -- 16 try 2 (form bits 1: then 17, 2: then 2; not 0)
-    ∷ record {
-      from = 1;
-      to = 3;
-      least = λ f. 1 + toNat (bit 1 f) + toNat (bit 2 f);
-      most = λ f. 1 + toNat (bit 1 f) + toNat (bit 2 f);
-      child = λ f n i. pick (eqb i 1 && bit 1 f) Catch Block;
-    }
-    -- 17 catch [b] 2; 18 switch e 19*; 19 case (form 1: e) s*
-    ∷ rule 1 2 (thenLast Binding Block)
-    ∷ rule 1 any (firstThen Expression Case)
-    ∷ record { from = 0; to = 1; least = λ f. f; most = λ f. any; child = λ f n i. pick (eqb i 0 && eqb f 1) Expression Statement }
-    -- 20 binding; 21 identifier; 22 null; 23 boolean; 24 number; 25 string; 26 this
-    ∷ leaf 0
-    ∷ leaf 0
-    ∷ leaf 0
-    ∷ leaf 1
-    ∷ leaf 0
-    ∷ leaf 0
-    ∷ leaf 0
+    ∷ (λ f. every 0 0 1 Expression)
+    ∷ (λ f. led 0 2 3 Expression Statement)
+    ∷ (λ f. led 0 2 2 Expression Statement)
+    ∷ (λ f. led 0 2 2 Expression Statement)
+    -- 12 for; 13 for-in; 14 for-of; 15 throw e; 16 try
+    ∷ forRow
+    ∷ (λ f. headRow)
+    ∷ (λ f. headRow)
+    ∷ (λ f. every 0 1 1 Expression)
+    ∷ tryRow
+    -- 17 catch [b] 2; 18 switch e 19*; 19 case
+    ∷ (λ f. ended 0 1 2 Binding Block)
+    ∷ (λ f. led 0 1 any Expression Case)
+    ∷ caseRow
+    -- 20 binding; 21 identifier; 22 null; 23 boolean (form 0, 1); 24 number; 25 string; 26 this
+    ∷ (λ f. every 0 0 0 Expression)
+    ∷ (λ f. every 0 0 0 Expression)
+    ∷ (λ f. every 0 0 0 Expression)
+    ∷ (λ f. every 1 0 0 Expression)
+    ∷ (λ f. every 0 0 0 Expression)
+    ∷ (λ f. every 0 0 0 Expression)
+    ∷ (λ f. every 0 0 0 Expression)
     -- 27 array e*; 28 object 29*; 29 property, e
-    ∷ rule 0 any (every Expression)
-    ∷ rule 0 any (every Property)
-    ∷ rule 1 1 (every Expression)
+    ∷ (λ f. every 0 0 any Expression)
+    ∷ (λ f. every 0 0 any Property)
+    ∷ (λ f. every 0 1 1 Expression)
     -- 30 unary e; 31 update of 21, 37 or 38; 32 binary e e; 33 assign 20, 37 or 38, e; 34 conditional e e e
-    ∷ ruleTo 6 1 1 (every Expression)
-    ∷ ruleTo 3 1 1 (every Updated)
-    ∷ ruleTo 24 2 2 (every Expression)
-    ∷ ruleTo 15 2 2 (firstThen Assigned Expression)
-    ∷ rule 3 3 (every Expression)
-    -- 35 call e e*; 36 new e e* (form 1: has a list); 37 member e; 38 member e e
-    ∷ rule 1 any (every Expression)
-    ∷ record { from = 0; to = 1; least = λ f. 1; most = λ f. pick (eqb f 1) any 1; child = every Expression }
-    ∷ rule 1 1 (every Expression)
-    ∷ rule 2 2 (every Expression)
-    -- 39 function expression (form 1: b) b* 2; 40 arrow b* then 2 (form 0) or e (form 1)
-    ∷ record { from = 0; to = 1; least = λ f. 1 + f; most = λ f. any; child = thenLast Binding Block }
-    ∷ record { from = 0; to = 1; least = λ f. 1; most = λ f. any; child = λ f n i. pick (eqb (i + 1) n) (pick (eqb f 1) Expression Block) Binding }
+    ∷ (λ f. every 6 1 1 Expression)
+    ∷ (λ f. every 3 1 1 Updated)
+    ∷ (λ f. every 24 2 2 Expression)
+    ∷ (λ f. led 15 2 2 Assigned Expression)
+    ∷ (λ f. every 0 3 3 Expression)
+    -- 35 call e e*; 36 new; 37 member e; 38 member e e; 39 function expression; 40 arrow
+    ∷ (λ f. every 0 1 any Expression)
+    ∷ newRow
+    ∷ (λ f. every 0 1 1 Expression)
+    ∷ (λ f. every 0 2 2 Expression)
+    ∷ functionRow
+    ∷ arrowRow
     -- 41 parenthesis e; 42 sequence e e*; 43 break; 44 continue
-    ∷ rule 1 1 (every Expression)
-    ∷ rule 1 any (every Expression)
-    ∷ leaf 0
-    ∷ leaf 0
+    ∷ (λ f. every 0 1 1 Expression)
+    ∷ (λ f. every 0 1 any Expression)
+    ∷ (λ f. every 0 0 0 Expression)
+    ∷ (λ f. every 0 0 0 Expression)
     ∷ []
 
-abbrev pub ruleOf : ℕ → Rule
-ruleOf k = getD rules k noRule
+-- what kind k asks of a node of form f
+unfoldable pub rowOf : ℕ → ℕ → Row
+rowOf k f = getD rows k (λ f. noRow) f
 
--- a node's form and number of children, against its kind
-unfoldable pub formOk : ℕ → ℕ → Bool
-formOk k f = leb (ruleOf k .from) f && leb f (ruleOf k .to)
+-- a form, and a number of children, against a row
+abbrev pub formOk : Row → ℕ → Bool
+formOk r f = leb (r .from) f && leb f (r .to)
 
-unfoldable pub countOk : ℕ → ℕ → ℕ → Bool
-countOk k f n = leb (ruleOf k .least f) n && leb n (ruleOf k .most f)
+abbrev pub countOk : Row → ℕ → Bool
+countOk r n = leb (r .least) n && leb n (r .most)
 
 -- what child i of n may be
-unfoldable pub childOf : ℕ → ℕ → ℕ → ℕ → Class
-childOf k f n i = ruleOf k .child f n i
+abbrev pub childOf : Row → ℕ → ℕ → Class
+childOf r n i = pick (eqb n 1) (r .only) (pick (eqb i 0) (r .first) (pick (eqb (i + 1) n) (r .last) (r .rest)))
 
 -- the kinds whose text number, and whose 8 bytes, are used; of all others they are 0
 abbrev pub usesText : ℕ → Bool
-usesText k = member k (20 ∷ 21 ∷ 25 ∷ 29 ∷ 37 ∷ [])
+usesText k = eqb k 20 || eqb k 21 || eqb k 25 || eqb k 29 || eqb k 37
 
 abbrev pub usesBits : ℕ → Bool
-usesBits k = member k (20 ∷ 21 ∷ 24 ∷ [])
+usesBits k = eqb k 20 || eqb k 21 || eqb k 24

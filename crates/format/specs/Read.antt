@@ -7,8 +7,9 @@ use lib.Dec.{eqb, ltb, leb}
 use lib.ListN.{length, drop, take}
 use Rattle.tree.specs.Base.{pick}
 use Rattle.format.specs.declared.kinds.Class.{Class}
-use Rattle.format.specs.Kinds.{Root, allows, formOk, countOk, childOf, usesText, usesBits}
-use Rattle.format.specs.Script.{Raw, Script, sameText, idents}
+use Rattle.format.specs.Kinds.{Root, allows, rowOf, formOk, countOk, childOf, usesText, usesBits}
+use Rattle.format.specs.declared.Raw.{Raw}
+use Rattle.format.specs.Script.{Script, sameText, idents}
 
 -- little-endian numbers
 abbrev pub number : ℕ → List ℕ → ℕ
@@ -61,14 +62,16 @@ fieldsOk t x = pick (usesText (x .kind)) (ltb (x .text) t) (eqb (x .text) 0) && 
 
 -- a node, at a place of a script with t texts
 unfoldable pub nodeOk : ℕ → Place → Raw → Bool
-unfolding formOk countOk
-nodeOk t p x = ltb 0 (p .left) && allows (p .class) (x .kind) (x .arity) && fieldsOk t x && formOk (x .kind) (x .form) && countOk (x .kind) (x .form) (x .arity)
+unfolding rowOf
+nodeOk t p x =
+    let r = rowOf (x .kind) (x .form) in
+    ltb 0 (p .left) && allows (p .class) (x .kind) (x .arity) && fieldsOk t x && formOk r (x .form) && countOk r (x .arity)
 
--- the places of a node's children i to i + m - 1, before ps
-unfoldable pub below : Place → Raw → ℕ → ℕ → List Place → List Place
-unfolding childOf
-below p x i zero ps = ps
-below p x i (suc m) ps = record { class = childOf (x .kind) (x .form) (x .arity) i; left = p .left - 1 } ∷ below p x (suc i) m ps
+-- the places of a node's children i to i + m - 1, each with the depth n left, before ps
+unfoldable pub below : ℕ → Raw → ℕ → ℕ → List Place → List Place
+unfolding rowOf
+below n x i zero ps = ps
+below n x i (suc m) ps = record { class = childOf (rowOf (x .kind) (x .form)) (x .arity) i; left = n } ∷ below n x (suc i) m ps
 
 -- the nodes fill the places, none missing and none left over
 unfoldable pub fills : ℕ → List Place → List Raw → Bool
@@ -76,7 +79,7 @@ unfolding nodeOk below
 fills t [] [] = true
 fills t [] (x ∷ xs) = false
 fills t (p ∷ ps) [] = false
-fills t (p ∷ ps) (x ∷ xs) = elim (nodeOk t p x) [ true ↦ fills t (below p x 0 (x .arity) ps) xs | false ↦ false ]
+fills t (p ∷ ps) (x ∷ xs) = elim (nodeOk t p x) [ true ↦ fills t (below (p .left - 1) x 0 (x .arity) ps) xs | false ↦ false ]
 
 unfoldable pub nodesOk : Script → Bool
 unfolding fills

@@ -5,14 +5,7 @@ use Prim.Native.Nat.{ℕ, zero, suc, _+_}
 use lib.Dec.{eqb, leb}
 use lib.ListN.{length, getD}
 use Rattle.tree.specs.Base.{pick}
-
--- a node. `bits`: context or number
-pub record Raw : Type 0 where
-  pub kind : ℕ
-  pub form : ℕ
-  pub arity : ℕ
-  pub text : ℕ
-  pub bits : ℕ
+use Rattle.format.specs.declared.Raw.{Raw}
 
 pub record Script : Type 0 where
   pub nodes : List Raw

@@ -2,7 +2,8 @@
 use mathlib.Core.List.{List, [], _∷_, _++_}
 use Prim.Native.Nat.{ℕ, zero, suc, _+_, _*_, _/_, _%_}
 use lib.ListN.{length}
-use Rattle.format.specs.Script.{Raw, Script}
+use Rattle.format.specs.declared.Raw.{Raw}
+use Rattle.format.specs.Script.{Script}
 
 -- k bytes of a number, little-endian
 abbrev pub bytes : ℕ → ℕ → List ℕ

@@ -13,8 +13,10 @@ use Rattle.tree.specs.Tree.{Core, flat, plant}
 use Rattle.tree.specs.Base.{pick}
 use Rattle.definition.specs.Tree.{headT}
 use Rattle.definition.specs.Walk.{Outcome, refused, result}
-use Rattle.format.specs.Script.{Raw, Script, isLit, hasId, sameId, nodeAt, zeroNode, idents}
-use Rattle.definition.specs.Script.{back, litOut, idOut, plainOut, identAt, coreNodes, coreTree, passTree, answer, pass, rootOf}
+use Rattle.format.specs.declared.Raw.{Raw}
+use Rattle.format.specs.Script.{Script, isLit, hasId, sameId, nodeAt, zeroNode, idents}
+use Rattle.format.specs.Core.{back, litOut, idOut, plainOut, identAt, coreNodes}
+use Rattle.definition.specs.Script.{coreTree, passTree, answer, pass, rootOf}
 use Rattle.definition.specs.Paired.{Agree, Paired, Together, AlikeNode, AlikeRoots, Alike, KeptLit, KeptAll, Kept}
 use Rattle.laws.proofs.Tests.{is-true, is-T, lit-no-id}
 use Rattle.laws.proofs.Idents.{sameId-refl}

@@ -8,7 +8,8 @@ use native.Mathlib.Nat.{le-of-suc-le-suc, not-suc-le-zero}
 use lib.Dec.{T, eqb, eqb-refl}
 use lib.ListN.{length, getD}
 use Rattle.tree.specs.Base.{pick}
-use Rattle.format.specs.Script.{Raw, Script, hasId, sameId, known, enter, enterAll, idents, placeOf, zeroNode, nodeAt}
+use Rattle.format.specs.declared.Raw.{Raw}
+use Rattle.format.specs.Script.{Script, hasId, sameId, known, enter, enterAll, idents, placeOf, zeroNode, nodeAt}
 use Rattle.laws.proofs.Tests.{is-true, is-T, both, or-left, or-right}
 
 pub sameId-refl : (x : Raw) → T (sameId x x)

@@ -12,8 +12,10 @@ use Rattle.tree.specs.Tree.{Core, plant, takeF, dropF, flat, flats}
 use Rattle.tree.specs.Base.{pick, toNat}
 use Rattle.definition.specs.Tree.{Tree, Forest, node, nil, cons, headT}
 use Rattle.definition.specs.Walk.{Outcome, corePass}
-use Rattle.format.specs.Script.{Raw, Script, isLit, hasId, isArguments, nodeAt, zeroNode, idents, placeOf}
-use Rattle.definition.specs.Script.{coreNode, coreFrom, coreNodes, coreTree, passTree}
+use Rattle.format.specs.declared.Raw.{Raw}
+use Rattle.format.specs.Script.{Script, isLit, hasId, isArguments, nodeAt, zeroNode, idents, placeOf}
+use Rattle.format.specs.Core.{coreNode, coreFrom, coreNodes}
+use Rattle.definition.specs.Script.{coreTree, passTree}
 use Rattle.laws.proofs.Tests.{is-T}
 use Rattle.laws.proofs.Idents.{ident-lt}
 use Rattle.laws.proofs.Keep.{All}

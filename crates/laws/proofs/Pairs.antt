@@ -10,8 +10,9 @@ use lib.Dec.{T, eqb, leb}
 use lib.ListN.{length, getD}
 use Rattle.tree.specs.Tree.{Core}
 use Rattle.tree.specs.Base.{pick, toNat}
-use Rattle.format.specs.Script.{Raw, Script, isLit, hasId, sameId, isArguments, nodeAt, zeroNode, known, enter, enterAll, idents, placeOf}
-use Rattle.definition.specs.Script.{coreNode, coreFrom, coreNodes}
+use Rattle.format.specs.declared.Raw.{Raw}
+use Rattle.format.specs.Script.{Script, isLit, hasId, sameId, isArguments, nodeAt, zeroNode, known, enter, enterAll, idents, placeOf}
+use Rattle.format.specs.Core.{coreNode, coreFrom, coreNodes}
 use Rattle.definition.specs.Paired.{Agree, Paired, Number}
 use Rattle.laws.proofs.Tests.{is-true, is-T, and-left, lit-no-id}
 

@@ -3,7 +3,8 @@ use mathlib.Core.Path.{_≡_, refl, sym, ap, _∙_, subst}
 use mathlib.Core.Bool.{Bool, true, false, _&&_, _||_}
 use Prim.Native.Nat.{ℕ}
 use lib.Dec.{T, eqb, leb, eqb→eq}
-use Rattle.format.specs.Script.{Raw, isLit, hasId}
+use Rattle.format.specs.declared.Raw.{Raw}
+use Rattle.format.specs.Script.{isLit, hasId}
 
 pub is-true : (b : Bool) → T b → b ≡ true
 is-true true t = refl

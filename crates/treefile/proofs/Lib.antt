@@ -1,0 +1,6 @@
+pub mod Numbers
+pub mod Raws
+pub mod Fill
+pub mod Strings
+pub mod Heads
+pub mod Names
