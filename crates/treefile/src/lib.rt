@@ -2,5 +2,6 @@
 mod fields;
 mod header;
 mod idents;
+mod load;
 mod nodes;
 mod texts;
