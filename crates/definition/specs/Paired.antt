@@ -96,7 +96,6 @@ Demand3 = (as′ bs : List ℕ) (a b : Script) → read as′ ≡ script a → r
 
 -- the result file of a script, as Entry writes it
 abbrev pub fileOf : Script → List Out → List ℕ
-unfolding file
 fileOf s xs = file (record { nodes = map (λ (x : Out). x .raw) xs; texts = s .texts })
 
 -- two written results: the files of two lists of nodes that are alike, whose literals are the input's
