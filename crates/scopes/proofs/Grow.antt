@@ -14,9 +14,9 @@ use Rattle.words.specs.Tab.{tab, tab-suc, tab-zero, length-tab, getD-tab, getD-
 use Rattle.words.specs.Layout.{yes, Agree, coreFrom, run, tree}
 use Rattle.words.specs.Moved.{Put4, Put5, Zeroed}
 use Rattle.words.proofs.Nodes.{run-same, beyond-same}
-use Rattle.scopes.specs.State.{varTypeOf, aliasAt, scopeKindOf, lenAt, off, runAt, constAt, bindAt, Head, unresAt, headAt, headsAt, heads, flags, binds, consts, split, stack, Fits, Good, Becomes}
+use Rattle.scopes.specs.State.{valueOf, varTypeOf, aliasAt, scopeKindOf, lenAt, off, runAt, constAt, bindAt, Head, unresAt, headAt, headsAt, heads, flags, binds, consts, split, stack, Fits, Good, Becomes}
 use Rattle.scopes.proofs.Split as laws
-use Rattle.scopes.proofs.Words.{bind-eq, heads-part, part-coff, part-crun, part-consts, part-tree, whole-none}
+use Rattle.scopes.proofs.Words.{bind-eq, bind-same, heads-part, part-coff, part-crun, part-consts, part-tree, whole-none}
 
 -- the scopes begin before a longer list too
 fits-more : (hs : List Head) (n : ℕ) → Fits hs n → Fits hs (n + 1)
@@ -72,18 +72,16 @@ module _ (w u v : List ℕ) (g : Good w) (h : getD w 1 0 < 256) (z : 0 < getD w 
   run-new = rw len-new (tab-zero (λ j. coreFrom w′ (2064 + (off w′ n + j) * 2)))
 
   bind-old : (j : ℕ) → j < n → bindAt w′ j ≡ bindAt w j
-  bind-old j l =
-      let f : (q : ℕ) → 4112 + j * 10 ≤ q → q < 4112 + j * 10 + 10 → getD w′ q 0 ≡ getD w q 0 = λ q a b. out q (inl (omega arith)) (λ e. omega arith) in
-      bind-eq (f (4112 + j * 10) (omega arith) (omega arith)) (f (4112 + j * 10 + 1) (omega arith) (omega arith)) (f (4112 + j * 10 + 2) (omega arith) (omega arith)) (f (4112 + j * 10 + 3) (omega arith) (omega arith))
-      (ap yes (f (4112 + j * 10 + 4) (omega arith) (omega arith))) (f (4112 + j * 10 + 5) (omega arith) (omega arith)) (run-old j l) (f (4112 + j * 10 + 6) (omega arith) (omega arith)) (f (4112 + j * 10 + 7) (omega arith) (omega arith))
+  bind-old j l = bind-same w w′ j (λ q a b. out q (inl (omega arith)) (λ e. omega arith)) (run-old j l)
 
   abbrev new : VarInfo
   new = fresh id (varTypeOf kind) (aliasAt alias) (yes prevented) (yes undef) none
 
   bind-new : bindAt w′ n ≡ new
   bind-new =
-      bind-eq (first (4112 + n * 10) (omega arith) (omega arith) ∙ one .at0) (first (4112 + n * 10 + 1) (omega arith) (omega arith) ∙ one .at1) (first (4112 + n * 10 + 2) (omega arith) (omega arith) ∙ one .at2) (first (4112 + n * 10 + 3) (omega arith) (omega arith) ∙ one .at3)
-      (ap yes (first (4112 + n * 10 + 4) (omega arith) (omega arith) ∙ one .at4)) (getD-set-other v 1 (4112 + n * 10 + 5) (n + 1) 0 (λ e. omega arith) ∙ two .at0) run-new (at 1 (4112 + n * 10 + 6) 0 (omega arith) (omega arith) (two .at1)) (at 2 (4112 + n * 10 + 7) 0 (omega arith) (omega arith) (two .at2))
+      let at₁ : (s x : ℕ) → 4112 + n * 10 ≤ s → s < 4112 + n * 10 + 5 → getD u s 0 ≡ x → getD w′ s 0 ≡ x = λ s x a b e. first s a b ∙ e in
+      bind-eq (at₁ (4112 + n * 10) id (omega arith) (omega arith) (one .at0)) (ap varTypeOf (at₁ (4112 + n * 10 + 1) kind (omega arith) (omega arith) (one .at1))) (ap aliasAt (at₁ (4112 + n * 10 + 2) alias (omega arith) (omega arith) (one .at2))) (at₁ (4112 + n * 10 + 3) 0 (omega arith) (omega arith) (one .at3))
+      (ap yes (at₁ (4112 + n * 10 + 4) prevented (omega arith) (omega arith) (one .at4))) (ap yes (getD-set-other v 1 (4112 + n * 10 + 5) (n + 1) 0 (λ e. omega arith) ∙ two .at0)) (ap valueOf run-new) (ap yes (at 1 (4112 + n * 10 + 6) 0 (omega arith) (omega arith) (two .at1))) (ap yes (at 2 (4112 + n * 10 + 7) 0 (omega arith) (omega arith) (two .at2)))
 
   flag-new : getD w′ (4112 + n * 10 + 9) 0 ≡ 0
   flag-new = at 4 (4112 + n * 10 + 9) 0 (omega arith) (omega arith) (two .at4)
@@ -167,10 +165,7 @@ module _ {w : List ℕ} (y : List ℕ) (g : Good w) (n : ℕ) (h : n ≤ getD w 
       (run-same w y 2064 (off w k) (lenAt w k) 512 (omega (arith, sum-part (λ j. lenAt w j) k (getD w 1 0) (omega arith), g .vals)) (λ j a b. bs j a (omega arith)))
 
   pub part-bind : (k : ℕ) → k < n → bindAt y k ≡ bindAt w k
-  part-bind j l =
-      let f : (q : ℕ) → 4112 + j * 10 ≤ q → q < 4112 + j * 10 + 10 → getD y q 0 ≡ getD w q 0 = λ q a b. bt q (omega arith) (omega arith) in
-      bind-eq (f (4112 + j * 10) (omega arith) (omega arith)) (f (4112 + j * 10 + 1) (omega arith) (omega arith)) (f (4112 + j * 10 + 2) (omega arith) (omega arith)) (f (4112 + j * 10 + 3) (omega arith) (omega arith))
-      (ap yes (f (4112 + j * 10 + 4) (omega arith) (omega arith))) (f (4112 + j * 10 + 5) (omega arith) (omega arith)) (part-run j l) (f (4112 + j * 10 + 6) (omega arith) (omega arith)) (f (4112 + j * 10 + 7) (omega arith) (omega arith))
+  part-bind j l = bind-same w y j (λ q a b. bt q (omega arith) (omega arith)) (part-run j l)
 
   pub part-binds : tab n (λ k. bindAt y k) ≡ tab n (λ k. bindAt w k)
   part-binds = tab-ext n (λ k. bindAt y k) (λ k. bindAt w k) part-bind

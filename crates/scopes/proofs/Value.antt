@@ -12,9 +12,9 @@ use Rattle.words.specs.Tab.{tab, length-tab, getD-tab, set-tab, below-or-not, s
 use Rattle.words.specs.Layout.{yes, run, tree}
 use Rattle.words.specs.Moved.{Moved}
 use Rattle.words.proofs.Nodes.{run-moved, run-at, run-out, tree-at, beyond-same}
-use Rattle.scopes.specs.State.{valueOf, runOf, lenAt, off, runAt, bindAt, heads, flags, binds, consts, split, stack, Good, Becomes, place, Names}
+use Rattle.scopes.specs.State.{varTypeOf, aliasAt, valueOf, runOf, lenAt, off, runAt, bindAt, heads, flags, binds, consts, split, stack, Good, Becomes, place, Names}
 use Rattle.scopes.proofs.Split as laws
-use Rattle.scopes.proofs.Words.{Kept, bind-eq, kept-good, kept-becomes, others-self}
+use Rattle.scopes.proofs.Words.{Kept, bind-eq, kept-good, changed}
 
 -- a part of the tree has the names of the tree
 run-names : (w : List ℕ) (i m : ℕ) → Names (tree w) → i + m ≤ getD w 0 0 → Names (run w 16 i m)
@@ -108,8 +108,8 @@ module _ (w u v : List ℕ) (g : Good w) (k i m : ℕ) (h : k < getD w 1 0) (hi 
 
   bind-with : (j : ℕ) (t : List Core) → runAt w′ j ≡ t → bindAt w′ j ≡ withValue (valueOf t) (bindAt w j)
   bind-with j t r =
-      bind-eq (named j) (aside j 1 (omega arith) (λ e. omega arith)) (aside j 2 (omega arith) (λ e. omega arith)) (aside j 3 (omega arith) (λ e. omega arith))
-      (ap yes (aside j 4 (omega arith) (λ e. omega arith))) (aside j 5 (omega arith) (λ e. omega arith)) r (aside j 6 (omega arith) (λ e. omega arith)) (aside j 7 (omega arith) (λ e. omega arith))
+      bind-eq (named j) (ap varTypeOf (aside j 1 (omega arith) (λ e. omega arith))) (ap aliasAt (aside j 2 (omega arith) (λ e. omega arith))) (aside j 3 (omega arith) (λ e. omega arith))
+      (ap yes (aside j 4 (omega arith) (λ e. omega arith))) (ap yes (aside j 5 (omega arith) (λ e. omega arith))) (ap valueOf r) (ap yes (aside j 6 (omega arith) (λ e. omega arith))) (ap yes (aside j 7 (omega arith) (λ e. omega arith)))
 
   value-good : runOf (valueOf (run w 16 i m)) ≡ run w 16 i m → Good w′
   value-good s =
@@ -118,17 +118,4 @@ module _ (w u v : List ℕ) (g : Good w) (k i m : ℕ) (h : k < getD w 1 0) (hi 
       (λ j l. ⊎-elim (λ (e : j ≡ k). rw (e, run-this) (record { one = s; names = run-names w i m (g .names) hi })) (λ (d : j ≡ k → ⊥). rw (run-other j l d) (g .whole j l)) (same-or-not j k))
 
   pub valued : (x : ℕ) → place x (heads w) (binds w) ≡ suc k → runOf (valueOf (run w 16 i m)) ≡ run w 16 i m → Becomes w w′ (change x (withValue (valueOf (run w 16 i m))) (stack w))
-  unfolding stack binds
-  valued x e s =
-      let f : ℕ → VarInfo = λ j. bindAt w j in
-      let c : VarInfo → VarInfo = withValue (valueOf (run w 16 i m)) in
-      let there : getD (tab n f) k laws.noBind ≡ bindAt w k = getD-tab n f k laws.noBind h in
-      let new : tab (getD w′ 1 0) (λ j. bindAt w′ j) ≡ laws.touch k c (tab n f) =
-      rw (value-kept .counts 1 (omega arith) (omega arith)) (set-tab n f (λ j. bindAt w′ j) k (c (bindAt w k)) h (bind-with k (run w 16 i m) run-this) (λ j l d. bind-with j (runAt w j) (run-other j l d))
-      ∙ sym (laws.touch-set k c (tab n f) laws.noBind (rw length-tab h) ∙ ap (λ (b : VarInfo). set (tab n f) k (c b)) there)) in
-      kept-becomes g value-kept (laws.touch k c (tab n f)) (change x c (split (heads w) (flags w) (tab n f) (consts w))) (value-good s) new
-      (laws.change-place x c (heads w) (flags w) (tab n f) (consts w) ∙ rw e refl)
-
-pub unvalued : (w : List ℕ) (x : ℕ) (f : VarInfo → VarInfo) → Good w → place x (heads w) (binds w) ≡ 0 → Becomes w w (change x f (stack w))
-unfolding stack
-unvalued w x f g e = record { good = g; is = sym (laws.change-place x f (heads w) (flags w) (binds w) (consts w) ∙ rw e refl); tree = refl; others = others-self w; rest = refl }
+  valued x e s = changed g value-kept k h (withValue (valueOf (run w 16 i m))) (bind-with k (run w 16 i m) run-this) (λ j l d. bind-with j (runAt w j) (run-other j l d)) (value-good s) x e

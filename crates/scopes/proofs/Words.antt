@@ -2,6 +2,7 @@
 use mathlib.Core.Path.{_≡_, refl, sym, ap, _∙_}
 use mathlib.Core.List.{List, [], _∷_, _++_, map}
 use mathlib.Core.Bool.{Bool, true, false, _||_, _&&_}
+use mathlib.Core.Option.{Option}
 use mathlib.Core.Logic.{⊎-elim}
 use Prim.Native.Nat.{ℕ, zero, suc, _+_, _-_, _*_, _%_, _≤_, _<_}
 use native.Mathlib.Nat.{eq-or-lt-of-le}
@@ -10,8 +11,8 @@ use borrow.Author.Tests.{eq-eqb, ne-eqb}
 use lib.ListN.{length, getD, set, drop, length-set, length-drop}
 use lib.Dec.{eqb}
 use lib.Seq.{getD-set-same, getD-set-other, drop-set-lt, getD-drop}
-use Rattle.tree.specs.Tree.{Core, noCore}
-use Rattle.definition.specs.Scope.{VarInfo, Stack, change, prevent, preventInline, preventOne, valueIs}
+use Rattle.tree.specs.Tree.{Tree, Core, noCore}
+use Rattle.definition.specs.Scope.{VarType, VarInfo, Stack, change, prevent, preventInline, preventOne, valueIs}
 use Rattle.words.specs.Tab.{tab, length-tab, getD-tab, tab-ext, set-tab, take-tab, sum-ext, sum-part}
 use Rattle.words.specs.Layout.{yes, Agree, coreFrom, tree, beyond}
 use Rattle.words.proofs.Nodes.{run-same, run-length, run-at, tree-same}
@@ -188,27 +189,56 @@ module _ {w w′ : List ℕ} (g : Good w) (r : Runs w w′) where
   pub runs-good : Kept w w′ → Good w′
   runs-good t = kept-good g t (rw (runs-off (getD w 1 0) (g .count)) (g .vals)) (λ k h. let l = g .count in rw (r .ids k (omega arith)) (g .ids k h)) (λ k h. rw (runs-at k h) (g .whole k h))
 
--- a binding by its words
-pub bind-eq : {a a′ b b′ c c′ d d′ f f′ h h′ i i′ : ℕ} {e e′ : Bool} {v v′ : List Core} → a ≡ a′ → b ≡ b′ → c ≡ c′ → d ≡ d′ → e ≡ e′ → f ≡ f′ → v ≡ v′ → h ≡ h′ → i ≡ i′
-    → _≡_ {A = VarInfo} (record { id = a; kind = varTypeOf b; aliasOf = aliasAt c; readCnt = d; inlinePrevented = e; isUndefined = yes f; value = valueOf v; thisSensitive = yes h; hoisted = yes i })
-    (record { id = a′; kind = varTypeOf b′; aliasOf = aliasAt c′; readCnt = d′; inlinePrevented = e′; isUndefined = yes f′; value = valueOf v′; thisSensitive = yes h′; hoisted = yes i′ })
+-- a binding by its fields, and by its words
+pub bind-eq : {a a′ d d′ : ℕ} {b b′ : VarType} {c c′ : Option VarType} {e e′ f f′ h h′ i i′ : Bool} {v v′ : Option Tree} → a ≡ a′ → b ≡ b′ → c ≡ c′ → d ≡ d′ → e ≡ e′ → f ≡ f′ → v ≡ v′ → h ≡ h′ → i ≡ i′
+    → _≡_ {A = VarInfo} (record { id = a; kind = b; aliasOf = c; readCnt = d; inlinePrevented = e; isUndefined = f; value = v; thisSensitive = h; hoisted = i })
+    (record { id = a′; kind = b′; aliasOf = c′; readCnt = d′; inlinePrevented = e′; isUndefined = f′; value = v′; thisSensitive = h′; hoisted = i′ })
 bind-eq p q r s t u v x y = cc
 
--- binding k is marked
-module _ (w : List ℕ) (g : Good w) (k : ℕ) (h : k < getD w 1 0) where
-  abbrev w′ : List ℕ
-  w′ = set w (4112 + k * 10 + 4) 1
+pub bind-same : (w w′ : List ℕ) (j : ℕ) → Agree (4112 + j * 10) (4112 + j * 10 + 8) w w′ → runAt w′ j ≡ runAt w j → bindAt w′ j ≡ bindAt w j
+bind-same w w′ j f r =
+    let at : (q : ℕ) → q < 8 → getD w′ (4112 + j * 10 + q) 0 ≡ getD w (4112 + j * 10 + q) 0 = λ q l. f (4112 + j * 10 + q) (omega arith) (omega arith) in
+    bind-eq (f (4112 + j * 10) (omega arith) (omega arith)) (ap varTypeOf (at 1 (omega arith))) (ap aliasAt (at 2 (omega arith))) (at 3 (omega arith))
+    (ap yes (at 4 (omega arith))) (ap yes (at 5 (omega arith))) (ap valueOf r) (ap yes (at 6 (omega arith))) (ap yes (at 7 (omega arith)))
 
-  keeps : (j : ℕ) → (j ≡ 4112 + k * 10 + 4 → ⊥) → getD w′ j 0 ≡ getD w j 0
-  keeps j d = getD-set-other w (4112 + k * 10 + 4) j 1 0 d
+-- binding k changed by f, and no other: the innermost one of x, if that is its place
+module _ {w w′ : List ℕ} (g : Good w) (t : Kept w w′) (k : ℕ) (h : k < getD w 1 0) (f : VarInfo → VarInfo) (this : bindAt w′ k ≡ f (bindAt w k)) (other : (j : ℕ) → j < getD w 1 0 → (j ≡ k → ⊥) → bindAt w′ j ≡ bindAt w j) where
+  pub changed : Good w′ → (x : ℕ) → place x (heads w) (binds w) ≡ suc k → Becomes w w′ (change x f (stack w))
+  unfolding stack binds
+  changed good x e =
+      let b : ℕ → VarInfo = λ j. bindAt w j in
+      let n : ℕ = getD w 1 0 in
+      let there : getD (tab n b) k laws.noBind ≡ bindAt w k = getD-tab n b k laws.noBind h in
+      let new : tab (getD w′ 1 0) (λ j. bindAt w′ j) ≡ laws.touch k f (tab n b) =
+      rw (t .counts 1 (omega arith) (omega arith)) (set-tab n b (λ j. bindAt w′ j) k (f (bindAt w k)) h this other ∙ sym (laws.touch-set k f (tab n b) laws.noBind (rw length-tab h) ∙ ap (λ (c : VarInfo). set (tab n b) k (f c)) there)) in
+      kept-becomes g t (laws.touch k f (tab n b)) (change x f (split (heads w) (flags w) (tab n b) (consts w))) good new
+      (laws.change-place x f (heads w) (flags w) (tab n b) (consts w) ∙ rw e refl)
+
+pub unfound : (w : List ℕ) (x : ℕ) (f : VarInfo → VarInfo) → Good w → place x (heads w) (binds w) ≡ 0 → Becomes w w (change x f (stack w))
+unfolding stack
+unfound w x f g e = record { good = g; is = sym (laws.change-place x f (heads w) (flags w) (binds w) (consts w) ∙ rw e refl); tree = refl; others = others-self w; rest = refl }
+
+-- field q of binding k is stored: not its name, its value's length or its barrier
+module _ (w : List ℕ) (g : Good w) (k : ℕ) (h : k < getD w 1 0) (q v : ℕ) (lo : 0 < q) (hi : q < 8) where
+  abbrev w′ : List ℕ
+  w′ = set w (4112 + k * 10 + q) v
+
+  keeps : (j : ℕ) → (j ≡ 4112 + k * 10 + q → ⊥) → getD w′ j 0 ≡ getD w j 0
+  keeps j d = getD-set-other w (4112 + k * 10 + q) j v 0 d
 
   -- another field of any record
-  aside : (j f : ℕ) → f < 10 → (f ≡ 4 → ⊥) → getD w′ (4112 + j * 10 + f) 0 ≡ getD w (4112 + j * 10 + f) 0
-  aside j f l d = keeps (4112 + j * 10 + f) (λ e. omega arith)
+  pub field-same : (j p : ℕ) → p < 10 → (p ≡ q → ⊥) → getD w′ (4112 + j * 10 + p) 0 ≡ getD w (4112 + j * 10 + p) 0
+  field-same j p l d = keeps (4112 + j * 10 + p) (λ e. d (omega arith))
 
-  pub mark-kept : Kept w w′
+  pub field-name : (j : ℕ) → getD w′ (4112 + j * 10) 0 ≡ getD w (4112 + j * 10) 0
+  field-name j = keeps (4112 + j * 10) (λ e. omega arith)
+
+  pub field-here : getD w′ (4112 + k * 10 + q) 0 ≡ v
+  field-here = let l = g .count in let m = g .long in getD-set-same w (4112 + k * 10 + q) v 0 (omega arith)
+
+  pub field-kept : Kept w w′
   unfolding beyond
-  mark-kept =
+  field-kept =
       let l = g .count in
       record {
         size = simp length-set;
@@ -216,42 +246,29 @@ module _ (w : List ℕ) (g : Good w) (k : ℕ) (h : k < getD w 1 0) where
         nodes = λ j a b. keeps j (λ e. omega arith);
         cstore = λ j a b. keeps j (λ e. omega arith);
         tail = λ j a b. keeps j (λ e. omega arith);
-        flag = λ j a. aside j 9 (omega arith) (λ e. omega arith);
-        rest = drop-set-lt 16384 w (4112 + k * 10 + 4) 1 (omega arith);
+        flag = λ j a. field-same j 9 (omega arith) (λ e. omega arith);
+        rest = drop-set-lt 16384 w (4112 + k * 10 + q) v (omega arith);
       }
 
-  pub mark-runs : Runs w w′
-  mark-runs = let l = g .count in record { lens = λ j a. aside j 8 (omega arith) (λ e. omega arith); ids = λ j a. keeps (4112 + j * 10) (λ e. omega arith); store = λ j a b. keeps j (λ e. omega arith) }
+  pub field-runs : Runs w w′
+  field-runs = let l = g .count in record { lens = λ j a. field-same j 8 (omega arith) (λ e. omega arith); ids = λ j a. field-name j; store = λ j a b. keeps j (λ e. omega arith) }
 
-  name-kept : (j : ℕ) → getD w′ (4112 + j * 10) 0 ≡ getD w (4112 + j * 10) 0
-  name-kept j = keeps (4112 + j * 10) (λ e. omega arith)
+  pub field-good : Good w′
+  field-good = runs-good g field-runs field-kept
 
-  pub mark-this : bindAt w′ k ≡ prevent (bindAt w k)
+  pub field-other : (j : ℕ) → j < getD w 1 0 → (j ≡ k → ⊥) → bindAt w′ j ≡ bindAt w j
+  field-other j a d = bind-same w w′ j (λ i l m. keeps i (λ e. d (omega arith))) (runs-at g field-runs j a)
+
+-- binding k is marked
+module _ (w : List ℕ) (g : Good w) (k : ℕ) (h : k < getD w 1 0) where
+  pub mark-this : bindAt (set w (4112 + k * 10 + 4) 1) k ≡ prevent (bindAt w k)
   mark-this =
-      let l = g .count in
-      let m = g .long in
-      bind-eq (name-kept k) (aside k 1 (omega arith) (λ e. omega arith)) (aside k 2 (omega arith) (λ e. omega arith)) (aside k 3 (omega arith) (λ e. omega arith))
-      (ap yes (getD-set-same w (4112 + k * 10 + 4) 1 0 (omega arith))) (aside k 5 (omega arith) (λ e. omega arith)) (runs-at g mark-runs k h) (aside k 6 (omega arith) (λ e. omega arith)) (aside k 7 (omega arith) (λ e. omega arith))
+      let at : (p : ℕ) → p < 10 → (p ≡ 4 → ⊥) → getD (set w (4112 + k * 10 + 4) 1) (4112 + k * 10 + p) 0 ≡ getD w (4112 + k * 10 + p) 0 = field-same w g k h 4 1 (omega arith) (omega arith) k in
+      bind-eq (field-name w g k h 4 1 (omega arith) (omega arith) k) (ap varTypeOf (at 1 (omega arith) (λ e. omega arith))) (ap aliasAt (at 2 (omega arith) (λ e. omega arith))) (at 3 (omega arith) (λ e. omega arith))
+      (ap yes (field-here w g k h 4 1 (omega arith) (omega arith))) (ap yes (at 5 (omega arith) (λ e. omega arith))) (ap valueOf (runs-at g (field-runs w g k h 4 1 (omega arith) (omega arith)) k h)) (ap yes (at 6 (omega arith) (λ e. omega arith))) (ap yes (at 7 (omega arith) (λ e. omega arith)))
 
-  pub mark-other : (j : ℕ) → j < getD w 1 0 → (j ≡ k → ⊥) → bindAt w′ j ≡ bindAt w j
-  mark-other j a d =
-      bind-eq (name-kept j) (aside j 1 (omega arith) (λ e. omega arith)) (aside j 2 (omega arith) (λ e. omega arith)) (aside j 3 (omega arith) (λ e. omega arith))
-      (ap yes (keeps (4112 + j * 10 + 4) (λ e. d (omega arith)))) (aside j 5 (omega arith) (λ e. omega arith)) (runs-at g mark-runs j a) (aside j 6 (omega arith) (λ e. omega arith)) (aside j 7 (omega arith) (λ e. omega arith))
-
-  pub marked : (x : ℕ) → place x (heads w) (binds w) ≡ suc k → Becomes w w′ (change x prevent (stack w))
-  unfolding stack binds
-  marked x e =
-      let f : ℕ → VarInfo = λ j. bindAt w j in
-      let n : ℕ = getD w 1 0 in
-      let there : getD (tab n f) k laws.noBind ≡ bindAt w k = getD-tab n f k laws.noBind h in
-      let new : tab (getD w′ 1 0) (λ j. bindAt w′ j) ≡ laws.touch k prevent (tab n f) =
-      rw (mark-kept .counts 1 (omega arith) (omega arith)) (set-tab n f (λ j. bindAt w′ j) k (prevent (bindAt w k)) h mark-this mark-other ∙ sym (laws.touch-set k prevent (tab n f) laws.noBind (rw length-tab h) ∙ ap (λ (b : VarInfo). set (tab n f) k (prevent b)) there)) in
-      kept-becomes g mark-kept (laws.touch k prevent (tab n f)) (change x prevent (split (heads w) (flags w) (tab n f) (consts w))) (runs-good g mark-runs mark-kept) new
-      (laws.change-place x prevent (heads w) (flags w) (tab n f) (consts w) ∙ rw e refl)
-
-pub unfound : (w : List ℕ) (x : ℕ) → Good w → place x (heads w) (binds w) ≡ 0 → Becomes w w (change x prevent (stack w))
-unfolding stack
-unfound w x g e = record { good = g; is = sym (laws.change-place x prevent (heads w) (flags w) (binds w) (consts w) ∙ rw e refl); tree = refl; others = others-self w; rest = refl }
+  pub marked : (x : ℕ) → place x (heads w) (binds w) ≡ suc k → Becomes w (set w (4112 + k * 10 + 4) 1) (change x prevent (stack w))
+  marked = changed g (field-kept w g k h 4 1 (omega arith) (omega arith)) k h prevent mark-this (field-other w g k h 4 1 (omega arith) (omega arith)) (field-good w g k h 4 1 (omega arith) (omega arith))
 
 -- is a value an identifier: by its first node
 pub value-is : (x : ℕ) (xs : List Core) → 0 < length xs → valueIs x (valueOf xs) ≡ (eqb (getD xs 0 noCore .kind) 21 && eqb (getD xs 0 noCore .num) x)
@@ -319,10 +336,10 @@ module _ {w₀ w : List ℕ} {x k : ℕ} (g : Good w₀) (s : Swept w₀ w x k) 
       let g′ = swept-good in
       let n : getD w 1 0 ≡ getD w₀ 1 0 = s .kept .counts 1 (omega arith) (omega arith) in
       let h′ : k < getD w 1 0 = omega arith in
-      let other : (j : ℕ) → j < getD w₀ 1 0 → (j ≡ k → ⊥) → bindAt (set w (4112 + k * 10 + 4) 1) j ≡ bindAt w j = λ j a b. mark-other w g′ k h′ j (omega arith) b in
+      let other : (j : ℕ) → j < getD w₀ 1 0 → (j ≡ k → ⊥) → bindAt (set w (4112 + k * 10 + 4) 1) j ≡ bindAt w j = λ j a b. field-other w g′ k h′ 4 1 (omega arith) (omega arith) j (omega arith) b in
       record {
-        kept = kept-then (s .kept) (mark-kept w g′ k h′);
-        runs = runs-then (s .runs) (mark-runs w g′ k h′);
+        kept = kept-then (s .kept) (field-kept w g′ k h′ 4 1 (omega arith) (omega arith));
+        runs = runs-then (s .runs) (field-runs w g′ k h′ 4 1 (omega arith) (omega arith));
         done = upto (set w (4112 + k * 10 + 4) 1) (mark-this w g′ k h′ ∙ ap prevent (s .left k (omega arith) h) ∙ rw (same-hit, ← e) refl) other;
         left = λ j a b. other j b (λ q. omega arith) ∙ s .left j (omega arith) b;
       }

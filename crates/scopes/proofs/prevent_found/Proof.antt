@@ -18,7 +18,7 @@ returns : tie.Need-returns
 returns c =
     let at-find = c .before in
     let at-entry = at-find .before .before .before in
-    laws.unfound (at-entry .args .w .now) (at-entry .args .x) (at-entry .pre) (sym (at-find .find-binding .ensures .0) ∙ c .if1 .taken)
+    laws.unfound (at-entry .args .w .now) (at-entry .args .x) _ (at-entry .pre) (sym (at-find .find-binding .ensures .0) ∙ c .if1 .taken)
 
 sub-w : tie.Need-sub-w
 sub-w c = search needs

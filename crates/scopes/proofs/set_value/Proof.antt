@@ -6,6 +6,7 @@ use native.Mathlib.Omega.{arith}
 use lib.ListN.{getD, length-set}
 use Rattle.words.specs.Tab as sums
 use Rattle.scopes.specs.State.{lenAt}
+use Rattle.scopes.proofs.Words as laws
 use Rattle.scopes.proofs.Value as value
 use borrow.Author.Needs.{needs}
 use Rattle.scopes.proofs.set_value.Statement.{statement}
@@ -21,7 +22,7 @@ returns : tie.Need-returns
 returns c =
     let at-find = c .before in
     let at-entry = at-find .before .before .before in
-    value.unvalued (at-entry .args .w .now) (at-entry .args .x) _ (at-entry .pre .0) (sym (at-find .find-binding .ensures .0) ∙ c .if1 .taken)
+    laws.unfound (at-entry .args .w .now) (at-entry .args .x) _ (at-entry .pre .0) (sym (at-find .find-binding .ensures .0) ∙ c .if1 .taken)
 
 sub-k : tie.Need-sub-k
 sub-k c = search needs
