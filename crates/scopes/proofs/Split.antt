@@ -9,9 +9,10 @@ use native.Mathlib.Omega.{arith}
 use borrow.Author.Tests.{eq-eqb, ne-eqb}
 use lib.ListN.{length, getD, set, take, drop, length-take, length-drop}
 use lib.Dec.{eqb}
-use lib.Seq.{take-append-le, drop-append-le, take-length, drop-length}
+use lib.Seq.{take-append-le, drop-append-le, take-length, drop-length, getD-drop, getD-take}
+use Rattle.tree.specs.Base.{orElse}
 use Rattle.tree.specs.Tree.{Tree}
-use Rattle.definition.specs.Scope.{VarInfo, Scope, Stack, ScopeKind, findIn, hasIn, isSome, changeIn, change, onBindings, preventOne, preventInline, newScope, append, param, close, isFn, put}
+use Rattle.definition.specs.Scope.{VarInfo, Scope, Stack, ScopeKind, findIn, hasIn, isSome, changeIn, change, onBindings, preventOne, preventInline, newScope, append, param, close, isFn, put, findBinding}
 use Rattle.words.specs.Layout.{yes}
 use Rattle.scopes.specs.State.{Head, split, scopeOf, indexIn, place}
 
@@ -155,6 +156,43 @@ change-place i f (h ∷ hs) fl bs cs =
 -- the binding found
 pub find-place : (i : ℕ) (hs : List Head) (bs : List VarInfo) (k : ℕ) → place i hs bs ≡ suc k → k < length bs
 find-place i hs bs k e = omega (arith, place-le i hs bs)
+
+module _ (i : ℕ) (b : VarInfo) (bs : List VarInfo) where
+  found-yes : eqb (b .id) i ≡ true → findIn i (b ∷ bs) ≡ some b
+  found-yes e = ap (λ (p : Bool). elim p [ true ↦ some b | false ↦ findIn i bs ]) e
+
+  found-no : eqb (b .id) i ≡ false → findIn i (b ∷ bs) ≡ findIn i bs
+  found-no e = ap (λ (p : Bool). elim p [ true ↦ some b | false ↦ findIn i bs ]) e
+
+pub in-found : (i : ℕ) (bs : List VarInfo) → hasIn i bs ≡ true → findIn i bs ≡ some (getD bs (indexIn i bs) noBind)
+in-found i [] h = absurd (never h)
+in-found i (b ∷ bs) h = tested (eqb (b .id) i)
+    (λ e. found-yes i b bs e ∙ rw (index-yes i b bs e) refl)
+    (λ e. found-no i b bs e ∙ rw (index-no i b bs e) (in-found i bs (sym (has-no i b bs e) ∙ h)))
+
+pub in-none : (i : ℕ) (bs : List VarInfo) → hasIn i bs ≡ false → findIn i bs ≡ none
+in-none i [] h = refl
+in-none i (b ∷ bs) h = tested (eqb (b .id) i)
+    (λ e. absurd (never (sym h ∙ has-yes i b bs e)))
+    (λ e. found-no i b bs e ∙ in-none i bs (sym (has-no i b bs e) ∙ h))
+
+-- the binding at a place
+abbrev pub at : ℕ → List VarInfo → Option VarInfo
+at zero bs = none
+at (suc k) bs = some (getD bs k noBind)
+
+at-take : (k a : ℕ) (bs : List VarInfo) → k ≤ length (take a bs) → at k (take a bs) ≡ at k bs
+at-take zero a bs h = refl
+at-take (suc k) a bs h = ap some (getD-take a bs k noBind (omega (arith, length-take a bs)))
+
+pub find-split : (i : ℕ) (hs : List Head) (fl : List ℕ) (bs : List VarInfo) (cs : List (ℕ × Option Tree)) → findBinding i (split hs fl bs cs) ≡ at (place i hs bs) bs
+find-split i [] fl bs cs = refl
+find-split i (h ∷ hs) fl bs cs =
+    let a : ℕ = h .start in
+    let rest : Option VarInfo = findBinding i (split hs (take a fl) (take a bs) (take (h .cstart) cs)) in
+    tested (hasIn i (drop a bs))
+    (λ e. ap (λ (o : Option VarInfo). orElse o rest) (in-found i (drop a bs) e) ∙ rw (place-yes i h hs bs e, getD-drop a bs (indexIn i (drop a bs)) noBind) refl)
+    (λ e. ap (λ (o : Option VarInfo). orElse o rest) (in-none i (drop a bs) e) ∙ find-split i hs (take a fl) (take a bs) (take (h .cstart) cs) ∙ rw (place-no i h hs bs e) (at-take (place i hs (take a bs)) a bs (place-le i hs (take a bs))))
 
 -- prevent_inline
 map-drop : (f : VarInfo → VarInfo) (n : ℕ) (bs : List VarInfo) → drop n (map f bs) ≡ map f (drop n bs)

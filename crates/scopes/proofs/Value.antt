@@ -1,5 +1,5 @@
 -- A value overwritten: the values behind it shift, a run of the tree's nodes is copied in, and the length is stored. Assumes nothing.
-use mathlib.Core.Path.{_≡_, refl, sym, ap, _∙_}
+use mathlib.Core.Path.{_≡_, sym, ap, _∙_}
 use mathlib.Core.List.{List}
 use mathlib.Core.Logic.{_⊎_, inl, inr, ⊎-elim}
 use Prim.Native.Nat.{ℕ, suc, _+_, _-_, _*_, _≤_, _<_}
@@ -7,13 +7,12 @@ use native.Mathlib.Omega.{arith}
 use lib.ListN.{length, getD, set, length-set}
 use lib.Seq.{getD-set-same, getD-set-other}
 use Rattle.tree.specs.Tree.{Core}
-use Rattle.definition.specs.Scope.{VarInfo, change, withValue}
-use Rattle.words.specs.Tab.{tab, length-tab, getD-tab, set-tab, below-or-not, same-or-not, sum-ext, sum-part, sum-one}
+use Rattle.definition.specs.Scope.{change, withValue}
+use Rattle.words.specs.Tab.{below-or-not, same-or-not, sum-ext, sum-part, sum-one}
 use Rattle.words.specs.Layout.{yes, run, tree}
 use Rattle.words.specs.Moved.{Moved}
 use Rattle.words.proofs.Nodes.{run-moved, run-at, run-out, tree-at, beyond-same}
-use Rattle.scopes.specs.State.{varTypeOf, aliasAt, valueOf, runOf, lenAt, off, runAt, bindAt, heads, flags, binds, consts, split, stack, Good, Becomes, place, Names}
-use Rattle.scopes.proofs.Split as laws
+use Rattle.scopes.specs.State.{varTypeOf, aliasAt, valueOf, runOf, lenAt, off, runAt, bindAt, heads, binds, stack, Good, Becomes, place, Names}
 use Rattle.scopes.proofs.Words.{Kept, bind-eq, kept-good, changed}
 
 -- a part of the tree has the names of the tree
