@@ -1,7 +1,6 @@
 -- A binding appended, a scope opened: the counts grow. Assumes nothing.
 use mathlib.Core.Path.{_≡_, refl, sym, ap, _∙_}
 use mathlib.Core.List.{List, [], _∷_, _++_}
-use mathlib.Core.Option.{none}
 use mathlib.Core.Logic.{_⊎_, inl, inr, ⊎-elim}
 use Prim.Native.Nat.{ℕ, zero, suc, _+_, _-_, _*_, _≤_, _<_}
 use native.Mathlib.Numerals.{add-one}
@@ -9,19 +8,14 @@ use native.Mathlib.Nat.{eq-or-lt-of-le}
 use native.Mathlib.Omega.{arith}
 use lib.ListN.{length, getD, set, length-set}
 use lib.Seq.{getD-set-same, getD-set-other}
-use Rattle.definition.specs.Scope.{VarInfo, append, fresh, newScope}
+use Rattle.definition.specs.Scope.{VarInfo, append, newScope}
 use Rattle.words.specs.Tab.{tab, tab-suc, tab-zero, length-tab, getD-tab, getD-tab-out, tab-ext, below-or-not, sum-next, sum-ext, sum-part}
 use Rattle.words.specs.Layout.{yes, Agree, coreFrom, run, tree}
 use Rattle.words.specs.Moved.{Put4, Put5, Zeroed}
 use Rattle.words.proofs.Nodes.{run-same, beyond-same}
-use Rattle.scopes.specs.State.{valueOf, varTypeOf, aliasAt, scopeKindOf, lenAt, off, runAt, constAt, bindAt, Head, unresAt, headAt, headsAt, heads, flags, binds, consts, split, stack, Fits, Good, Becomes}
+use Rattle.scopes.specs.State.{valueOf, varTypeOf, aliasAt, scopeKindOf, bareOf, lenAt, off, runAt, constAt, bindAt, Head, unresAt, headAt, headsAt, heads, flags, binds, consts, split, stack, Fits, Good, Becomes}
 use Rattle.scopes.proofs.Split as laws
 use Rattle.scopes.proofs.Words.{bind-eq, bind-same, heads-part, part-coff, part-crun, part-consts, part-tree, whole-none}
-
--- the scopes begin before a longer list too
-fits-more : (hs : List Head) (n : ℕ) → Fits hs n → Fits hs (n + 1)
-fits-more [] n f = tt
-fits-more (h ∷ hs) n f = (omega (arith, f .0), f .1)
 
 -- the first scope of one or more
 pub some-head : (w : List ℕ) (d : ℕ) → 0 < d → headsAt w d ≡ headAt w (d - 1) ∷ headsAt w (d - 1)
@@ -29,8 +23,8 @@ unfolding headsAt
 some-head w zero h = absurd (omega arith)
 some-head w (suc d) h = let e : suc d - 1 ≡ d = omega arith in rw e refl
 
-module _ (w u v : List ℕ) (g : Good w) (h : getD w 1 0 < 256) (z : 0 < getD w 2 0) (id kind alias prevented undef : ℕ) (small : id < 256)
-    (one : Put5 w u (4112 + getD w 1 0 * 10) id kind alias 0 prevented) (two : Put5 u v (4112 + getD w 1 0 * 10 + 5) undef 0 0 0 0) where
+module _ (w u v : List ℕ) (g : Good w) (h : getD w 1 0 < 256) (z : 0 < getD w 2 0) (id kind alias reads prevented undef sensitive hoisted : ℕ) (small : id < 256)
+    (one : Put5 w u (4112 + getD w 1 0 * 10) id kind alias reads prevented) (two : Put5 u v (4112 + getD w 1 0 * 10 + 5) undef sensitive hoisted 0 0) where
   abbrev n : ℕ
   n = getD w 1 0
 
@@ -75,13 +69,13 @@ module _ (w u v : List ℕ) (g : Good w) (h : getD w 1 0 < 256) (z : 0 < getD w 
   bind-old j l = bind-same w w′ j (λ q a b. out q (inl (omega arith)) (λ e. omega arith)) (run-old j l)
 
   abbrev new : VarInfo
-  new = fresh id (varTypeOf kind) (aliasAt alias) (yes prevented) (yes undef) none
+  new = bareOf id kind alias reads prevented undef sensitive hoisted
 
   bind-new : bindAt w′ n ≡ new
   bind-new =
       let at₁ : (s x : ℕ) → 4112 + n * 10 ≤ s → s < 4112 + n * 10 + 5 → getD u s 0 ≡ x → getD w′ s 0 ≡ x = λ s x a b e. first s a b ∙ e in
-      bind-eq (at₁ (4112 + n * 10) id (omega arith) (omega arith) (one .at0)) (ap varTypeOf (at₁ (4112 + n * 10 + 1) kind (omega arith) (omega arith) (one .at1))) (ap aliasAt (at₁ (4112 + n * 10 + 2) alias (omega arith) (omega arith) (one .at2))) (at₁ (4112 + n * 10 + 3) 0 (omega arith) (omega arith) (one .at3))
-      (ap yes (at₁ (4112 + n * 10 + 4) prevented (omega arith) (omega arith) (one .at4))) (ap yes (getD-set-other v 1 (4112 + n * 10 + 5) (n + 1) 0 (λ e. omega arith) ∙ two .at0)) (ap valueOf run-new) (ap yes (at 1 (4112 + n * 10 + 6) 0 (omega arith) (omega arith) (two .at1))) (ap yes (at 2 (4112 + n * 10 + 7) 0 (omega arith) (omega arith) (two .at2)))
+      bind-eq (at₁ (4112 + n * 10) id (omega arith) (omega arith) (one .at0)) (ap varTypeOf (at₁ (4112 + n * 10 + 1) kind (omega arith) (omega arith) (one .at1))) (ap aliasAt (at₁ (4112 + n * 10 + 2) alias (omega arith) (omega arith) (one .at2))) (at₁ (4112 + n * 10 + 3) reads (omega arith) (omega arith) (one .at3))
+      (ap yes (at₁ (4112 + n * 10 + 4) prevented (omega arith) (omega arith) (one .at4))) (ap yes (getD-set-other v 1 (4112 + n * 10 + 5) (n + 1) 0 (λ e. omega arith) ∙ two .at0)) (ap valueOf run-new) (ap yes (at 1 (4112 + n * 10 + 6) sensitive (omega arith) (omega arith) (two .at1))) (ap yes (at 2 (4112 + n * 10 + 7) hoisted (omega arith) (omega arith) (two .at2)))
 
   flag-new : getD w′ (4112 + n * 10 + 9) 0 ≡ 0
   flag-new = at 4 (4112 + n * 10 + 9) 0 (omega arith) (omega arith) (two .at4)
@@ -102,6 +96,13 @@ module _ (w u v : List ℕ) (g : Good w) (h : getD w 1 0 < 256) (z : 0 < getD w 
   push-tree : tree w′ ≡ tree w
   push-tree = part-tree w′ g (out 0 (inl (omega arith)) (λ e. omega arith)) (λ j a b. out j (inl (omega arith)) (λ e. omega arith))
 
+  push-fits : Fits (heads w) (n + 1)
+  unfolding heads
+  push-fits =
+      let e = some-head w (getD w 2 0) z in
+      let f : Fits (headAt w (getD w 2 0 - 1) ∷ headsAt w (getD w 2 0 - 1)) n = rw e at (g .fits) in
+      rw e (omega (arith, f .0), f .1)
+
   push-good : Good w′
   push-good = record {
     long = rw size (g .long);
@@ -111,7 +112,7 @@ module _ (w u v : List ℕ) (g : Good w) (h : getD w 1 0 < 256) (z : 0 < getD w 
     ccount = rw (out 3 (inl (omega arith)) (λ e. omega arith)) (g .ccount);
     vals = rw count (omega (arith, sum-next (λ q. lenAt w′ q) n, off-old n (omega arith), len-new, g .vals));
     cvals = rw (out 3 (inl (omega arith)) (λ e. omega arith), part-coff w′ g (getD w 3 0) (omega arith) cs ct (getD w 3 0) (omega arith)) (g .cvals);
-    fits = rw (heads-new, count) (fits-more (heads w) n (g .fits));
+    fits = rw (heads-new, count) push-fits;
     cfits = rw (heads-new, out 3 (inl (omega arith)) (λ e. omega arith)) (g .cfits);
     ids = rw count (λ k l. ⊎-elim
         (λ (e : k ≡ n). rw (e, first (4112 + n * 10) (omega arith) (omega arith), one .at0) small)
@@ -143,6 +144,9 @@ module _ (w u v : List ℕ) (g : Good w) (h : getD w 1 0 < 256) (z : 0 < getD w 
       let e = some-head w (getD w 2 0) z in
       let f : Fits (headAt w (getD w 2 0 - 1) ∷ headsAt w (getD w 2 0 - 1)) n = rw e at (g .fits) in
       rw e (laws.append-split new (headAt w (getD w 2 0 - 1)) (headsAt w (getD w 2 0 - 1)) (flags w) (binds w) (consts w) (omega (arith, f .0, lengths .1)) (lengths .0 ∙ sym (lengths .1)))
+
+  pub pushed-past : Agree (4112 + n * 10 + 10) 6672 w w′
+  pushed-past j a b = out j (inr (omega arith)) (λ e. omega arith)
 
   pub pushed : Becomes w w′ (append new (stack w))
   unfolding stack

@@ -1,19 +1,18 @@
--- A function's scope closed: the counts shrink. Assumes nothing.
+-- A scope dropped: the counts shrink. Assumes nothing.
 use mathlib.Core.Path.{_≡_, refl, sym, ap, _∙_}
 use mathlib.Core.List.{List, _∷_}
-use mathlib.Core.Bool.{true, _||_}
+use mathlib.Core.Bool.{_||_}
 use mathlib.Core.Logic.{_⊎_, inl, inr, ⊎-elim}
 use Prim.Native.Nat.{ℕ, zero, suc, _+_, _-_, _*_, _≤_, _<_}
 use native.Mathlib.Omega.{arith}
 use lib.ListN.{length, getD, set, take, length-set}
 use lib.Seq.{getD-set-same, getD-set-other}
 use Rattle.tree.specs.Base.{pick}
-use Rattle.definition.specs.Scope.{close, isFn}
 use Rattle.words.specs.Tab.{getD-tab, getD-tab-out, take-tab, below-or-not, sum-le}
 use Rattle.words.specs.Layout.{yes, Agree, tree}
 use Rattle.words.specs.Moved.{Merged}
 use Rattle.words.proofs.Nodes.{beyond-same}
-use Rattle.scopes.specs.State.{scopeKindOf, lenAt, clenAt, constAt, bindAt, Head, unresAt, headAt, headsAt, heads, flags, binds, consts, stack, Fits, CFits, Good, Becomes}
+use Rattle.scopes.specs.State.{scopeKindOf, lenAt, clenAt, constAt, bindAt, Head, unresAt, headAt, headsAt, heads, flags, binds, consts, stack, Fits, CFits, Good, Becomes, dropInner}
 use Rattle.scopes.proofs.Split as laws
 use Rattle.scopes.proofs.Words.{heads-part, part-coff, part-crun, part-consts, part-tree}
 use Rattle.scopes.proofs.Grow.{some-head, part-off, part-run, part-binds, part-flags}
@@ -23,7 +22,7 @@ merged-yes zero y = refl
 merged-yes (suc x) y = refl
 
 -- d is the place of the scope that is closed
-module _ (w u : List ℕ) (g : Good w) (d : ℕ) (is : getD w 2 0 ≡ d + 1) (z : 0 < d) (f : isFn (scopeKindOf (getD w (7184 + d * 4) 0)) ≡ true)
+module _ (w u : List ℕ) (g : Good w) (d : ℕ) (is : getD w 2 0 ≡ d + 1) (z : 0 < d)
     (one : Merged w u (7312 + d * 256) (7312 + (d - 1) * 256) 256) where
   abbrev n : ℕ
   n = getD w (7184 + d * 4 + 1) 0
@@ -103,11 +102,11 @@ module _ (w u : List ℕ) (g : Good w) (d : ℕ) (is : getD w 2 0 ≡ d + 1) (z 
   abbrev ow : Agree 3088 4112 w x
   ow = λ j a b. low j (omega arith) (inl (omega arith))
 
-  close-tree : tree x ≡ tree w
-  close-tree = part-tree x g (low 0 (omega arith) (inr refl)) (λ j a b. low j (omega arith) (inl (omega arith)))
+  drop-tree : tree x ≡ tree w
+  drop-tree = part-tree x g (low 0 (omega arith) (inr refl)) (λ j a b. low j (omega arith) (inl (omega arith)))
 
-  close-good : Good x
-  close-good = record {
+  drop-good : Good x
+  drop-good = record {
     long = rw size (g .long);
     nodes = rw (low 0 (omega arith) (inr refl)) (g .nodes);
     count = omega (arith, n1, fits .0, g .count);
@@ -119,26 +118,26 @@ module _ (w u : List ℕ) (g : Good w) (d : ℕ) (is : getD w 2 0 ≡ d + 1) (z 
     cfits = rw (heads-are, n3) (rw (head-word 2 (omega arith)) (cfits .1));
     ids = rw n1 (λ k l. rw (ob (4112 + k * 10) (omega arith) (omega arith)) (g .ids k (omega (arith, fits .0))));
     cids = rw n3 (λ k l. rw (oc (6672 + k * 2) (omega arith) (omega arith)) (g .cids k (omega (arith, cfits .0))));
-    names = rw close-tree (g .names);
+    names = rw drop-tree (g .names);
     whole = rw n1 (λ k l. rw (part-run x g n (fits .0) ov ob k l) (g .whole k (omega (arith, fits .0))));
     cwhole = rw n3 (λ k l. rw (part-crun x g c (cfits .0) ow oc k l) (g .cwhole k (omega (arith, cfits .0))));
   }
 
-  close-parts : (flags x ≡ take n (flags w)) × (binds x ≡ take n (binds w)) × (consts x ≡ take c (consts w))
+  drop-parts : (flags x ≡ take n (flags w)) × (binds x ≡ take n (binds w)) × (consts x ≡ take c (consts w))
   unfolding flags binds consts
-  close-parts = (
+  drop-parts = (
     rw n1 (part-flags x g n (fits .0) ov ob ∙ sym (take-tab n (getD w 1 0) (λ k. getD w (4112 + k * 10 + 9) 0) (fits .0))),
     rw n1 (part-binds x g n (fits .0) ov ob ∙ sym (take-tab n (getD w 1 0) (λ k. bindAt w k) (fits .0))),
     rw n3 (part-consts x g c (cfits .0) ow oc ∙ sym (take-tab c (getD w 3 0) (λ k. constAt w k) (cfits .0))),
   )
 
-  pub closed : Becomes w x (close (stack w))
+  pub dropped : Becomes w x (dropInner (stack w))
   unfolding stack
-  closed = record {
-    good = close-good;
-    is = rw (heads-are, close-parts .0, close-parts .1, close-parts .2, heads-were)
-        (laws.close-split (headAt w d) (headAt w (d - 1)) (headAt x (d - 1)) hs (flags w) (binds w) (consts w) f (ap scopeKindOf head-first) (head-word 1 (omega arith)) (head-word 2 (omega arith)) (head-word 3 (omega arith)) unres-are);
-    tree = close-tree;
+  dropped = record {
+    good = drop-good;
+    is = rw (heads-are, drop-parts .0, drop-parts .1, drop-parts .2, heads-were)
+        (laws.drop-split (headAt w d) (headAt w (d - 1)) (headAt x (d - 1)) hs (flags w) (binds w) (consts w) (ap scopeKindOf head-first) (head-word 1 (omega arith)) (head-word 2 (omega arith)) (head-word 3 (omega arith)) unres-are);
+    tree = drop-tree;
     others = record { low = λ j a b. low j (omega arith) (inl (omega arith)); high = λ j a b. keeps j (inr (omega (arith, g .depth))) (λ e. omega arith) (λ e. omega arith) (λ e. omega arith) };
     rest = beyond-same w x size (λ j a. keeps j (inr (omega (arith, g .depth))) (λ e. omega arith) (λ e. omega arith) (λ e. omega arith));
   }

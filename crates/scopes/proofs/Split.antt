@@ -12,9 +12,9 @@ use lib.Dec.{eqb}
 use lib.Seq.{take-append-le, drop-append-le, take-length, drop-length, getD-drop, getD-take}
 use Rattle.tree.specs.Base.{orElse}
 use Rattle.tree.specs.Tree.{Tree}
-use Rattle.definition.specs.Scope.{VarInfo, Scope, Stack, ScopeKind, findIn, hasIn, isSome, changeIn, change, onBindings, preventOne, preventInline, newScope, append, param, close, isFn, put, findBinding}
+use Rattle.definition.specs.Scope.{VarInfo, Scope, Stack, ScopeKind, findIn, hasIn, isSome, changeIn, change, onBindings, preventOne, preventInline, newScope, append, param, put, findBinding}
 use Rattle.words.specs.Layout.{yes}
-use Rattle.scopes.specs.State.{Head, split, scopeOf, indexIn, place}
+use Rattle.scopes.specs.State.{Head, split, scopeOf, indexIn, place, dropInner}
 
 abbrev pub noBind : VarInfo
 noBind = record { id = 0; kind = param; aliasOf = none; readCnt = 0; inlinePrevented = false; isUndefined = false; value = none; thisSensitive = false; hoisted = false }
@@ -234,14 +234,13 @@ append-split b h hs fl bs cs s l =
     let v : _≡_ {A = ℕ → Bool} (λ j. yes (getD (h .zeroth ∷ (drop (h .start) fl ++ (0 ∷ []))) j 0)) (λ j. yes (getD (h .zeroth ∷ drop (h .start) fl) j 0)) = λ t j. ap yes (bars-more (h .zeroth ∷ drop (h .start) fl) j) t in
     rw (drop-append-le (h .start) bs (b ∷ []) s, take-append-le (h .start) bs (b ∷ []) s, drop-append-le (h .start) fl (0 ∷ []) s′, take-append-le (h .start) fl (0 ∷ []) s′, v) refl
 
--- a function's scope is closed: s becomes s′, with what was unresolved in h
-pub close-split : (h s s′ : Head) (hs : List Head) (fl : List ℕ) (bs : List VarInfo) (cs : List (ℕ × Option Tree)) → isFn (h .kind) ≡ true
+-- a scope is dropped: s becomes s′, with what was unresolved in h
+pub drop-split : (h s s′ : Head) (hs : List Head) (fl : List ℕ) (bs : List VarInfo) (cs : List (ℕ × Option Tree))
     → s′ .kind ≡ s .kind → s′ .start ≡ s .start → s′ .cstart ≡ s .cstart → s′ .zeroth ≡ s .zeroth → ((j : ℕ) → yes (getD (s′ .unres) j 0) ≡ (yes (getD (h .unres) j 0) || yes (getD (s .unres) j 0)))
-    → split (s′ ∷ hs) (take (h .start) fl) (take (h .start) bs) (take (h .cstart) cs) ≡ close (split (h ∷ s ∷ hs) fl bs cs)
-unfolding close
-close-split h s s′ hs fl bs cs f a b c d u =
+    → split (s′ ∷ hs) (take (h .start) fl) (take (h .start) bs) (take (h .cstart) cs) ≡ dropInner (split (h ∷ s ∷ hs) fl bs cs)
+drop-split h s s′ hs fl bs cs a b c d u =
     let v : _≡_ {A = ℕ → Bool} (λ j. yes (getD (s′ .unres) j 0)) (λ j. yes (getD (h .unres) j 0) || yes (getD (s .unres) j 0)) = λ t j. u j t in
-    rw (f, a, b, c, d, v) refl
+    rw (a, b, c, d, v) refl
 
 -- hoisting: a binding that is put is changed where it is found, and appended where not, in the innermost scope
 put-yes : (c b : VarInfo) (bs : List VarInfo) → eqb (b .id) (c .id) ≡ true → put c (b ∷ bs) ≡ c ∷ bs

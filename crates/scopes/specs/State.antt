@@ -63,6 +63,10 @@ bindAt w k = record {
   hoisted = yes (getD w (4112 + k * 10 + 7) 0);
 }
 
+-- a binding without a value, by its words
+abbrev pub bareOf : (id kind alias reads prevented undef sensitive hoisted : ℕ) → VarInfo
+bareOf i k a r p u s h = record { id = i; kind = varTypeOf k; aliasOf = aliasAt a; readCnt = r; inlinePrevented = yes p; isUndefined = yes u; value = none; thisSensitive = yes s; hoisted = yes h }
+
 -- the constants, in the same way
 abbrev pub clenAt : List ℕ → ℕ → ℕ
 clenAt w k = getD w (6672 + k * 2 + 1) 0
@@ -132,13 +136,13 @@ consts w = tab (getD w 3 0) (λ k. constAt w k)
 unfoldable pub stack : List ℕ → Stack
 stack w = split (heads w) (flags w) (binds w) (consts w)
 
--- scopes begin one after the other, and none behind the last record
+-- scopes begin one after the other, the outermost with the first record, and none behind the last
 abbrev pub Fits : List Head → ℕ → Type 0
-Fits [] n = Unit {0}
+Fits [] n = n ≡ 0
 Fits (h ∷ hs) n = (h .start ≤ n) × Fits hs (h .start)
 
 abbrev pub CFits : List Head → ℕ → Type 0
-CFits [] n = Unit {0}
+CFits [] n = n ≡ 0
 CFits (h ∷ hs) n = (h .cstart ≤ n) × CFits hs (h .cstart)
 
 -- a binding or an identifier (20, 21) has the number of an identifier
@@ -183,6 +187,12 @@ pub record Becomes (w w′ : List ℕ) (st : Stack) : Type 0 where
   pub tree : tree w′ ≡ tree w
   pub others : Others w w′
   pub rest : beyond w′ ≡ beyond w
+
+-- the end of a scope without its hoisting: its records go, and what was unresolved in it is unresolved above
+abbrev pub dropInner : Stack → Stack
+dropInner [] = []
+dropInner (c ∷ []) = []
+dropInner (c ∷ s ∷ st) = record { kind = s .kind; inlineBarriers = s .inlineBarriers; bindings = s .bindings; unresolvedUsages = λ j. c .unresolvedUsages j || s .unresolvedUsages j; constants = s .constants } ∷ st
 
 -- 1 + the place in the list of all bindings of the innermost binding of an identifier, 0 if there is none
 abbrev pub indexIn : ℕ → List VarInfo → ℕ

@@ -1,17 +1,15 @@
 // The scope state in lent words: leaf functions whose contracts speak of the definition's stack of scopes.
 ghost use mathlib.Core.Path.{_≡_};
-ghost use Prim.Native.Nat.{ℕ, _+_, _*_, _-_, _≤_, _<_};
+ghost use Prim.Native.Nat.{ℕ, _+_, _*_, _≤_, _<_};
 ghost use mathlib.Core.List.{_∷_};
-ghost use mathlib.Core.Bool.{true};
 ghost use mathlib.Core.Option.{none};
 ghost use lib.ListN.{getD, length};
-ghost use Rattle.definition.specs.Scope.{prevent, change, preventInline, withValue, append, fresh, newScope, close, isFn};
-ghost use Rattle.words.specs.Layout.{yes, run};
-ghost use Rattle.scopes.specs.State.{Good, Becomes, stack, heads, binds, place, off, hitAt, valueOf, runOf, varTypeOf, aliasAt, scopeKindOf};
+ghost use Rattle.definition.specs.Scope.{prevent, change, preventInline, append, fresh, newScope};
+ghost use Rattle.words.specs.Layout.{yes, Agree};
+ghost use Rattle.scopes.specs.State.{Good, Becomes, stack, heads, binds, place, off, hitAt, varTypeOf, aliasAt, scopeKindOf, bareOf, dropInner};
 use words::merge;
 use words::put4;
 use words::put5;
-use words::shift;
 use words::wipe;
 
 // The place of the first binding of x from a up to e, e if there is none.
@@ -96,7 +94,7 @@ pub fn prevent_inline(w: &mut [u32], x: u8)
 }
 
 // How many nodes the values before binding k have.
-fn offset(w: &[u32], k: usize) -> usize
+pub fn offset(w: &[u32], k: usize) -> usize
     requires { ⌜ (Good (now w)) × (k ≤ getD (now w) 1 0) ⌝ }
     ensures { λ r. ⌜ (r ≡ off (now (w .entry)) k) × (r ≤ 512) ⌝ }
 {
@@ -109,39 +107,33 @@ fn offset(w: &[u32], k: usize) -> usize
     at
 }
 
-// The innermost binding of x gets as its value the m nodes of the tree from node i on; the values behind it are shifted.
-pub fn set_value(w: &mut [u32], x: u8, i: usize, m: usize)
-    requires { ⌜ (Good (now w)) × (i + m ≤ getD (now w) 0 0) × (m + off (now w) (getD (now w) 1 0) ≤ 512) × (runOf (valueOf (run (now w) 16 i m)) ≡ run (now w) 16 i m) ⌝ }
-    ensures { λ _. ⌜ Becomes (now (w .entry)) (now (w .exit)) (change x (withValue (valueOf (run (now (w .entry)) 16 i m))) (stack (now (w .entry)))) ⌝ }
+// Appends a binding without a value, by its words, to the innermost scope.
+pub fn append_record(
+    w: &mut [u32],
+    id: u8,
+    kind: u32,
+    alias: u32,
+    reads: u32,
+    prevented: u32,
+    undef: u32,
+    sensitive: u32,
+    hoisted: u32,
+)
+    requires { ⌜ (Good (now w)) × (getD (now w) 1 0 < 256) × (0 < getD (now w) 2 0) ⌝ }
+    ensures { λ _. ⌜ (Becomes (now (w .entry)) (now (w .exit)) (append (bareOf id kind alias reads prevented undef sensitive hoisted) (stack (now (w .entry))))) × (Agree (4112 + getD (now (w .entry)) 1 0 * 10 + 10) 6672 (now (w .entry)) (now (w .exit))) ⌝ }
 {
-    let k1 = find_binding(w, x);
-    if k1 == 0 {
-        return;
-    }
-    let k = k1 - 1;
     let n = w[1] as usize;
-    let at = offset(w, k);
-    let end = offset(w, n);
-    let old = w[4112 + k * 10 + 8] as usize;
-    shift(
-        w,
-        2064 + (at + old) * 2,
-        2064 + (at + m) * 2,
-        (end - at - old) * 2,
-    );
-    shift(w, 16 + i * 2, 2064 + at * 2, m * 2);
-    w[4112 + k * 10 + 8] = m as u32;
+    put5(w, 4112 + n * 10, id as u32, kind, alias, reads, prevented);
+    put5(w, 4112 + n * 10 + 5, undef, sensitive, hoisted, 0, 0);
+    w[1] = (n + 1) as u32;
 }
 
-// Appends a binding without a value to the innermost scope.
+// Appends a binding that was not read yet.
 pub fn push(w: &mut [u32], id: u8, kind: u32, alias: u32, prevented: u32, undef: u32)
     requires { ⌜ (Good (now w)) × (getD (now w) 1 0 < 256) × (0 < getD (now w) 2 0) ⌝ }
     ensures { λ _. ⌜ Becomes (now (w .entry)) (now (w .exit)) (append (fresh id (varTypeOf kind) (aliasAt alias) (yes prevented) (yes undef) none) (stack (now (w .entry)))) ⌝ }
 {
-    let n = w[1] as usize;
-    put5(w, 4112 + n * 10, id as u32, kind, alias, 0, prevented);
-    put5(w, 4112 + n * 10 + 5, undef, 0, 0, 0, 0);
-    w[1] = (n + 1) as u32;
+    append_record(w, id, kind, alias, 0, prevented, undef, 0, 0);
 }
 
 // Opens a scope of a kind.
@@ -157,10 +149,10 @@ pub fn open(w: &mut [u32], kind: u32)
     w[2] = (d + 1) as u32;
 }
 
-// Closes a function's scope: its records go, and what was unresolved in it is unresolved above.
-pub fn close_fn(w: &mut [u32])
-    requires { ⌜ (Good (now w)) × (1 < getD (now w) 2 0) × (isFn (scopeKindOf (getD (now w) (7184 + (getD (now w) 2 0 - 1) * 4) 0)) ≡ true) ⌝ }
-    ensures { λ _. ⌜ Becomes (now (w .entry)) (now (w .exit)) (close (stack (now (w .entry)))) ⌝ }
+// Drops the innermost of two or more scopes with its records; what was unresolved in it is unresolved above.
+pub fn drop_scope(w: &mut [u32])
+    requires { ⌜ (Good (now w)) × (1 < getD (now w) 2 0) ⌝ }
+    ensures { λ _. ⌜ Becomes (now (w .entry)) (now (w .exit)) (dropInner (stack (now (w .entry)))) ⌝ }
 {
     let d = w[2] as usize - 1;
     let n = w[7184 + d * 4 + 1];

@@ -1,11 +1,11 @@
--- A function scope closed. Assumes nothing.
+-- A scope dropped. Assumes nothing.
 use Prim.Native.Nat.{_-_}
 use native.Mathlib.Omega.{arith}
 use lib.ListN.{getD, length-set}
 use Rattle.scopes.proofs.Shrink as shrink
 use borrow.Author.Needs.{needs}
-use Rattle.scopes.proofs.close_fn.Statement.{statement}
-use Rattle.scopes.proofs.close_fn.Tie as tie
+use Rattle.scopes.proofs.drop_scope.Statement.{statement}
+use Rattle.scopes.proofs.drop_scope.Tie as tie
 
 slice-read-d : tie.Need-slice-read-d
 slice-read-d c = search needs
@@ -93,10 +93,10 @@ returns c =
     let at-entry = at-merge .before .before .before .before .before .before in
     let w = at-entry .args .w .now in
     let d = getD w 2 0 - 1 in
-    shrink.closed w (at-merge .merge .last .0) (at-entry .pre .0) d (omega arith) (omega arith) (at-entry .pre .2) (at-merge .merge .ensures)
+    shrink.dropped w (at-merge .merge .last .0) (at-entry .pre .0) d (omega arith) (omega arith) (at-merge .merge .ensures)
 
-pub close-fn-spec : {M : Type 1} → statement M
-close-fn-spec =
+pub drop-scope-spec : {M : Type 1} → statement M
+drop-scope-spec =
     tie.close
     (tie.spec
     slice-read-d

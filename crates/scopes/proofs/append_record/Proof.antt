@@ -4,8 +4,8 @@ use native.Mathlib.Omega.{arith}
 use lib.ListN.{length-set}
 use Rattle.scopes.proofs.Grow as grow
 use borrow.Author.Needs.{needs}
-use Rattle.scopes.proofs.push.Statement.{statement}
-use Rattle.scopes.proofs.push.Tie as tie
+use Rattle.scopes.proofs.append_record.Statement.{statement}
+use Rattle.scopes.proofs.append_record.Tie as tie
 
 slice-read-n : tie.Need-slice-read-n
 slice-read-n c = search needs
@@ -54,10 +54,13 @@ returns c =
     let at-put52 = c .before .before in
     let at-put5 = at-put52 .before .before .before .before in
     let at-entry = at-put5 .before .before .before .before in
-    grow.pushed (at-entry .args .w .now) (at-put5 .put5 .last .0) (at-put52 .put52 .last .0) (at-entry .pre .0) (at-entry .pre .1) (at-entry .pre .2) (at-entry .args .id) (at-entry .args .kind) (at-entry .args .alias) (at-entry .args .prevented) (at-entry .args .undef) (omega arith) (at-put5 .put5 .ensures) (at-put52 .put52 .ensures)
+    let a = at-entry .args in (
+      grow.pushed (a .w .now) (at-put5 .put5 .last .0) (at-put52 .put52 .last .0) (at-entry .pre .0) (at-entry .pre .1) (at-entry .pre .2) (a .id) (a .kind) (a .alias) (a .reads) (a .prevented) (a .undef) (a .sensitive) (a .hoisted) (omega arith) (at-put5 .put5 .ensures) (at-put52 .put52 .ensures),
+      grow.pushed-past (a .w .now) (at-put5 .put5 .last .0) (at-put52 .put52 .last .0) (at-entry .pre .0) (at-entry .pre .1) (at-entry .pre .2) (a .id) (a .kind) (a .alias) (a .reads) (a .prevented) (a .undef) (a .sensitive) (a .hoisted) (omega arith) (at-put5 .put5 .ensures) (at-put52 .put52 .ensures),
+    )
 
-pub push-spec : {M : Type 1} → statement M
-push-spec =
+pub append-record-spec : {M : Type 1} → statement M
+append-record-spec =
     tie.close
     (tie.spec
     slice-read-n
