@@ -1,0 +1,4 @@
+-- What the proofs of several functions use.
+pub mod Count
+pub mod Store
+pub mod Listed
