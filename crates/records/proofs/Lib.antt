@@ -2,3 +2,5 @@
 pub mod Count
 pub mod Store
 pub mod Listed
+pub mod Constants
+pub mod ConstWords

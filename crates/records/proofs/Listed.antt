@@ -9,17 +9,17 @@ use native.Mathlib.Omega.{arith}
 use lib.ListN.{length, getD, set, length-set}
 use lib.Dec.{ltb}
 use borrow.Author.Tests.{ltb-false}
-use Rattle.tree.specs.Tree.{Tree, Core}
+use Rattle.tree.specs.Tree.{Tree, Core, noCore}
 use Rattle.definition.specs.Tree.{countO}
 use Rattle.definition.specs.Scope.{VarInfo, Stack, change, withValue, recordedNodes, live}
-use Rattle.words.specs.Tab.{tab, length-tab, getD-tab, set-tab, same-or-not, sum-part}
-use Rattle.words.specs.Layout.{yes, Agree, run}
-use Rattle.words.proofs.Nodes.{run-length}
+use Rattle.words.specs.Tab.{tab, tab-ext, length-tab, getD-tab, set-tab, same-or-not, sum-part}
+use Rattle.words.specs.Layout.{yes, Agree, run, nodeOf, tree}
+use Rattle.words.proofs.Nodes.{run-length, tree-length, tree-at}
 use Rattle.scopes.specs.State.{Good, Others, Becomes, split, heads, flags, binds, consts, stack, bindAt, lenAt, off, runAt, valueOf, runOf, varTypeOf, aliasAt, place}
 use Rattle.scopes.proofs.Split as laws
 use Rattle.scopes.proofs.Words.{Kept, kept-heads, kept-flags, kept-consts, kept-tree, kept-good, bind-eq}
 use Rattle.records.specs.Steps.{Listed, Still, Spliced, over}
-use Rattle.records.proofs.Count.{count-whole, nodesB, nodesC, total, total-set, recorded-split, live-split, recorded-is, live-is, total-binds, total-consts, length-binds, length-consts, fits-binds, fits-consts, nodes-bind}
+use Rattle.records.proofs.Count.{depth-is, count-whole, nodesB, nodesC, total, total-set, recorded-split, live-split, recorded-is, live-is, total-binds, total-consts, length-binds, length-consts, fits-binds, fits-consts, nodes-bind}
 use Rattle.records.proofs.Store as store
 
 pub others-then : {u v w : List ℕ} → Others u v → Others v w → Others u w
@@ -142,31 +142,31 @@ module _ (w v : List ℕ) (g : Good w) (k i m : ℕ) (h : k < getD w 1 0) (hi : 
   within : len k < 16384
   within = omega (arith, g .count)
 
-  tree : i + m ≤ 1024
-  tree = omega (arith, g .nodes)
+  tree-long : i + m ≤ 1024
+  tree-long = omega (arith, g .nodes)
 
   out : (j : ℕ) → (j < 2064) ⊎ (3088 ≤ j) → (j ≡ 4112 + k * 10 + 8 → ⊥) → getD w′ j 0 ≡ getD w j 0
-  out = store.out 2064 len (omega arith) (omega arith) above alone w v (getD w 1 0) k i m h within (g .long) tree (g .vals) hm s
+  out = store.out 2064 len (omega arith) (omega arith) above alone w v (getD w 1 0) k i m h within (g .long) tree-long (g .vals) hm s
 
   aside : (j f : ℕ) → f < 10 → (f ≡ 8 → ⊥) → getD w′ (4112 + j * 10 + f) 0 ≡ getD w (4112 + j * 10 + f) 0
   aside j f l d = out (4112 + j * 10 + f) (inr (omega arith)) (λ e. omega arith)
 
   value-kept : Kept w w′
   value-kept = let l = g .count in record {
-    size = store.size 2064 len (omega arith) (omega arith) above alone w v (getD w 1 0) k i m h within (g .long) tree (g .vals) hm s;
+    size = store.size 2064 len (omega arith) (omega arith) above alone w v (getD w 1 0) k i m h within (g .long) tree-long (g .vals) hm s;
     counts = λ j a b. out j (inl (omega arith)) (λ e. omega arith);
     nodes = λ j a b. out j (inl (omega arith)) (λ e. omega arith);
     cstore = λ j a b. out j (inr (omega arith)) (λ e. omega arith);
     tail = λ j a b. out j (inr (omega arith)) (λ e. omega arith);
     flag = λ j a. aside j 9 (omega arith) (λ e. omega arith);
-    rest = store.stored-rest 2064 len (omega arith) (omega arith) above alone w v (getD w 1 0) k i m h within (g .long) tree (g .vals) hm s;
+    rest = store.stored-rest 2064 len (omega arith) (omega arith) above alone w v (getD w 1 0) k i m h within (g .long) tree-long (g .vals) hm s;
   }
 
   run-this : runAt w′ k ≡ run w 16 i m
-  run-this = store.run-this 2064 len (omega arith) (omega arith) above alone w v (getD w 1 0) k i m h within (g .long) tree (g .vals) hm s
+  run-this = store.run-this 2064 len (omega arith) (omega arith) above alone w v (getD w 1 0) k i m h within (g .long) tree-long (g .vals) hm s
 
   run-other : (j : ℕ) → j < getD w 1 0 → (j ≡ k → ⊥) → runAt w′ j ≡ runAt w j
-  run-other = store.run-other 2064 len (omega arith) (omega arith) above alone w v (getD w 1 0) k i m h within (g .long) tree (g .vals) hm s
+  run-other = store.run-other 2064 len (omega arith) (omega arith) above alone w v (getD w 1 0) k i m h within (g .long) tree-long (g .vals) hm s
 
   named : (j : ℕ) → getD w′ (4112 + j * 10) 0 ≡ getD w (4112 + j * 10) 0
   named j = out (4112 + j * 10) (inr (omega arith)) (λ e. omega arith)
@@ -178,7 +178,7 @@ module _ (w v : List ℕ) (g : Good w) (k i m : ℕ) (h : k < getD w 1 0) (hi : 
 
   value-good : runOf (valueOf (run w 16 i m)) ≡ run w 16 i m → Good w′
   value-good q =
-      kept-good g value-kept (store.vals-after 2064 len (omega arith) (omega arith) above alone w v (getD w 1 0) k i m h within (g .long) tree (g .vals) hm s) (λ j l. rw (named j) (g .ids j l))
+      kept-good g value-kept (store.vals-after 2064 len (omega arith) (omega arith) above alone w v (getD w 1 0) k i m h within (g .long) tree-long (g .vals) hm s) (λ j l. rw (named j) (g .ids j l))
       (λ j l. ⊎-elim (λ (e : j ≡ k). rw (e, run-this) (record { one = q; names = store.run-names w i m (g .names) hi })) (λ (d : j ≡ k → ⊥). rw (run-other j l d) (g .whole j l)) (same-or-not j k))
 
   pub valued : runOf (valueOf (run w 16 i m)) ≡ run w 16 i m → Listed w w′ (set (binds w) k (withValue (valueOf (run w 16 i m)) (bindAt w k))) (consts w)
@@ -186,3 +186,21 @@ module _ (w v : List ℕ) (g : Good w) (k i m : ℕ) (h : k < getD w 1 0) (hi : 
 
   pub valued-past : Agree (4112 + k * 10 + 10) 6672 w w′
   valued-past j a b = out j (inr (omega arith)) (λ e. omega arith)
+
+-- the same tree: its nodes, and a run of them
+pub same-nodes : (w w′ : List ℕ) → tree w′ ≡ tree w → getD w′ 0 0 ≡ getD w 0 0
+same-nodes w w′ e = sym (tree-length w′) ∙ ap length e ∙ tree-length w
+
+pub same-run : (w w′ : List ℕ) (i m : ℕ) → tree w′ ≡ tree w → i + m ≤ getD w 0 0 → run w′ 16 i m ≡ run w 16 i m
+unfolding run
+same-run w w′ i m e h = tab-ext m (λ j. nodeOf w′ (i + j)) (λ j. nodeOf w (i + j)) (λ j l.
+    let n = same-nodes w w′ e in
+    sym (tree-at w′ (i + j) (omega arith)) ∙ ap (λ (t : List Core). getD t (i + j) noCore) e ∙ tree-at w (i + j) (omega arith))
+
+-- no scope is open: nothing is counted
+pub stack-none : (w : List ℕ) → getD w 2 0 ≡ 0 → stack w ≡ []
+stack-none w z = nothing (stack w) (depth-is w ∙ z)
+  where
+    nothing : (st : Stack) → length st ≡ 0 → st ≡ []
+    nothing [] e = refl
+    nothing (s ∷ st) e = absurd (omega arith)
