@@ -36,7 +36,7 @@ module _ (w u v : List ℕ) (g : Good w) (h : getD w 1 0 < 256) (z : 0 < getD w 
       (λ (l : j < 4112 + n * 10). two .low j (omega arith) ∙ one .low j l)
       (λ (l : 4112 + n * 10 + 10 ≤ j). two .high j (omega arith) ∙ one .high j (omega arith)) o
 
-  count : getD w′ 1 0 ≡ n + 1
+  pub count : getD w′ 1 0 ≡ n + 1
   count = let l = g .long in getD-set-same v 1 (n + 1) 0 (omega (arith, two .size, one .size))
 
   -- the new record

@@ -45,7 +45,7 @@ module _ (w u : List ℕ) (g : Good w) (d : ℕ) (is : getD w 2 0 ≡ d + 1) (z 
   size : length x ≡ length w
   size = simp length-set (one .size)
 
-  n1 : getD x 1 0 ≡ n
+  pub n1 : getD x 1 0 ≡ n
   n1 = let l = g .long in getD-set-other (set (set u 1 n) 3 c) 2 1 d 0 (λ e. omega arith) ∙ getD-set-other (set u 1 n) 3 1 c 0 (λ e. omega arith) ∙ getD-set-same u 1 n 0 (omega (arith, one .size))
 
   n3 : getD x 3 0 ≡ c
@@ -130,6 +130,9 @@ module _ (w u : List ℕ) (g : Good w) (d : ℕ) (is : getD w 2 0 ≡ d + 1) (z 
     rw n1 (part-binds x g n (fits .0) ov ob ∙ sym (take-tab n (getD w 1 0) (λ k. bindAt w k) (fits .0))),
     rw n3 (part-consts x g c (cfits .0) ow oc ∙ sym (take-tab c (getD w 3 0) (λ k. constAt w k) (cfits .0))),
   )
+
+  pub dropped-past : Agree 4112 6672 w x
+  dropped-past j a b = low j (omega arith) (inl (omega arith))
 
   pub dropped : Becomes w x (dropInner (stack w))
   unfolding stack

@@ -1,6 +1,6 @@
 // The scope state in lent words: leaf functions whose contracts speak of the definition's stack of scopes.
 ghost use mathlib.Core.Path.{_≡_};
-ghost use Prim.Native.Nat.{ℕ, _+_, _*_, _≤_, _<_};
+ghost use Prim.Native.Nat.{ℕ, _+_, _*_, _-_, _≤_, _<_};
 ghost use mathlib.Core.List.{_∷_};
 ghost use mathlib.Core.Option.{none};
 ghost use lib.ListN.{getD, length};
@@ -120,7 +120,7 @@ pub fn append_record(
     hoisted: u32,
 )
     requires { ⌜ (Good (now w)) × (getD (now w) 1 0 < 256) × (0 < getD (now w) 2 0) ⌝ }
-    ensures { λ _. ⌜ (Becomes (now (w .entry)) (now (w .exit)) (append (bareOf id kind alias reads prevented undef sensitive hoisted) (stack (now (w .entry))))) × (Agree (4112 + getD (now (w .entry)) 1 0 * 10 + 10) 6672 (now (w .entry)) (now (w .exit))) ⌝ }
+    ensures { λ _. ⌜ (Becomes (now (w .entry)) (now (w .exit)) (append (bareOf id kind alias reads prevented undef sensitive hoisted) (stack (now (w .entry))))) × (Agree (4112 + getD (now (w .entry)) 1 0 * 10 + 10) 6672 (now (w .entry)) (now (w .exit))) × (getD (now (w .exit)) 1 0 ≡ getD (now (w .entry)) 1 0 + 1) ⌝ }
 {
     let n = w[1] as usize;
     put5(w, 4112 + n * 10, id as u32, kind, alias, reads, prevented);
@@ -152,7 +152,7 @@ pub fn open(w: &mut [u32], kind: u32)
 // Drops the innermost of two or more scopes with its records; what was unresolved in it is unresolved above.
 pub fn drop_scope(w: &mut [u32])
     requires { ⌜ (Good (now w)) × (1 < getD (now w) 2 0) ⌝ }
-    ensures { λ _. ⌜ Becomes (now (w .entry)) (now (w .exit)) (dropInner (stack (now (w .entry)))) ⌝ }
+    ensures { λ _. ⌜ (Becomes (now (w .entry)) (now (w .exit)) (dropInner (stack (now (w .entry))))) × (Agree 4112 6672 (now (w .entry)) (now (w .exit))) × (getD (now (w .exit)) 1 0 ≡ getD (now (w .entry)) (7184 + (getD (now (w .entry)) 2 0 - 1) * 4 + 1) 0) ⌝ }
 {
     let d = w[2] as usize - 1;
     let n = w[7184 + d * 4 + 1];
