@@ -43,7 +43,7 @@ fn lengths(w: &[u32], p: usize, s: usize, k: usize) -> usize
 }
 
 // The first of the places from a up to e whose word is x, e if there is none; word 0 stands at p, and each s behind the one before.
-fn first_at(w: &[u32], p: usize, s: usize, a: usize, e: usize, x: u8) -> usize
+pub fn first_at(w: &[u32], p: usize, s: usize, a: usize, e: usize, x: u8) -> usize
     requires { ⌜ (16384 ≤ length (now w)) × (a ≤ e) × (e ≤ 256) × (s ≤ 10) × (p ≤ 8192) ⌝ }
     ensures { λ r. ⌜ (a ≤ r) × (r ≤ e) × (r < e → getD (now (w .entry)) (p + r * s) 0 ≡ x) × ((j : ℕ) → a ≤ j → j < r → getD (now (w .entry)) (p + j * s) 0 ≡ x → ⊥) ⌝ }
 {
@@ -98,7 +98,7 @@ pub fn live(w: &[u32]) -> usize
 }
 
 // Is row 9 passed once old nodes give way to m, and there are `more` records more.
-fn passes(w: &[u32], old: usize, m: usize, more: usize) -> bool
+pub fn passes(w: &[u32], old: usize, m: usize, more: usize) -> bool
     requires { ⌜ (Good (now w)) × (old ≤ recordedNodes (stack (now w))) × (m ≤ 1024) × (more ≤ 1) ⌝ }
     ensures { λ r. ⌜ r ≡ (ltb 512 (recordedNodes (stack (now (w .entry))) - old + m) || ltb 256 (live (stack (now (w .entry))) + more)) ⌝ }
 {
@@ -109,7 +109,7 @@ fn passes(w: &[u32], old: usize, m: usize, more: usize) -> bool
 }
 
 // Binding k gets as its value the m nodes of the tree from node i on, which are one tree or none.
-fn set_run(w: &mut [u32], k: usize, i: usize, m: usize)
+pub fn set_run(w: &mut [u32], k: usize, i: usize, m: usize)
     requires { ⌜ (Good (now w)) × (k < getD (now w) 1 0) × (i + m ≤ getD (now w) 0 0) × (m + off (now w) (getD (now w) 1 0) ≤ 512 + getD (now w) (4112 + k * 10 + 8) 0) × (runOf (valueOf (run (now w) 16 i m)) ≡ run (now w) 16 i m) ⌝ }
     ensures { λ _. ⌜ (Listed (now (w .entry)) (now (w .exit)) (set (binds (now (w .entry))) k (withValue (valueOf (run (now (w .entry)) 16 i m)) (bindAt (now (w .entry)) k))) (consts (now (w .entry)))) × (Agree (4112 + k * 10 + 10) 6672 (now (w .entry)) (now (w .exit))) ⌝ }
 {
