@@ -9,7 +9,7 @@ use Rattle.tree.specs.Base.{pick}
 use Rattle.tree.specs.Tree.{Tree, Forest, count, counts, Core, noCore, flat, flats, takeF, plant, firstT}
 use Rattle.tree.specs.Combine.{reArity}
 use Rattle.definition.specs.Tree.{height}
-use Rattle.words.specs.Layout.{Agree, tree, beyond}
+use Rattle.words.specs.Layout.{Agree, nodeOf, tree, beyond}
 use Rattle.scopes.specs.State.{Good, Others, stack}
 use Rattle.nodes.specs.declared.Tall.{Tall}
 use Rattle.nodes.specs.declared.Tall.the-variants.{Behind, Over}
@@ -55,6 +55,20 @@ pub record Apart (w w′ : List ℕ) : Type 0 where
   pub size : length w′ ≡ length w
   pub low : Agree 1 16 w w′
   pub high : (j : ℕ) → 2064 ≤ j → getD w′ j 0 ≡ getD w j 0
+
+-- node k was stored as c
+pub record NodePut (w w′ : List ℕ) (k : ℕ) (c : Core) : Type 0 where
+  pub apart : Apart w w′
+  pub count : getD w′ 0 0 ≡ getD w 0 0
+  pub here : nodeOf w′ k ≡ c
+  pub other : (j : ℕ) → (j ≡ k → ⊥) → nodeOf w′ j ≡ nodeOf w j
+
+-- the nodes behind the first i + old now stand behind the first i + m, and are counted so
+pub record Slid (w w′ : List ℕ) (i old m : ℕ) : Type 0 where
+  pub apart : Apart w w′
+  pub count : getD w′ 0 0 ≡ getD w 0 0 + m - old
+  pub low : (j : ℕ) → j < i + m → nodeOf w′ j ≡ nodeOf w j
+  pub high : (j : ℕ) → j < getD w 0 0 - (i + old) → nodeOf w′ (i + m + j) ≡ nodeOf w (i + old + j)
 
 -- the tree's nodes became xs, one tree again: the scopes and all else are as they were
 pub record Replants (w w′ : List ℕ) (xs : List Core) : Type 0 where

@@ -1,3 +1,4 @@
+-- A height bounded: the children measured one after the other, each with one less. Assumes nothing.
 use mathlib.Core.Path.{_≡_, sym, ap, _∙_}
 use Prim.Native.Nat.{_+_, _-_, _≤_, ℕ, _<_}
 use native.Mathlib.Omega.{arith}

@@ -1,3 +1,4 @@
+-- A search for `this` that passes over functions. Assumes nothing.
 use mathlib.Core.Path.{ap, _∙_}
 use mathlib.Core.Logic.{inl, inr}
 use Prim.Native.Nat.{_-_}

@@ -1,3 +1,4 @@
+-- The end of a subtree: a loop that counts the trees still open. Assumes nothing.
 use mathlib.Core.Path.{sym, ap, _∙_}
 use Prim.Native.Nat.{_-_}
 use native.Mathlib.Omega.{arith}
