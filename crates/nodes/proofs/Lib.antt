@@ -5,3 +5,4 @@ pub mod Words
 pub mod Apart
 pub mod Splice
 pub mod Rows
+pub mod Walks

@@ -45,20 +45,20 @@ pub fn has_this(w: &[u32], i: usize) -> bool
     ensures { λ r. ⌜ r ≡ hasThis (treeFrom (tree (now (w .entry))) i) ⌝ }
 {
     let mut at = i;
-    let mut trees: usize = 1;
-    while 0 < trees {
+    let mut more: usize = 1;
+    while 0 < more {
         let k = kind_at(w, at);
         if k == 26 {
             return true;
         }
         if k == 39 {
             at = skip(w, at);
-            trees -= 1;
+            more -= 1;
         } else if k == 7 {
             at = skip(w, at);
-            trees -= 1;
+            more -= 1;
         } else {
-            trees = trees - 1 + arity_at(w, at) as usize;
+            more = more - 1 + arity_at(w, at) as usize;
             at += 1;
         }
     }

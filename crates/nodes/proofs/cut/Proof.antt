@@ -38,7 +38,7 @@ sub-w c =
     let at-slide = c .before .before .before in
     let at-skip = at-slide .before .before in
     let at-entry = at-skip .before .before .before in
-    let eo : at-skip .skip .result - at-entry .args .i ≡ count (treeFrom (tree (at-entry .args .w .now)) (at-entry .args .i)) = omega (arith, at-skip .skip .ensures .0) in parent-word (at-entry .args .w .now) (at-entry .pre .0) (at-entry .args .q) (at-entry .args .i) (at-entry .pre .1) (at-skip .skip .result - at-entry .args .i) eo (at-slide .slide .ensures)
+    let eo : at-skip .skip .result - at-entry .args .i ≡ count (treeFrom (tree (at-entry .args .w .now)) (at-entry .args .i)) = omega (arith, at-skip .skip .ensures .0) in omega (arith, parent-word (at-entry .args .w .now) (at-entry .pre .0) (at-entry .args .q) (at-entry .args .i) (at-entry .pre .1) (at-skip .skip .result - at-entry .args .i) eo (at-slide .slide .ensures))
 
 slice-write-w : tie.Need-slice-write-w
 slice-write-w c = search needs

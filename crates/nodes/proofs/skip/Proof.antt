@@ -30,7 +30,7 @@ arity-at-requires : tie.Need-arity-at-requires Inv-loop μ-loop
 arity-at-requires c κs =
     let at-loop = c .before in
     let at-entry = at-loop .before .before in
-    let lt = in-tree (at-entry .args .w .now) (at-entry .pre .0) (at-loop .loop .at) (at-loop .loop .trees) (at-loop .loop .inv .still) (c .loop-test .taken) in (at-entry .pre .0 .good .long, omega (arith, at-entry .pre .0 .good .nodes))
+    let lt = in-tree (at-entry .args .w .now) (at-entry .pre .0) (at-loop .loop .at) (at-loop .loop .trees) (at-loop .loop .inv .still) (omega arith) in (at-entry .pre .0 .good .long, omega (arith, at-entry .pre .0 .good .nodes))
 
 cast-trees : tie.Need-cast-trees Inv-loop μ-loop
 cast-trees c = search needs
@@ -40,28 +40,28 @@ add-trees c =
     let at-loop-test = c .before in
     let at-loop = at-loop-test .before in
     let at-entry = at-loop .before .before in
-    omega (arith, few-open (at-entry .args .w .now) (at-entry .pre .0) (at-loop .loop .at) (at-loop .loop .trees) (at-loop .loop .inv .still) (at-loop-test .loop-test .taken))
+    omega (arith, few-open (at-entry .args .w .now) (at-entry .pre .0) (at-loop .loop .at) (at-loop .loop .trees) (at-loop .loop .inv .still) (omega arith))
 
 add-at : tie.Need-add-at Inv-loop μ-loop
 add-at c =
     let at-loop-test = c .before in
     let at-loop = at-loop-test .before in
     let at-entry = at-loop .before .before in
-    let lt = in-tree (at-entry .args .w .now) (at-entry .pre .0) (at-loop .loop .at) (at-loop .loop .trees) (at-loop .loop .inv .still) (at-loop-test .loop-test .taken) in omega (arith, at-entry .pre .0 .good .nodes)
+    let lt = in-tree (at-entry .args .w .now) (at-entry .pre .0) (at-loop .loop .at) (at-loop .loop .trees) (at-loop .loop .inv .still) (omega arith) in omega (arith, at-entry .pre .0 .good .nodes)
 
 loop-less : tie.Need-loop-less Inv-loop μ-loop
 loop-less c =
     let at-loop-test = c .before in
     let at-loop = at-loop-test .before in
     let at-entry = at-loop .before .before in
-    let lt = in-tree (at-entry .args .w .now) (at-entry .pre .0) (at-loop .loop .at) (at-loop .loop .trees) (at-loop .loop .inv .still) (at-loop-test .loop-test .taken) in omega arith
+    let lt = in-tree (at-entry .args .w .now) (at-entry .pre .0) (at-loop .loop .at) (at-loop .loop .trees) (at-loop .loop .inv .still) (omega arith) in omega arith
 
 loop-again : tie.Need-loop-again Inv-loop μ-loop
 loop-again c =
     let at-loop-test = c .before in
     let at-loop = at-loop-test .before in
     let at-entry = at-loop .before .before in
-    let lt = in-tree (at-entry .args .w .now) (at-entry .pre .0) (at-loop .loop .at) (at-loop .loop .trees) (at-loop .loop .inv .still) (at-loop-test .loop-test .taken) in passed-more (tree (at-entry .args .w .now)) (at-entry .args .i) (at-loop .loop .at) (at-loop .loop .trees) (c .arity-at .result) (tree-whole (at-entry .pre .0)) (at-loop .loop .inv) (at-loop-test .loop-test .taken) (c .arity-at .ensures ∙ ap (λ (x : Core). x .arity) (sym (tree-at (at-entry .args .w .now) (at-loop .loop .at) lt)))
+    let lt = in-tree (at-entry .args .w .now) (at-entry .pre .0) (at-loop .loop .at) (at-loop .loop .trees) (at-loop .loop .inv .still) (omega arith) in passed-more (tree (at-entry .args .w .now)) (at-entry .args .i) (at-loop .loop .at) (at-loop .loop .trees) (c .arity-at .result) (tree-whole (at-entry .pre .0)) (at-loop .loop .inv) (omega arith) (c .arity-at .ensures ∙ ap (λ (x : Core). x .arity) (sym (tree-at (at-entry .args .w .now) (at-loop .loop .at) lt)))
 
 returns : tie.Need-returns Inv-loop μ-loop
 returns c =
