@@ -5,10 +5,11 @@ use Prim.Native.Nat.{ℕ, _+_, _*_, _≤_, _<_}
 use native.Mathlib.Omega.{arith}
 use lib.ListN.{getD}
 use Rattle.tree.specs.Tree.{Core}
+use Rattle.definition.specs.Scope.{Stack}
 use Rattle.words.specs.Tab.{tab-ext}
 use Rattle.words.specs.Layout.{tree, beyond}
 use Rattle.words.proofs.Nodes.{beyond-same}
-use Rattle.scopes.specs.State.{bindAt, heads, flags, binds, consts, stack, Good, Others, Names}
+use Rattle.scopes.specs.State.{bindAt, heads, flags, binds, consts, stack, Good, Becomes, Others, Names}
 use Rattle.scopes.proofs.Words.{heads-part, part-consts, part-coff, part-crun, Runs, runs-off, runs-at, bind-same}
 use Rattle.nodes.specs.Nodes.{One, Planted, Apart, Replants}
 
@@ -84,3 +85,7 @@ replants xs g a l e n o = record {
   rest = apart-rest a;
   apart = a;
 }
+
+-- what changes the scopes alone keeps the tree
+pub becomes-planted : {w w′ : List ℕ} {st : Stack} → Planted w → Becomes w w′ st → Planted w′
+becomes-planted g b = record { good = b .good; one = rw (b .tree) (g .one) }

@@ -1,13 +1,15 @@
 -- Nodes stored, moved and copied in the words, and what that makes of the tree. Assumes nothing.
 use mathlib.Core.Path.{_≡_, refl, sym, ap, _∙_}
 use mathlib.Core.List.{List, [], _∷_, _++_}
+use mathlib.Core.Option.{some}
 use mathlib.Core.Logic.{_⊎_, ⊎-elim}
 use Prim.Native.Nat.{ℕ, zero, suc, _+_, _-_, _*_, _/_, _%_, _≤_, _<_}
 use native.Mathlib.Omega.{arith}
 use lib.ListN.{length, getD, take, drop, set, length-set, length-drop, List·getD-append}
-use lib.Seq.{getD-set-same, getD-set-other, getD-drop, take-at, set-getD}
-use Rattle.tree.specs.Tree.{Tree, count, Core, core, noCore, flat, plant, firstT}
+use lib.Seq.{getD-set-same, getD-set-other, getD-drop, take-at, set-getD, ext-getD}
+use Rattle.tree.specs.Tree.{Tree, Forest, node, count, Core, core, noCore, flat, plant, firstT}
 use Rattle.tree.specs.Combine.{reArity}
+use Rattle.tree.proofs.Place.{plant-flat}
 use Rattle.tree.proofs.Whole.{Whole as Whole′, whole-drop}
 use Rattle.definition.specs.Tree.{voidZero}
 use Rattle.words.specs.Tab.{tab-suc, tab-ext, set-tab}
@@ -208,47 +210,60 @@ void-names zero o = ⊎-elim (λ (e : 30 ≡ 20). absurd (omega arith)) (λ (e :
 void-names (suc zero) o = ⊎-elim (λ (e : 22 ≡ 20). absurd (omega arith)) (λ (e : 22 ≡ 21). absurd (omega arith)) o
 void-names (suc (suc j)) o = ⊎-elim (λ (e : 0 ≡ 20). absurd (omega arith)) (λ (e : 0 ≡ 21). absurd (omega arith)) o
 
--- the tree at j in the place of that at i, whose child it is: copied there, and then the end moved
-module _ (w : List ℕ) (g : Planted w) (i j : ℕ) (h : Child (tree w) i 1 j) where
-  abbrev xs : List Core
-  xs = tree w
+value-flat : (t : Tree) → valueOf (flat t []) ≡ some t
+value-flat (node k f a ts) = ap (λ (us : Forest). some (firstT us)) (plant-flat (node k f a ts) [])
 
+-- the nodes of the tree at j
+module _ (w : List ℕ) (g : Planted w) (j : ℕ) (l : j < getD w 0 0) where
   abbrev e : Tree
-  e = treeFrom xs j
+  e = treeFrom (tree w) j
 
-  inner : Whole′ (drop i xs)
-  inner = whole-drop i xs (tree-whole g)
-
-  outer-in : i < getD w 0 0
-  outer-in = rw tree-length at (h .parent)
-
-  pub inner-in : j < getD w 0 0
-  inner-in = rw tree-length at (child-lt xs i 1 j h inner .1)
-
-  pub inner-lt : i < j
-  inner-lt = child-lt xs i 1 j h inner .0
-
-  pub inner-le : j + count e ≤ i + count (treeFrom xs i)
-  inner-le = child-in xs i 1 j h inner
-
-  nodes-of : flat e [] ++ drop (j + count e) xs ≡ drop j xs
-  nodes-of = sym (flat-append e (drop (j + count e) xs)) ∙ flat-from xs j (rw tree-length inner-in) (tree-whole g)
+  nodes-of : flat e [] ++ drop (j + count e) (tree w) ≡ drop j (tree w)
+  nodes-of = sym (flat-append e (drop (j + count e) (tree w))) ∙ flat-from (tree w) j (rw tree-length l) (tree-whole g)
 
   long-e : length (flat e []) ≡ count e
   long-e = length-flat e [] ∙ omega arith
 
   node-of : (q : ℕ) → q < count e → getD (flat e []) q noCore ≡ nodeOf w (j + q)
-  node-of q l =
-      let r = room w g j inner-in in
-      sym (List·getD-append (flat e []) (drop (j + count e) xs) noCore q (omega (arith, long-e))) ∙ ap (λ (l : List Core). getD l q noCore) nodes-of ∙ getD-drop j xs q noCore ∙ tree-at w (j + q) (omega arith)
+  node-of q h =
+      let r = room w g j l in
+      sym (List·getD-append (flat e []) (drop (j + count e) (tree w)) noCore q (omega (arith, long-e))) ∙ ap (λ (l : List Core). getD l q noCore) nodes-of ∙ getD-drop j (tree w) q noCore ∙ tree-at w (j + q) (omega arith)
 
   names-of : Names (flat e [])
   names-of =
-      let r = room w g j inner-in in
-      let is : take (count e) (drop j xs) ≡ flat e [] = ap (take (count e)) (sym nodes-of) ∙ take-at (flat e []) (drop (j + count e) xs) (count e) long-e in
-      rw is at (names-take (count e) (drop j xs) (omega (arith, length-drop j xs, tree-length w)) (names-drop j xs (g .good .names)))
+      let r = room w g j l in
+      let is : take (count e) (drop j (tree w)) ≡ flat e [] = ap (take (count e)) (sym nodes-of) ∙ take-at (flat e []) (drop (j + count e) (tree w)) (count e) long-e in
+      rw is at (names-take (count e) (drop j (tree w)) (omega (arith, length-drop j (tree w), tree-length w)) (names-drop j (tree w) (g .good .names)))
 
-  pub unwrap-done : {u v : List ℕ} (old m : ℕ) → m ≡ count e → old ≡ count (treeFrom xs i) → Moved w u (16 + j * 2) (16 + i * 2) (m * 2) → Slid u v i old m → Replants w v (putAt xs i e)
+  -- as a run, which a function that records a value copies
+  pub subtree-run : run w 16 j (count e) ≡ flat e []
+  subtree-run = ext-getD noCore (run w 16 j (count e)) (flat e []) (run-length w 16 j (count e) ∙ sym long-e)
+      (λ q h. let q′ : q < count e = omega (arith, run-length w 16 j (count e)) in run-at w 16 j (count e) q q′ ∙ sym (node-of q q′))
+
+  pub subtree-value : valueOf (run w 16 j (count e)) ≡ some e
+  subtree-value = ap valueOf subtree-run ∙ value-flat e
+
+  pub subtree-one : runOf (valueOf (run w 16 j (count e))) ≡ run w 16 j (count e)
+  subtree-one = ap runOf subtree-value ∙ sym subtree-run
+
+-- the tree at j in the place of that at i, whose child it is: copied there, and then the end moved
+module _ (w : List ℕ) (g : Planted w) (i j : ℕ) (h : Child (tree w) i 1 j) where
+  inner : Whole′ (drop i (tree w))
+  inner = whole-drop i (tree w) (tree-whole g)
+
+  outer-in : i < getD w 0 0
+  outer-in = rw tree-length at (h .parent)
+
+  pub inner-in : j < getD w 0 0
+  inner-in = rw tree-length at (child-lt (tree w) i 1 j h inner .1)
+
+  pub inner-lt : i < j
+  inner-lt = child-lt (tree w) i 1 j h inner .0
+
+  pub inner-le : j + count (treeFrom (tree w) j) ≤ i + count (treeFrom (tree w) i)
+  inner-le = child-in (tree w) i 1 j h inner
+
+  pub unwrap-done : {u v : List ℕ} (old m : ℕ) → m ≡ count (treeFrom (tree w) j) → old ≡ count (treeFrom (tree w) i) → Moved w u (16 + j * 2) (16 + i * 2) (m * 2) → Slid u v i old m → Replants w v (putAt (tree w) i (treeFrom (tree w) j))
   unwrap-done {u} {v} old m em eo s t =
       let le = inner-le in
       let lt = inner-lt in
@@ -256,20 +271,20 @@ module _ (w : List ℕ) (g : Planted w) (i j : ℕ) (h : Child (tree w) i 1 j) w
       let n = g .good .nodes in
       let f : i + m ≤ 1024 = omega arith in
       let c : getD u 0 0 ≡ getD w 0 0 = s .low 0 (omega arith) in
-      let long = long-e in
-      let done : Spliced w v i old (flat e []) = record {
+      let long = long-e w g j inner-in in
+      let done : Spliced w v i old (flat (treeFrom (tree w) j) []) = record {
         apart = apart-then (copied-apart (16 + j * 2) i m s f) (t .apart);
         count = t .count ∙ omega arith;
         low = λ k q. t .low k (omega arith) ∙ copied-low (16 + j * 2) i m s f k q;
         new = λ k q.
             let q′ : k < m = omega arith in
             let p : 16 + j * 2 + k * 2 ≡ 16 + (j + k) * 2 = omega arith in
-            t .low (i + k) (omega arith) ∙ copied-new (16 + j * 2) i m s f k q′ ∙ ap (coreFrom w) p ∙ sym (node-of k (omega arith));
+            t .low (i + k) (omega arith) ∙ copied-new (16 + j * 2) i m s f k q′ ∙ ap (coreFrom w) p ∙ sym (node-of w g j inner-in k (omega arith));
         high = λ k q.
-            let p : i + length (flat e []) + k ≡ i + m + k = omega arith in
+            let p : i + length (flat (treeFrom (tree w) j) []) + k ≡ i + m + k = omega arith in
             rw p (t .high k (omega arith) ∙ copied-high (16 + j * 2) i m s f (i + old + k) (omega arith));
       } in
-      put-done w g i outer-in e (rw eo at done) names-of (omega arith)
+      put-done w g i outer-in (treeFrom (tree w) j) (rw eo at done) (names-of w g j inner-in) (omega arith)
 
 -- a node's first word with one child less
 less-word : (x y : ℕ) → 0 < x / 2048 % 65536 → core ((x - 2048) % 64) ((x - 2048) / 64 % 32) ((x - 2048) / 2048 % 65536) y ≡ reArity (x / 2048 % 65536 - 1) (core (x % 64) (x / 64 % 32) (x / 2048 % 65536) y)

@@ -9,7 +9,7 @@ use Rattle.tree.specs.Base.{pick}
 use Rattle.tree.specs.Tree.{Tree, Forest, count, counts, Core, noCore, flat, flats, takeF, plant, firstT}
 use Rattle.tree.specs.Combine.{reArity}
 use Rattle.definition.specs.Tree.{height}
-use Rattle.words.specs.Layout.{Agree, nodeOf, tree, beyond}
+use Rattle.words.specs.Layout.{Agree, nodeOf, run, tree, beyond}
 use Rattle.scopes.specs.State.{Good, Others, stack}
 use Rattle.nodes.specs.declared.Tall.{Tall}
 use Rattle.nodes.specs.declared.Tall.the-variants.{Behind, Over}
@@ -92,3 +92,11 @@ Measured Over i h t = h < height t
 abbrev pub Stepped : Step → List ℕ → List ℕ → ℕ → List Core → Type 0
 Stepped Done w w′ n xs = (n ≡ 0) × Replants w w′ xs
 Stepped (Refused m) w w′ n xs = (n ≡ m) × (0 < m) × (w′ ≡ w)
+
+-- the tree at i, at depth p, gives way to e, or a row refuses
+abbrev pub Swapped : Step → List ℕ → List ℕ → ℕ → ℕ → Tree → Type 0
+Swapped r w w′ p i e = Stepped r w w′ (refusal p (getD w 0 0) (treeFrom (tree w) i) e) (putAt (tree w) i e)
+
+-- the tree of the m nodes from `at` on of the store at word `base`
+abbrev pub valueFrom : List ℕ → ℕ → ℕ → ℕ → Tree
+valueFrom w base at m = firstT (plant (run w base at m))

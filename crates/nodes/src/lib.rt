@@ -3,11 +3,11 @@ ghost use mathlib.Core.Path.{_≡_};
 ghost use Prim.Native.Nat.{ℕ, _+_, _*_, _-_, _≤_, _<_};
 ghost use lib.ListN.{length, getD, drop};
 ghost use mathlib.Core.List.{[], _∷_, _++_};
-ghost use Rattle.tree.specs.Tree.{count, core, plant, firstT};
+ghost use Rattle.tree.specs.Tree.{count, core};
 ghost use Rattle.definition.specs.Tree.{hasThis, voidZero};
 ghost use Rattle.words.specs.Layout.{tree, run};
 ghost use Rattle.scopes.specs.State.{Whole};
-ghost use Rattle.nodes.specs.Nodes.{Planted, Trees, Child, treeFrom, putAt, cutAt, refusal, Measured, Stepped, Apart, NodePut, Slid, Replants};
+ghost use Rattle.nodes.specs.Nodes.{Planted, Trees, Child, treeFrom, valueFrom, putAt, cutAt, Measured, Swapped, Apart, NodePut, Slid, Replants};
 use words::arity_at;
 use words::kind_at;
 use words::put4;
@@ -119,7 +119,7 @@ fn slide(w: &mut [u32], i: usize, old: usize, m: usize)
 // The subtree of `old` nodes at i gives way to the m nodes from `at` on of the store at word `base`.
 pub fn put_run(w: &mut [u32], i: usize, old: usize, base: usize, at: usize, m: usize)
     requires { ⌜ (Planted (now w)) × (i < getD (now w) 0 0) × (old ≡ count (treeFrom (tree (now w)) i)) × (getD (now w) 0 0 + m ≤ 1024 + old) × (2064 ≤ base) × (base + (at + m) * 2 ≤ length (now w)) × (0 < m) × (Whole (run (now w) base at m)) ⌝ }
-    ensures { λ _. ⌜ Replants (now (w .entry)) (now (w .exit)) (putAt (tree (now (w .entry))) i (firstT (plant (run (now (w .entry)) base at m)))) ⌝ }
+    ensures { λ _. ⌜ Replants (now (w .entry)) (now (w .exit)) (putAt (tree (now (w .entry))) i (valueFrom (now (w .entry)) base at m)) ⌝ }
 {
     slide(w, i, old, m);
     shift(w, base + at * 2, 16 + i * 2, m * 2);
@@ -128,7 +128,7 @@ pub fn put_run(w: &mut [u32], i: usize, old: usize, base: usize, at: usize, m: u
 // The subtree at i, at depth p, gives way to a recorded value, if rows 8 and 9 let it.
 pub fn replace_at(w: &mut [u32], i: usize, p: u32, base: usize, at: usize, m: usize) -> Step
     requires { ⌜ (Planted (now w)) × (i < getD (now w) 0 0) × (p ≤ 201) × (2064 ≤ base) × (base + (at + m) * 2 ≤ length (now w)) × (0 < m) × (Whole (run (now w) base at m)) ⌝ }
-    ensures { λ r. ⌜ Stepped r (now (w .entry)) (now (w .exit)) (refusal p (getD (now (w .entry)) 0 0) (treeFrom (tree (now (w .entry))) i) (firstT (plant (run (now (w .entry)) base at m)))) (putAt (tree (now (w .entry))) i (firstT (plant (run (now (w .entry)) base at m)))) ⌝ }
+    ensures { λ r. ⌜ Swapped r (now (w .entry)) (now (w .exit)) p i (valueFrom (now (w .entry)) base at m) ⌝ }
 {
     let n = w[0] as usize;
     let r = within_height(w, base, at, at + m, 201 - p);
@@ -146,7 +146,7 @@ pub fn replace_at(w: &mut [u32], i: usize, p: u32, base: usize, at: usize, m: us
 // The subtree at i, at depth p, gives way to `void 0`.
 pub fn put_void(w: &mut [u32], i: usize, p: u32) -> Step
     requires { ⌜ (Planted (now w)) × (i < getD (now w) 0 0) ⌝ }
-    ensures { λ r. ⌜ Stepped r (now (w .entry)) (now (w .exit)) (refusal p (getD (now (w .entry)) 0 0) (treeFrom (tree (now (w .entry))) i) voidZero) (putAt (tree (now (w .entry))) i voidZero) ⌝ }
+    ensures { λ r. ⌜ Swapped r (now (w .entry)) (now (w .exit)) p i voidZero ⌝ }
 {
     if 199 < p {
         return Step::Refused(8);
@@ -164,7 +164,7 @@ pub fn put_void(w: &mut [u32], i: usize, p: u32) -> Step
 // The node at i, at depth p, gives way to its second child, at j.
 pub fn unwrap(w: &mut [u32], i: usize, j: usize, p: u32) -> Step
     requires { ⌜ (Planted (now w)) × (Child (tree (now w)) i 1 j) × (p ≤ 201) ⌝ }
-    ensures { λ r. ⌜ Stepped r (now (w .entry)) (now (w .exit)) (refusal p (getD (now (w .entry)) 0 0) (treeFrom (tree (now (w .entry))) i) (treeFrom (tree (now (w .entry))) j)) (putAt (tree (now (w .entry))) i (treeFrom (tree (now (w .entry))) j)) ⌝ }
+    ensures { λ r. ⌜ Swapped r (now (w .entry)) (now (w .exit)) p i (treeFrom (tree (now (w .entry))) j) ⌝ }
 {
     let n = w[0] as usize;
     let r = within_height(w, 16, j, n, 201 - p);
