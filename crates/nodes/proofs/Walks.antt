@@ -1,0 +1,37 @@
+-- The contracts here in the terms of the walk on the list: `skip`, `skips`, `put`, and `cutFirst` with `setArity`. Assumes nothing.
+use mathlib.Core.Path.{_≡_, refl, sym, ap, _∙_}
+use mathlib.Core.List.{List, _++_}
+use Prim.Native.Nat.{ℕ, suc, _+_, _-_, _≤_, _<_}
+use native.Mathlib.Omega.{arith}
+use lib.ListN.{length, getD, take, drop, set, List·getD-append}
+use lib.Seq.{length-take-le, getD-take}
+use Rattle.tree.specs.Tree.{Tree, Core, noCore, cons, nil, count, counts}
+use Rattle.tree.specs.Combine.{Flat, nodeAt, treeAt, forestAt, skip, skips, put, setArity, done}
+use Rattle.tree.proofs.Whole.{Whole}
+use Rattle.nodes.specs.Nodes.{treeFrom, forestFrom, Child, putAt, cutAt}
+use Rattle.nodes.proofs.Trees.{tree-at-is, forest-first}
+
+-- the second child begins behind the first
+pub second-child : (xs : List Core) (q : ℕ) → 1 < getD xs q noCore .arity → q + 1 < length xs → Child xs q 1 (q + 1 + count (treeFrom xs (q + 1)))
+second-child xs q f l = record { parent = omega arith; few = f; at = rw (forest-first xs (q + 1) l) (omega arith) }
+
+module _ {S : Type 0} (st : Flat S) where
+  pub forest-at-is : (n i : ℕ) → forestAt st n i ≡ forestFrom (st .nodes) n i
+  unfolding forestAt forestFrom
+  forest-at-is n i = refl
+
+  pub skip-is : (i : ℕ) → skip i st ≡ done st (i + count (treeFrom (st .nodes) i))
+  skip-is i = ap (λ (t : Tree). done st (i + count t)) (tree-at-is st i)
+
+  pub put-is : (e : Tree) (i : ℕ) → put e i st ≡ done (record { nodes = putAt (st .nodes) i e; rest = st .rest }) (i + count e)
+  unfolding putAt treeAt treeFrom
+  put-is e i = refl
+
+  -- the list without the tree at i, and then one child less at q
+  pub cut-is : (q i : ℕ) → q < i → i ≤ length (st .nodes)
+      → setArity q (nodeAt st q .arity - 1) (record { nodes = take i (st .nodes) ++ drop (i + count (treeAt st i)) (st .nodes); rest = st .rest }) ≡ record { nodes = cutAt (st .nodes) q i; rest = st .rest }
+  unfolding cutAt treeAt treeFrom
+  cut-is q i l h =
+      let e : getD (take i (st .nodes) ++ drop (i + count (treeAt st i)) (st .nodes)) q noCore ≡ getD (st .nodes) q noCore =
+      List·getD-append (take i (st .nodes)) (drop (i + count (treeAt st i)) (st .nodes)) noCore q (omega (arith, length-take-le i (st .nodes) h)) ∙ getD-take i (st .nodes) q noCore l in
+      rw e refl
