@@ -19,9 +19,8 @@ use Rattle.scopes.proofs.Split as laws
 use Rattle.scopes.proofs.Words.{bind-eq, bind-same, heads-part, part-coff, part-crun, part-consts, part-tree, whole-none}
 
 -- the scopes begin before a longer list too
-fits-more : (hs : List Head) (n : ℕ) → Fits hs n → Fits hs (n + 1)
-fits-more [] n f = tt
-fits-more (h ∷ hs) n f = (omega (arith, f .0), f .1)
+fits-more : (h : Head) (hs : List Head) (n : ℕ) → Fits (h ∷ hs) n → Fits (h ∷ hs) (n + 1)
+fits-more h hs n f = (omega (arith, f .0), f .1)
 
 -- the first scope of one or more
 pub some-head : (w : List ℕ) (d : ℕ) → 0 < d → headsAt w d ≡ headAt w (d - 1) ∷ headsAt w (d - 1)
@@ -102,6 +101,10 @@ module _ (w u v : List ℕ) (g : Good w) (h : getD w 1 0 < 256) (z : 0 < getD w 
   push-tree : tree w′ ≡ tree w
   push-tree = part-tree w′ g (out 0 (inl (omega arith)) (λ e. omega arith)) (λ j a b. out j (inl (omega arith)) (λ e. omega arith))
 
+  push-fits : Fits (heads w) (n + 1)
+  unfolding heads
+  push-fits = let e = some-head w (getD w 2 0) z in rw e (fits-more (headAt w (getD w 2 0 - 1)) (headsAt w (getD w 2 0 - 1)) n (rw e at (g .fits)))
+
   push-good : Good w′
   push-good = record {
     long = rw size (g .long);
@@ -111,7 +114,7 @@ module _ (w u v : List ℕ) (g : Good w) (h : getD w 1 0 < 256) (z : 0 < getD w 
     ccount = rw (out 3 (inl (omega arith)) (λ e. omega arith)) (g .ccount);
     vals = rw count (omega (arith, sum-next (λ q. lenAt w′ q) n, off-old n (omega arith), len-new, g .vals));
     cvals = rw (out 3 (inl (omega arith)) (λ e. omega arith), part-coff w′ g (getD w 3 0) (omega arith) cs ct (getD w 3 0) (omega arith)) (g .cvals);
-    fits = rw (heads-new, count) (fits-more (heads w) n (g .fits));
+    fits = rw (heads-new, count) push-fits;
     cfits = rw (heads-new, out 3 (inl (omega arith)) (λ e. omega arith)) (g .cfits);
     ids = rw count (λ k l. ⊎-elim
         (λ (e : k ≡ n). rw (e, first (4112 + n * 10) (omega arith) (omega arith), one .at0) small)

@@ -132,13 +132,13 @@ consts w = tab (getD w 3 0) (λ k. constAt w k)
 unfoldable pub stack : List ℕ → Stack
 stack w = split (heads w) (flags w) (binds w) (consts w)
 
--- scopes begin one after the other, and none behind the last record
+-- scopes begin one after the other, none behind the last record, and no record stands before the root's
 abbrev pub Fits : List Head → ℕ → Type 0
-Fits [] n = Unit {0}
+Fits [] n = n ≡ 0
 Fits (h ∷ hs) n = (h .start ≤ n) × Fits hs (h .start)
 
 abbrev pub CFits : List Head → ℕ → Type 0
-CFits [] n = Unit {0}
+CFits [] n = n ≡ 0
 CFits (h ∷ hs) n = (h .cstart ≤ n) × CFits hs (h .cstart)
 
 -- a binding or an identifier (20, 21) has the number of an identifier

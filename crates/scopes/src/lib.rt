@@ -15,7 +15,7 @@ use words::shift;
 use words::wipe;
 
 // The place of the first binding of x from a up to e, e if there is none.
-fn find_in(w: &[u32], a: usize, e: usize, x: u8) -> usize
+pub fn find_in(w: &[u32], a: usize, e: usize, x: u8) -> usize
     requires { ⌜ (16384 ≤ length (now w)) × (a ≤ e) × (e ≤ 256) ⌝ }
     ensures { λ r. ⌜ (a ≤ r) × (r ≤ e) × (r < e → getD (now (w .entry)) (4112 + r * 10) 0 ≡ x) × ((j : ℕ) → a ≤ j → j < r → getD (now (w .entry)) (4112 + j * 10) 0 ≡ x → ⊥) ⌝ }
 {
@@ -96,7 +96,7 @@ pub fn prevent_inline(w: &mut [u32], x: u8)
 }
 
 // How many nodes the values before binding k have.
-fn offset(w: &[u32], k: usize) -> usize
+pub fn offset(w: &[u32], k: usize) -> usize
     requires { ⌜ (Good (now w)) × (k ≤ getD (now w) 1 0) ⌝ }
     ensures { λ r. ⌜ (r ≡ off (now (w .entry)) k) × (r ≤ 512) ⌝ }
 {
