@@ -12,11 +12,11 @@ use lib.ListN.{length, getD, set, drop, length-set, length-drop}
 use lib.Dec.{eqb}
 use lib.Seq.{getD-set-same, getD-set-other, drop-set-lt, getD-drop}
 use Rattle.tree.specs.Tree.{Tree, Core, noCore}
-use Rattle.definition.specs.Scope.{VarType, VarInfo, Stack, change, prevent, preventInline, preventOne, valueIs}
+use Rattle.definition.specs.Scope.{VarType, VarInfo, Stack, change, prevent, preventInline, preventOne, valueIs, hasIn}
 use Rattle.words.specs.Tab.{tab, length-tab, getD-tab, tab-ext, set-tab, take-tab, sum-ext, sum-part}
 use Rattle.words.specs.Layout.{yes, Agree, coreFrom, tree, beyond}
 use Rattle.words.proofs.Nodes.{run-same, run-length, run-at, tree-same}
-use Rattle.scopes.specs.State.{scopeKindOf, split, varTypeOf, aliasAt, valueOf, lenAt, off, runAt, bindAt, clenAt, coff, crunAt, constAt, Head, unresAt, headAt, headsAt, heads, flags, binds, consts, stack, Fits, Good, Becomes, place, hitAt, Whole, Others}
+use Rattle.scopes.specs.State.{scopeKindOf, split, varTypeOf, aliasAt, valueOf, lenAt, off, runAt, bindAt, clenAt, coff, crunAt, constAt, Head, unresAt, headAt, headsAt, heads, flags, binds, consts, stack, Fits, Good, Becomes, place, indexIn, hitAt, Whole, Others}
 use Rattle.scopes.proofs.Split as laws
 
 -- what holds of no place from a up to k, nor of k, holds of none up to k + 1
@@ -43,16 +43,22 @@ module _ (w : List ℕ) (x k e r : ℕ) (f : Fits (headsAt w (suc k)) e) (low : 
   other : (j : ℕ) → a + j < r → a + j < e → getD (drop a (upTo w e)) j laws.noBind .id ≡ x → ⊥
   other j h l q = miss (a + j) (omega arith) h (sym (ap (λ (b : VarInfo). b .id) (at j l)) ∙ q)
 
+  pub scan-hit : r < e → getD w (4112 + r * 10) 0 ≡ x → (hasIn x (drop a (upTo w e)) ≡ true) × (indexIn x (drop a (upTo w e)) ≡ r - a)
+  scan-hit h q = laws.in-hit x (drop a (upTo w e)) (r - a) (omega (arith, len)) (named r low h ∙ q) (λ j l. other j (omega arith) (omega arith))
+
+  pub scan-miss : e ≤ r → hasIn x (drop a (upTo w e)) ≡ false
+  scan-miss h = laws.in-miss x (drop a (upTo w e)) (λ j l. other j (omega (arith, len)) (omega (arith, len)))
+
   pub step-hit : r < e → getD w (4112 + r * 10) 0 ≡ x → place x (headsAt w (suc k)) (upTo w e) ≡ r + 1
   unfolding headsAt
   step-hit h q =
-      let t = laws.in-hit x (drop a (upTo w e)) (r - a) (omega (arith, len)) (named r low h ∙ q) (λ j l. other j (omega arith) (omega arith)) in
+      let t = scan-hit h q in
       laws.place-yes x (headAt w k) (headsAt w k) (upTo w e) (t .0) ∙ omega (arith, t .1)
 
   pub step-miss : e ≤ r → (place x (headsAt w (suc k)) (upTo w e) ≡ place x (headsAt w k) (upTo w a)) × (a ≤ e) × Fits (headsAt w k) a
   unfolding headsAt
   step-miss h = (
-    laws.place-no x (headAt w k) (headsAt w k) (upTo w e) (laws.in-miss x (drop a (upTo w e)) (λ j l. other j (omega (arith, len)) (omega (arith, len)))) ∙ ap (place x (headsAt w k)) (take-tab a e (λ j. bindAt w j) (f .0)),
+    laws.place-no x (headAt w k) (headsAt w k) (upTo w e) (scan-miss h) ∙ ap (place x (headsAt w k)) (take-tab a e (λ j. bindAt w j) (f .0)),
     f .0,
     f .1,
   )

@@ -13,7 +13,7 @@ use words::put5;
 use words::wipe;
 
 // The place of the first binding of x from a up to e, e if there is none.
-fn find_in(w: &[u32], a: usize, e: usize, x: u8) -> usize
+pub fn find_in(w: &[u32], a: usize, e: usize, x: u8) -> usize
     requires { ⌜ (16384 ≤ length (now w)) × (a ≤ e) × (e ≤ 256) ⌝ }
     ensures { λ r. ⌜ (a ≤ r) × (r ≤ e) × (r < e → getD (now (w .entry)) (4112 + r * 10) 0 ≡ x) × ((j : ℕ) → a ≤ j → j < r → getD (now (w .entry)) (4112 + j * 10) 0 ≡ x → ⊥) ⌝ }
 {
