@@ -2,3 +2,5 @@ pub mod Numbers
 pub mod Raws
 pub mod Fill
 pub mod Strings
+pub mod Heads
+pub mod Names

@@ -1,11 +1,16 @@
 -- The identifiers of a script in the working words: how many in word 4, and of each, from word 15504 on, the number of the first node that has it.
 -- Assumes nothing: these are definitions.
+use mathlib.Core.Path.{_≡_}
 use mathlib.Core.List.{List}
 use Prim.Native.Nat.{ℕ, _+_, _-_, _*_, _≤_, _<_}
 use lib.ListN.{getD, length, drop}
 use Rattle.words.specs.Tab.{tab}
 use Rattle.format.specs.declared.Raw.{Raw}
+use Rattle.format.specs.Script.{placeOf, enter}
 use Rattle.format.specs.Read.{rawOf}
+use Rattle.words.specs.Layout.{Agree}
+use Rattle.treefile.specs.declared.idents.Entered.{Entered}
+use Rattle.treefile.specs.declared.idents.Entered.the-variants.{At, Full}
 
 -- the node number m of a file
 abbrev pub numbered : List ℕ → ℕ → Raw
@@ -21,3 +26,16 @@ pub record Listed (w : List ℕ) (n : ℕ) : Type 0 where
   pub few : getD w 4 0 ≤ 256
   pub low : (i : ℕ) → i < getD w 4 0 → 0 < getD w (15504 + i) 0
   pub high : (i : ℕ) → i < getD w 4 0 → getD w (15504 + i) 0 ≤ n
+
+-- what entering the identifier of the node x gives: its number and the longer list, or that this would have over 256
+abbrev pub Case : List ℕ → List ℕ → List ℕ → ℕ → Raw → Entered → Type 0
+Case bs w w′ n x (At j) = (idsOf bs w′ ≡ enter (idsOf bs w) x) × (j ≡ placeOf x (enter (idsOf bs w) x)) × Listed w′ n
+Case bs w w′ n x Full = 256 < length (enter (idsOf bs w) x)
+
+-- all other words are as they were
+pub record Enters (bs w w′ : List ℕ) (n : ℕ) (x : Raw) (r : Entered) : Type 0 where
+  pub size : length w′ ≡ length w
+  pub first : Agree 0 4 w w′
+  pub mid : Agree 5 15504 w w′
+  pub last : (j : ℕ) → 15760 ≤ j → getD w′ j 0 ≡ getD w j 0
+  pub case : Case bs w w′ n x r

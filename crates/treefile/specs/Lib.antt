@@ -1,3 +1,4 @@
 pub mod Child
 pub mod Text
 pub mod Idents
+pub mod Head

@@ -28,7 +28,7 @@ fn u16_at(b: &[u8], i: usize) -> u16
     (wide(b[i]) + 256 * wide(b[i + 1])) as u16
 }
 
-fn u64_at(b: &[u8], i: usize) -> u64
+pub fn u64_at(b: &[u8], i: usize) -> u64
     requires { ⌜ i + 8 ≤ length (now b) ⌝ }
     ensures { λ r. ⌜ r ≡ number 8 (drop i (now (b .entry))) ⌝ }
 {
