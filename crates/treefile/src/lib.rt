@@ -1,6 +1,6 @@
 // Reading and writing of the tree file (document 01, "The tree file").
-mod fields;
-mod header;
+pub mod fields;
+pub mod header;
 mod idents;
 mod nodes;
 mod texts;
