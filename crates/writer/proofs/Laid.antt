@@ -1,0 +1,182 @@
+-- What stands in the result buffer after header, nodes and texts, and the answers. Assumes nothing.
+use mathlib.Core.Path.{_≡_, refl, sym, ap, ap₂, _∙_, subst}
+use mathlib.Core.Bool.{Bool, true, false, _&&_}
+use mathlib.Core.List.{List, [], _∷_, _++_, map, append-assoc, append-nil}
+use Prim.Native.Nat.{ℕ, zero, suc, _+_, _-_, _*_, _≤_, _<_}
+use native.Mathlib.Nat.{zero-add}
+use native.Mathlib.Omega.{arith}
+use borrow.Author.Tests.{le-leb, lt-leb}
+use lib.Dec.{leb}
+use lib.ListN.{length, getD, take, drop, length-append, length-drop, length-take, drop-of-length-le, length-map}
+use lib.Seq.{sets, paste, sets-eq, take-at, drop-at, take-all, drop-drop, length-sets}
+use Rattle.format.specs.Read.{Read, bad, script, u32, header}
+use Rattle.format.specs.Write.{headBytes, nodeBytes}
+use Rattle.format.specs.Script.{Script}
+use Rattle.words.specs.Layout.{tree}
+use Rattle.words.proofs.Nodes.{tree-length}
+use Rattle.roundtrip.proofs.Nodes.{node-bytes-length}
+use Rattle.treefile.specs.declared.header.Header.{Header}
+use Rattle.treefile.specs.declared.header.Head.{Head}
+use Rattle.treefile.specs.declared.header.Head.the-variants as Head
+use Rattle.treefile.specs.Head.{headed, Counts, Headed, HeadIs}
+use Rattle.writer.specs.declared.Written.{Written}
+use Rattle.writer.specs.declared.Written.the-variants.{Done, Refused}
+use Rattle.writer.specs.Back.{backIn}
+use Rattle.writer.specs.Written.{total, fitted, written, resultBytes, left, Wrote, Counted, behind}
+
+-- stores from the first place on
+sets-front : (l vs : List ℕ) (n : ℕ) → length vs ≡ n → n ≤ length l → sets l 0 vs ≡ vs ++ drop n l
+sets-front l vs n e h = sets-eq vs l 0 (omega arith) ∙ ap (λ (k : ℕ). vs ++ drop k l) (zero-add (length vs) ∙ e)
+
+-- r is the buffer at entry, r₁ with the header in it, p the part from 32 on with the nodes in it, and r₃ with the texts copied
+module _ (r hs ns ts : List ℕ) (m k : ℕ) (h : length hs ≡ 32) (n : length ns ≡ 16 * m) (t : length ts ≡ k) (l : 32 + 16 * m + k ≤ length r) where
+  rest : List ℕ
+  rest = drop (32 + 16 * m) r
+
+  module _ (r₁ : List ℕ) (e₁ : r₁ ≡ sets r 0 hs) where
+    front : r₁ ≡ hs ++ drop 32 r
+    front = e₁ ∙ sets-front r hs 32 h (omega arith)
+
+    head-there : take 32 r₁ ≡ hs
+    head-there = ap (take 32) front ∙ take-at hs (drop 32 r) 32 h
+
+    part-there : drop 32 r₁ ≡ drop 32 r
+    part-there = ap (drop 32) front ∙ drop-at hs (drop 32 r) 32 h
+
+    module _ (e : ℕ) (q : e ≡ length r) where
+      pub part-is : take (e - 32) (drop 32 r₁) ≡ drop 32 r
+      part-is = ap (take (e - 32)) part-there ∙ take-all (e - 32) (drop 32 r) (simp length-drop (omega arith))
+
+      behind-is : drop (e - 32) (drop 32 r₁) ≡ []
+      behind-is = ap (drop (e - 32)) part-there ∙ drop-of-length-le (drop 32 r) {i = e - 32} (simp length-drop (omega arith))
+
+      module _ (p : List ℕ) (e₂ : p ≡ sets (take (e - 32) (drop 32 r₁)) 0 ns) where
+        nodes-there : p ≡ ns ++ rest
+        unfolding rest
+        nodes-there =
+            e₂ ∙ ap (λ (x : List ℕ). sets x 0 ns) part-is ∙ sets-front (drop 32 r) ns (16 * m) n (simp length-drop (omega arith))
+            ∙ ap (λ (x : List ℕ). ns ++ x) (drop-drop (16 * m) 32 r)
+
+        whole : take 32 r₁ ++ (p ++ drop (e - 32) (drop 32 r₁)) ≡ (hs ++ ns) ++ rest
+        whole = ap₂ {C = List ℕ} (λ x y. x ++ y) head-there (ap₂ {C = List ℕ} (λ x y. x ++ y) nodes-there behind-is ∙ append-nil (ns ++ rest)) ∙ sym (append-assoc hs ns rest)
+
+        length-both : length (hs ++ ns) ≡ 32 + 16 * m
+        length-both = simp length-append (omega arith)
+
+        pub whole-length : length (take 32 r₁ ++ (p ++ drop (e - 32) (drop 32 r₁))) ≡ length r
+        unfolding rest
+        whole-length = ap length whole ∙ length-append (hs ++ ns) rest ∙ omega (arith, length-both, length-drop (32 + 16 * m) r)
+
+        pub laid : paste (take 32 r₁ ++ (p ++ drop (e - 32) (drop 32 r₁))) (32 + 16 * m) ts k ≡ hs ++ ns ++ ts ++ drop (32 + 16 * m + k) r
+        unfolding rest
+        laid =
+            ap (λ (x : List ℕ). paste x (32 + 16 * m) ts k) whole
+            ∙ ap₂ {C = List ℕ} (λ x y. x ++ y)
+            (ap₂ {C = List ℕ} (λ x y. x ++ y) (take-at (hs ++ ns) rest (32 + 16 * m) length-both) (take-all k ts (omega arith)))
+            (sym (drop-drop k (32 + 16 * m) ((hs ++ ns) ++ rest)) ∙ ap (drop k) (drop-at (hs ++ ns) rest (32 + 16 * m) length-both) ∙ drop-drop k (32 + 16 * m) r)
+
+-- the answers
+module _ (bs w : List ℕ) (room : ℕ) where
+  choose : Bool → Bool → Written
+  choose x y = elim x [ false ↦ Refused 9 | true ↦ elim y [ false ↦ Refused 10 | true ↦ Done (total bs w) ] ]
+
+  by-tests : fitted bs w room ≡ choose (leb 1 (getD w 0 0) && leb (getD w 0 0) 1024) (leb (total bs w) room)
+  unfolding fitted choose
+  by-tests = refl
+
+  pub fit-none : getD w 0 0 ≡ 0 → fitted bs w room ≡ Refused 9
+  unfolding choose
+  fit-none e = by-tests ∙ ap (λ (m : ℕ). choose (leb 1 m && leb m 1024) (leb (total bs w) room)) e
+
+  module _ (e : 1 ≤ getD w 0 0) where
+    count-test : (x : Bool) → leb (getD w 0 0) 1024 ≡ x → (leb 1 (getD w 0 0) && leb (getD w 0 0) 1024) ≡ x
+    count-test x q = rw (le-leb 1 (getD w 0 0) e) q
+
+    pub fit-many : 1024 < getD w 0 0 → fitted bs w room ≡ Refused 9
+    unfolding choose
+    fit-many h = by-tests ∙ ap (λ (x : Bool). choose x (leb (total bs w) room)) (count-test false (lt-leb (getD w 0 0) 1024 h))
+
+    module _ (h : getD w 0 0 ≤ 1024) where
+      past : fitted bs w room ≡ choose true (leb (total bs w) room)
+      past = by-tests ∙ ap (λ (x : Bool). choose x (leb (total bs w) room)) (count-test true (le-leb (getD w 0 0) 1024 h))
+
+      pub fit-full : room < total bs w → fitted bs w room ≡ Refused 10
+      unfolding choose
+      fit-full q = past ∙ ap (choose true) (lt-leb (total bs w) room q)
+
+      pub fit-done : total bs w ≤ room → fitted bs w room ≡ Done (total bs w)
+      unfolding choose
+      fit-done q = past ∙ ap (choose true) (le-leb (total bs w) room q)
+
+-- an answer, and the buffer that it leaves
+module _ (bs w r : List ℕ) (a : Written) where
+  pub refused : (k : ℕ) → a ≡ Refused k → Wrote bs w r r a (Refused k)
+  refused k e = record { is = sym e; leaves = sym (ap (left bs w r) e) }
+
+  pub done : (n : ℕ) (r′ : List ℕ) → a ≡ Done n → r′ ≡ resultBytes bs w ++ drop n r → Wrote bs w r r′ a (Done n)
+  done n r′ e q = record { is = sym e; leaves = q ∙ sym (ap (left bs w r) e) }
+
+-- all written
+module _ (bs w r : List ℕ) (n t b : ℕ) (K : Counted bs w n t b) (some : 1 ≤ getD w 0 0) (few : getD w 0 0 ≤ 1024) (room : 32 + 16 * getD w 0 0 + 4 * t + b ≤ length r) where
+  abbrev pub m : ℕ
+  m = getD w 0 0
+
+  abbrev pub nodes : List ℕ
+  nodes = nodeBytes (map (backIn bs w) (tree w))
+
+  total-is : 32 + 16 * m + 4 * t + b ≡ total bs w
+  total-is = omega (arith, K .texts, K .bytes)
+
+  nodes-length : length nodes ≡ 16 * m
+  nodes-length = node-bytes-length (map (backIn bs w) (tree w)) ∙ ap (λ (k : ℕ). 16 * k) (length-map (tree w) (backIn bs w) ∙ tree-length w)
+
+  pub wrote : (r₁ p r₃ : List ℕ) (e : ℕ) → e ≡ length r → r₁ ≡ sets r 0 (headBytes m t b) → p ≡ sets (take (e - 32) (drop 32 r₁)) 0 nodes
+      → r₃ ≡ paste (take 32 r₁ ++ (p ++ drop (e - 32) (drop 32 r₁))) (32 + 16 * m) (drop (32 + 16 * n) bs) (4 * t + b)
+      → Wrote bs w r r₃ (fitted bs w (length r)) (Done (32 + 16 * m + 4 * t + b))
+  unfolding resultBytes
+  wrote r₁ p r₃ e q e₁ e₂ e₃ =
+      let tail : length (drop (32 + 16 * n) bs) ≡ 4 * t + b = simp length-drop (omega (arith, K .size)) in
+      let sum : 32 + 16 * m + (4 * t + b) ≡ 32 + 16 * m + 4 * t + b = omega arith in
+      let all = laid r (headBytes m t b) nodes (drop (32 + 16 * n) bs) m (4 * t + b) refl nodes-length tail (omega arith) r₁ e₁ e q p e₂ in
+      done bs w r (fitted bs w (length r)) (32 + 16 * m + 4 * t + b) r₃ (fit-done bs w (length r) some few (omega (arith, total-is)) ∙ ap Done (sym total-is))
+      (rw (← K .texts, ← K .bytes, ← K .source .count) (e₃ ∙ all ∙ ap (λ (k : ℕ). headBytes m t b ++ nodes ++ drop (32 + 16 * n) bs ++ drop k r) sum))
+
+-- before that: too few words, and the header
+module _ (bs w : List ℕ) (room : ℕ) where
+  enough : Bool → Read → Written
+  enough x y = elim x [ false ↦ Refused 1 | true ↦ behind y (fitted bs w room) ]
+
+  by-words : written bs w room ≡ enough (leb 16384 (length w)) (header bs (script (record { nodes = []; texts = [] })))
+  unfolding written enough
+  by-words = refl
+
+  pub short : length w < 16384 → written bs w room ≡ Refused 1
+  unfolding enough
+  short h = by-words ∙ ap (λ (x : Bool). enough x (header bs (script (record { nodes = []; texts = [] })))) (lt-leb 16384 (length w) h)
+
+  module _ (l : 16384 ≤ length w) {a : Head} (h : HeadIs bs a) where
+    pub headed-so : written bs w room ≡ behind (headed a (script (record { nodes = []; texts = [] }))) (fitted bs w room)
+    unfolding enough
+    headed-so = by-words ∙ ap (λ (x : Bool). enough x (header bs (script (record { nodes = []; texts = [] })))) (le-leb 16384 (length w) l) ∙ ap (enough true) (h .is (script (record { nodes = []; texts = [] })))
+
+    pub head-refused : (k : ℕ) → a ≡ Head.Refused k → written bs w room ≡ Refused k
+    head-refused k e = headed-so ∙ ap (λ (x : Head). behind (headed x (script (record { nodes = []; texts = [] }))) (fitted bs w room)) e
+
+    module _ (x : Header) (e : a ≡ Head.Found x) where
+      pub head-found : written bs w room ≡ fitted bs w room
+      head-found = headed-so ∙ ap (λ (y : Head). behind (headed y (script (record { nodes = []; texts = [] }))) (fitted bs w room)) e
+
+      pub counted : Counted bs w (x .nodes) (x .texts) (x .bytes)
+      counted =
+          let k : Counts bs x = subst (λ (y : Head). Headed bs y) e (h .counts) in
+          record {
+            source = record { count = k .nodes; few = k .few; room = omega (arith, k .size); long = l };
+            texts = k .texts;
+            bytes = k .bytes;
+            few = k .fewTexts;
+            small = k .fewBytes;
+            size = k .size;
+          }
+
+      pub as-found : {r r′ : List ℕ} {y : Written} → Wrote bs w r r′ (fitted bs w room) y → Wrote bs w r r′ (written bs w room) y
+      as-found {r} {r′} {y} q = subst (λ (z : Written). Wrote bs w r r′ z y) (sym head-found) q

@@ -1,0 +1,95 @@
+-- A node turned back, by its kind. Assumes nothing.
+use native.Mathlib.Omega.{arith}
+use Rattle.writer.proofs.Backs as backs
+use Rattle.words.specs.Layout.{nodeOf}
+use borrow.Author.Needs.{needs}
+use Rattle.writer.proofs.nodes.back.Statement.{statement}
+use Rattle.writer.proofs.nodes.back.Tie as tie
+use Rattle.writer.proofs.nodes.back.Reads as reads
+use Rattle.writer.proofs.nodes.back.Lts as lts
+use Rattle.words.proofs.arity_at.Reads as arity-at-reads
+use Rattle.words.proofs.form_at.Reads as form-at-reads
+use Rattle.words.proofs.kind_at.Reads as kind-at-reads
+use Rattle.words.proofs.num_at.Reads as num-at-reads
+use Rattle.writer.proofs.nodes.ident_in.Reads as ident-in-reads
+use Rattle.writer.proofs.nodes.node_in.Reads as node-in-reads
+use Rattle.writer.proofs.nodes.text_in.Reads as text-in-reads
+
+kind-at-requires : tie.Need-kind-at-requires
+kind-at-requires c κs = search needs
+
+arity-at-requires : tie.Need-arity-at-requires
+arity-at-requires c κs = search needs
+
+num-at-requires : tie.Need-num-at-requires
+num-at-requires c κs = search needs
+
+cast-node-in : tie.Need-cast-node-in
+cast-node-in c = search needs
+
+node-in-requires : tie.Need-node-in-requires
+node-in-requires c κs = search needs
+
+returns : tie.Need-returns
+returns c =
+    let a = c .before .before .before .before .before .before .before .args in
+    backs.back-literal (a .file .now) (a .words .now) (nodeOf (a .words .now) (a .k)) (c .before .before .before .before .kind-at .result) (c .before .before .before .before .kind-at .ensures) (c .before .if1 .taken) (c .before .before .num-at .result) (c .before .before .num-at .ensures) (c .node-in .result) (c .node-in .ensures)
+
+ident-in-requires : tie.Need-ident-in-requires
+ident-in-requires c κs = search needs
+
+cast-t14 : tie.Need-cast-t14
+cast-t14 c = search needs
+
+cast-t15 : tie.Need-cast-t15
+cast-t15 c = search needs
+
+returns-2 : tie.Need-returns-2
+returns-2 c =
+    let a = c .before .before .before .before .before .before .before .before .args in
+    backs.back-named (a .file .now) (a .words .now) (nodeOf (a .words .now) (a .k)) (c .before .before .before .before .before .kind-at .result) (c .before .before .before .before .before .kind-at .ensures) (c .before .before .if1 .left) (c .before .before .before .before .arity-at .result) (c .before .before .before .num-at .result) (c .before .before .before .before .arity-at .ensures) (c .before .before .before .num-at .ensures) (c .before .if2 .taken) (c .ident-in .result) (c .ident-in .ensures)
+
+cast-t16 : tie.Need-cast-t16
+cast-t16 c = search needs
+
+form-at-requires : tie.Need-form-at-requires
+form-at-requires c κs = search needs
+
+cast-t18 : tie.Need-cast-t18
+cast-t18 c = search needs
+
+cast-t19 : tie.Need-cast-t19
+cast-t19 c = search needs
+
+cast-text-in : tie.Need-cast-text-in
+cast-text-in c = search needs
+
+text-in-requires : tie.Need-text-in-requires
+text-in-requires c κs = search needs
+
+returns-3 : tie.Need-returns-3
+returns-3 c =
+    let a = c .before .before .before .before .before .before .before .before .before .args in
+    backs.back-plain (a .file .now) (a .words .now) (nodeOf (a .words .now) (a .k)) (c .before .before .before .before .before .before .kind-at .result) (c .before .before .before .before .before .before .kind-at .ensures) (c .before .before .before .if1 .left) (c .before .before .before .before .before .arity-at .result) (c .before .before .before .before .num-at .result) (c .before .before .before .before .before .arity-at .ensures) (c .before .before .before .before .num-at .ensures) (c .before .before .if2 .left) (c .before .form-at .result) (c .text-in .result) (c .before .form-at .ensures) (c .text-in .ensures)
+
+pub back-spec : {M : Type 1} → statement M
+back-spec =
+    tie.close
+    (tie.spec
+    kind-at-requires
+    arity-at-requires
+    num-at-requires
+    cast-node-in
+    node-in-requires
+    returns
+    ident-in-requires
+    cast-t14
+    cast-t15
+    returns-2
+    cast-t16
+    form-at-requires
+    cast-t18
+    cast-t19
+    cast-text-in
+    text-in-requires
+    returns-3)

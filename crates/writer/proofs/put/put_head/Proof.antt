@@ -1,0 +1,114 @@
+-- Eight numbers, one behind the other. Assumes nothing.
+use mathlib.Core.Path.{refl}
+use native.Mathlib.Omega.{arith}
+use Prim.Native.Nat.{_+_, _*_}
+use Rattle.format.specs.Write.{bytes}
+use Rattle.writer.proofs.Stores as stores
+use borrow.Author.Needs.{needs}
+use Rattle.writer.proofs.put.put_head.Statement.{statement}
+use Rattle.writer.proofs.put.put_head.Tie as tie
+use Rattle.writer.proofs.put.put_head.Reads as reads
+use Rattle.writer.proofs.put.put_head.Lts as lts
+use Rattle.writer.proofs.put.put32.Reads as put32-reads
+
+put32-requires : tie.Need-put32-requires
+put32-requires c κs = search needs
+
+mul-put32 : tie.Need-mul-put32
+mul-put32 c = search needs
+
+add-put32 : tie.Need-add-put32
+add-put32 c = search needs
+
+mul-put32-2 : tie.Need-mul-put32-2
+mul-put32-2 c = search needs
+
+add-put32-2 : tie.Need-add-put32-2
+add-put32-2 c = search needs
+
+add-put32-3 : tie.Need-add-put32-3
+add-put32-3 c = search needs
+
+put32-requires-2 : tie.Need-put32-requires-2
+put32-requires-2 c κs = search needs
+
+put32-requires-3 : tie.Need-put32-requires-3
+put32-requires-3 c κs = search needs
+
+put32-requires-4 : tie.Need-put32-requires-4
+put32-requires-4 c κs = search needs
+
+put32-requires-5 : tie.Need-put32-requires-5
+put32-requires-5 c κs = search needs
+
+mul-put32-3 : tie.Need-mul-put32-3
+mul-put32-3 c = search needs
+
+add-put32-4 : tie.Need-add-put32-4
+add-put32-4 c = search needs
+
+put32-requires-6 : tie.Need-put32-requires-6
+put32-requires-6 c κs = search needs
+
+mul-put32-4 : tie.Need-mul-put32-4
+mul-put32-4 c = search needs
+
+add-put32-5 : tie.Need-add-put32-5
+add-put32-5 c = search needs
+
+mul-put32-5 : tie.Need-mul-put32-5
+mul-put32-5 c = search needs
+
+add-put32-6 : tie.Need-add-put32-6
+add-put32-6 c = search needs
+
+put32-requires-7 : tie.Need-put32-requires-7
+put32-requires-7 c κs = search needs
+
+put32-requires-8 : tie.Need-put32-requires-8
+put32-requires-8 c κs = search needs
+
+same-length : tie.Need-same-length
+same-length c = search needs
+
+returns : tie.Need-returns
+returns c =
+    let a = c .before .before .before .before .before .before .before .before .before .before .before .before .before .before .before .before .before .before .before .before .before .before .before .before .before .before .before .before .before .before .before .before .before .args in
+    let n = a .n in
+    let t = a .t in
+    let s = a .s in
+    let s0 = stores.first (a .b .now) 0 (bytes 4 1) (c .before .before .before .before .before .before .before .before .before .before .before .before .before .before .before .before .before .before .before .before .before .before .before .before .before .before .before .before .before .before .put32 .ensures) in
+    let s1 = stores.then s0 4 (bytes 4 (32 + 16 * n + 4 * t + s)) (c .before .before .before .before .before .before .before .before .before .before .before .before .before .before .before .before .before .before .before .before .before .before .before .before .before .before .put322 .ensures) refl in
+    let s2 = stores.then s1 8 (bytes 4 n) (c .before .before .before .before .before .before .before .before .before .before .before .before .before .before .before .before .before .before .before .before .before .before .put323 .ensures) refl in
+    let s3 = stores.then s2 12 (bytes 4 32) (c .before .before .before .before .before .before .before .before .before .before .before .before .before .before .before .before .before .before .put324 .ensures) refl in
+    let s4 = stores.then s3 16 (bytes 4 t) (c .before .before .before .before .before .before .before .before .before .before .before .before .before .before .put325 .ensures) refl in
+    let s5 = stores.then s4 20 (bytes 4 (32 + 16 * n)) (c .before .before .before .before .before .before .before .before .before .before .put326 .ensures) refl in
+    let s6 = stores.then s5 24 (bytes 4 (32 + 16 * n + 4 * t)) (c .before .before .before .before .before .before .put327 .ensures) refl in
+    let s7 = stores.then s6 28 (bytes 4 s) (c .before .before .put328 .ensures) refl in
+    s7 .is
+
+pub put-head-spec : {M : Type 1} → statement M
+put-head-spec =
+    tie.close
+    (tie.spec
+    put32-requires
+    mul-put32
+    add-put32
+    mul-put32-2
+    add-put32-2
+    add-put32-3
+    put32-requires-2
+    put32-requires-3
+    put32-requires-4
+    put32-requires-5
+    mul-put32-3
+    add-put32-4
+    put32-requires-6
+    mul-put32-4
+    add-put32-5
+    mul-put32-5
+    add-put32-6
+    put32-requires-7
+    put32-requires-8
+    same-length
+    returns)

@@ -1,0 +1,63 @@
+-- What writing a result answers, and what it leaves in the result buffer. Assumes nothing: these are definitions.
+use mathlib.Core.Path.{_≡_}
+use mathlib.Core.Bool.{true, false, _&&_}
+use mathlib.Core.List.{List, [], _++_, map}
+use Prim.Native.Nat.{ℕ, _+_, _*_, _≤_}
+use lib.Dec.{leb}
+use lib.ListN.{length, drop, getD}
+use Rattle.format.specs.Read.{Read, bad, script, u32, header}
+use Rattle.format.specs.Write.{headBytes, nodeBytes}
+use Rattle.words.specs.Layout.{tree}
+use Rattle.writer.specs.declared.Written.{Written}
+use Rattle.writer.specs.declared.Written.the-variants.{Done, Refused}
+use Rattle.writer.specs.Back.{backIn, Source}
+
+-- the length of the result: its nodes, and the file's texts
+abbrev pub total : List ℕ → List ℕ → ℕ
+total bs w = 32 + 16 * getD w 0 0 + 4 * u32 bs 16 + u32 bs 28
+
+-- behind the header: 9, which no count of a tree that was read and run gives, then 10
+unfoldable pub fitted : List ℕ → List ℕ → ℕ → Written
+fitted bs w room =
+    elim (leb 1 (getD w 0 0) && leb (getD w 0 0) 1024) [
+      | false ↦ Refused 9
+      | true ↦ elim (leb (total bs w) room) [ false ↦ Refused 10 | true ↦ Done (total bs w) ]
+    ]
+
+-- rows 2 to 4 alone: a refusal, or what stands behind them
+abbrev pub behind : Read → Written → Written
+behind (bad k) x = Refused k
+behind (script s) x = x
+
+-- document 01's number of a refusal, or the length, by file, words and room
+unfoldable pub written : List ℕ → List ℕ → ℕ → Written
+unfolding fitted
+written bs w room =
+    elim (leb 16384 (length w)) [
+      | false ↦ Refused 1
+      | true ↦ behind (header bs (script (record { nodes = []; texts = [] }))) (fitted bs w room)
+    ]
+
+-- the result: header, nodes, and the file's own text ends and text bytes
+unfoldable pub resultBytes : List ℕ → List ℕ → List ℕ
+unfolding backIn
+resultBytes bs w =
+    headBytes (getD w 0 0) (u32 bs 16) (u32 bs 28) ++ nodeBytes (map (backIn bs w) (tree w)) ++ drop (32 + 16 * u32 bs 8) bs
+
+-- the buffer r after an answer: a refusal leaves it as it was, and the bytes behind the result stay
+abbrev pub left : List ℕ → List ℕ → List ℕ → Written → List ℕ
+left bs w r (Done n) = resultBytes bs w ++ drop n r
+left bs w r (Refused k) = r
+
+pub record Wrote (bs w r r′ : List ℕ) (a answer : Written) : Type 0 where
+  pub is : answer ≡ a
+  pub leaves : r′ ≡ left bs w r a
+
+-- a file's counts, and words enough
+pub record Counted (bs w : List ℕ) (n t b : ℕ) : Type 0 where
+  pub source : Source bs w n
+  pub texts : t ≡ u32 bs 16
+  pub bytes : b ≡ u32 bs 28
+  pub few : t ≤ 256
+  pub small : b ≤ 4096
+  pub size : length bs ≡ 32 + 16 * n + 4 * t + b
