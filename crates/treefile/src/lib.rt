@@ -1,9 +1,5 @@
 // Reading and writing of the tree file (document 01, "The tree file").
-<<<<<<< HEAD
-mod fields;
-=======
 pub mod fields;
->>>>>>> round
 pub mod header;
 mod idents;
 mod load;
