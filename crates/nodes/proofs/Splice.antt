@@ -255,13 +255,13 @@ module _ (w : List ℕ) (g : Planted w) (i j : ℕ) (h : Child (tree w) i 1 j) w
   outer-in = rw tree-length at (h .parent)
 
   pub inner-in : j < getD w 0 0
-  inner-in = rw tree-length at (child-lt (tree w) i 1 j h inner .1)
+  inner-in = rw tree-length at (child-lt h inner .1)
 
   pub inner-lt : i < j
-  inner-lt = child-lt (tree w) i 1 j h inner .0
+  inner-lt = child-lt h inner .0
 
   pub inner-le : j + count (treeFrom (tree w) j) ≤ i + count (treeFrom (tree w) i)
-  inner-le = child-in (tree w) i 1 j h inner
+  inner-le = child-in h inner
 
   pub unwrap-done : {u v : List ℕ} (old m : ℕ) → m ≡ count (treeFrom (tree w) j) → old ≡ count (treeFrom (tree w) i) → Moved w u (16 + j * 2) (16 + i * 2) (m * 2) → Slid u v i old m → Replants w v (putAt (tree w) i (treeFrom (tree w) j))
   unwrap-done {u} {v} old m em eo s t =
@@ -361,4 +361,4 @@ module _ (w : List ℕ) (g : Planted w) (q i : ℕ) (h : Child (tree w) q 1 i) w
         let is : tree u₁ ≡ cutAt ys q i = put-tree fewer (omega arith) ∙ ap (λ (l : List Core). set l q c′) (spliced-tree gone (omega arith) ∙ ap (λ (k : ℕ). take i ys ++ drop (i + k) ys) eo) in
         replants (cutAt ys q i) g (apart-then (s .apart) (fewer .apart)) (omega (arith, fewer .count, g .good .nodes)) is
         (names-set (take i ys ++ drop (i + count (treeFrom ys i)) ys) q c′ (g .good .names q) (names-append (take i ys) (drop (i + count (treeFrom ys i)) ys) (names-take i ys (omega (arith, tree-length w)) (g .good .names)) (names-drop (i + count (treeFrom ys i)) ys (g .good .names))))
-        (cut-one ys q 1 i h (whole-drop q ys (tree-whole g)) (g .one))
+        (cut-one h (whole-drop q ys (tree-whole g)) (g .one))

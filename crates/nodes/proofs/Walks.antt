@@ -9,7 +9,8 @@ use Rattle.tree.specs.Tree.{Tree, Core, noCore, cons, nil, count, counts}
 use Rattle.tree.specs.Combine.{Flat, nodeAt, treeAt, forestAt, skip, skips, put, setArity, done}
 use Rattle.tree.proofs.Whole.{Whole}
 use Rattle.nodes.specs.Nodes.{treeFrom, forestFrom, Child, putAt, cutAt}
-use Rattle.nodes.proofs.Trees.{tree-at-is, forest-first}
+use Rattle.nodes.proofs.Trees.{tree-at-is}
+use Rattle.nodes.proofs.Loops.{forest-first}
 
 -- the second child begins behind the first
 pub second-child : (xs : List Core) (q : ℕ) → 1 < getD xs q noCore .arity → q + 1 < length xs → Child xs q 1 (q + 1 + count (treeFrom xs (q + 1)))
