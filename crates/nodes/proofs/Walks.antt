@@ -1,13 +1,12 @@
 -- The contracts here in the terms of the walk on the list: `skip`, `skips`, `put`, and `cutFirst` with `setArity`. Assumes nothing.
-use mathlib.Core.Path.{_≡_, refl, sym, ap, _∙_}
+use mathlib.Core.Path.{_≡_, refl, ap, _∙_}
 use mathlib.Core.List.{List, _++_}
-use Prim.Native.Nat.{ℕ, suc, _+_, _-_, _≤_, _<_}
+use Prim.Native.Nat.{ℕ, _+_, _-_, _≤_, _<_}
 use native.Mathlib.Omega.{arith}
-use lib.ListN.{length, getD, take, drop, set, List·getD-append}
+use lib.ListN.{length, getD, take, drop, List·getD-append}
 use lib.Seq.{length-take-le, getD-take}
-use Rattle.tree.specs.Tree.{Tree, Core, noCore, cons, nil, count, counts}
-use Rattle.tree.specs.Combine.{Flat, nodeAt, treeAt, forestAt, skip, skips, put, setArity, done}
-use Rattle.tree.proofs.Whole.{Whole}
+use Rattle.tree.specs.Tree.{Tree, Core, noCore, count}
+use Rattle.tree.specs.Combine.{Flat, nodeAt, treeAt, forestAt, skip, put, setArity, done}
 use Rattle.nodes.specs.Nodes.{treeFrom, forestFrom, Child, putAt, cutAt}
 use Rattle.nodes.proofs.Trees.{tree-at-is}
 use Rattle.nodes.proofs.Loops.{forest-first}
