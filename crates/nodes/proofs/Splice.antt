@@ -251,7 +251,7 @@ module _ {w : List ℕ} (g : Planted w) {i j : ℕ} (h : Child (tree w) i 1 j) w
   inner : Whole′ (drop i (tree w))
   inner = whole-drop i (tree w) (tree-whole g)
 
-  outer-in : i < getD w 0 0
+  pub outer-in : i < getD w 0 0
   outer-in = rw tree-length at (h .parent)
 
   pub inner-in : j < getD w 0 0
@@ -263,12 +263,13 @@ module _ {w : List ℕ} (g : Planted w) {i j : ℕ} (h : Child (tree w) i 1 j) w
   pub inner-le : j + count (treeFrom (tree w) j) ≤ i + count (treeFrom (tree w) i)
   inner-le = child-in h inner
 
-  pub unwrap-done : {u v : List ℕ} {old m : ℕ} → m ≡ count (treeFrom (tree w) j) → old ≡ count (treeFrom (tree w) i) → Moved w u (16 + j * 2) (16 + i * 2) (m * 2) → Slid u v i old m → Replants w v (putAt (tree w) i (treeFrom (tree w) j))
-  unwrap-done {u} {v} {old} {m} em eo s t =
-      let le = inner-le in
-      let lt = inner-lt in
-      let r = room g outer-in in
-      let n = g .good .nodes in
+  -- all that the indices of the copy and of the move need
+  pub lift-room : (i < j) × (j + count (treeFrom (tree w) j) ≤ i + count (treeFrom (tree w) i)) × (i + count (treeFrom (tree w) i) ≤ getD w 0 0) × (getD w 0 0 ≤ 1024) × (16384 ≤ length w)
+  lift-room = (inner-lt, inner-le, room g outer-in, g .good .nodes, g .good .long)
+
+  pub lift-done : {u v : List ℕ} {old m : ℕ} → m ≡ count (treeFrom (tree w) j) → old ≡ count (treeFrom (tree w) i) → Moved w u (16 + j * 2) (16 + i * 2) (m * 2) → Slid u v i old m → Replants w v (putAt (tree w) i (treeFrom (tree w) j))
+  lift-done {u} {v} {old} {m} em eo s t =
+      let r = lift-room in
       let f : i + m ≤ 1024 = omega arith in
       let c : getD u 0 0 ≡ getD w 0 0 = s .low 0 (omega arith) in
       let long = long-e g inner-in in

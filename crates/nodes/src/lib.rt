@@ -161,7 +161,16 @@ pub fn put_void(w: &mut [u32], i: usize, p: u32) -> Step
     Step::Done
 }
 
-// The node at i, at depth p, gives way to its second child, at j.
+// The node at i, of a subtree of `old` nodes, gives way to its second child, m nodes at j.
+fn lift(w: &mut [u32], i: usize, old: usize, j: usize, m: usize)
+    requires { ⌜ (Planted (now w)) × (Child (tree (now w)) i 1 j) × (old ≡ count (treeFrom (tree (now w)) i)) × (m ≡ count (treeFrom (tree (now w)) j)) ⌝ }
+    ensures { λ _. ⌜ Replants (now (w .entry)) (now (w .exit)) (putAt (tree (now (w .entry))) i (treeFrom (tree (now (w .entry))) j)) ⌝ }
+{
+    shift(w, 16 + j * 2, 16 + i * 2, m * 2);
+    slide(w, i, old, m);
+}
+
+// The same at depth p, if row 8 lets it; row 9 does, since there are no more nodes than before.
 pub fn unwrap(w: &mut [u32], i: usize, j: usize, p: u32) -> Step
     requires { ⌜ (Planted (now w)) × (Child (tree (now w)) i 1 j) × (p ≤ 201) ⌝ }
     ensures { λ r. ⌜ Swapped r (now (w .entry)) (now (w .exit)) p i (treeFrom (tree (now (w .entry))) j) ⌝ }
@@ -171,10 +180,8 @@ pub fn unwrap(w: &mut [u32], i: usize, j: usize, p: u32) -> Step
     let Tall::Behind(e) = r else {
         return Step::Refused(8);
     };
-    let m = e - j;
     let old = skip(w, i) - i;
-    shift(w, 16 + j * 2, 16 + i * 2, m * 2);
-    slide(w, i, old, m);
+    lift(w, i, old, j, e - j);
     Step::Done
 }
 
