@@ -143,7 +143,7 @@ pub fn replace_at(w: &mut [u32], i: usize, p: u32, base: usize, at: usize, m: us
     Step::Done
 }
 
-// The subtree at i, at depth p, gives way to `void 0`.
+// The subtree at i, at depth p, gives way to `void 0`: kind 30 with one child, kind 22.
 pub fn put_void(w: &mut [u32], i: usize, p: u32) -> Step
     requires { ⌜ (Planted (now w)) × (i < getD (now w) 0 0) ⌝ }
     ensures { λ r. ⌜ Swapped r (now (w .entry)) (now (w .exit)) p i voidZero ⌝ }
@@ -185,7 +185,7 @@ pub fn unwrap(w: &mut [u32], i: usize, j: usize, p: u32) -> Step
     Step::Done
 }
 
-// The node at q loses its second child, at i.
+// The node at q loses its second child, at i: 2048 in its first word is one child.
 pub fn cut(w: &mut [u32], q: usize, i: usize)
     requires { ⌜ (Planted (now w)) × (Child (tree (now w)) q 1 i) ⌝ }
     ensures { λ _. ⌜ Replants (now (w .entry)) (now (w .exit)) (cutAt (tree (now (w .entry))) q i) ⌝ }
