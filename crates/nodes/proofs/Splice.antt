@@ -75,7 +75,7 @@ module _ {w w′ : List ℕ} {i old : ℕ} {vs : List Core} (s : Spliced w w′ 
       (λ j a. let b : j < getD w 0 0 - (i + old) = omega arith in tree-at w′ (i + length vs + j) (omega arith) ∙ s .high j b ∙ sym (tree-at w (i + old + j) (omega arith)))
 
 -- e in the place of the tree at i
-module _ (w : List ℕ) (g : Planted w) (i : ℕ) (l : i < getD w 0 0) where
+module _ {w : List ℕ} (g : Planted w) {i : ℕ} (l : i < getD w 0 0) where
   abbrev old : ℕ
   old = count (treeFrom (tree w) i)
 
@@ -141,7 +141,7 @@ module _ {u v : List ℕ} (src i m : ℕ) (s : Moved u v src (16 + i * 2) (m * 2
       core-same u v (16 + (i + j) * 2) (src + j * 2) (rw (a0, b0) at (s .here (j * 2 + 0) (omega arith))) (rw (a1, b1) at (s .here (j * 2 + 1) (omega arith)))
 
 -- a place made, and then a run of a store copied there, or `void 0` written
-module _ {w u : List ℕ} (i old m : ℕ) (a : Slid w u i old m) (l : i + old ≤ getD w 0 0) (f : getD w 0 0 + m ≤ 1024 + old) where
+module _ {w u : List ℕ} {i old m : ℕ} (a : Slid w u i old m) (l : i + old ≤ getD w 0 0) (f : getD w 0 0 + m ≤ 1024 + old) where
   pub run-spliced : {v : List ℕ} (base at : ℕ) → 2064 ≤ base → Moved u v (base + at * 2) (16 + i * 2) (m * 2) → Spliced w v i old (run w base at m)
   run-spliced {v} base at b s =
       let src : ℕ = base + at * 2 in
@@ -158,8 +158,8 @@ module _ {w u : List ℕ} (i old m : ℕ) (a : Slid w u i old m) (l : i + old �
         high = λ j q. let e : i + length (run w base at m) + j ≡ i + m + j = omega arith in rw e (copied-high src i m s f′ (i + m + j) (omega arith) ∙ a .high j q);
       }
 
-pub void-spliced : {w u v : List ℕ} (i old : ℕ) → Slid w u i old 2 → i + old ≤ getD w 0 0 → getD w 0 0 + 2 ≤ 1024 + old → Put4 u v (16 + i * 2) 2078 0 22 0 → Spliced w v i old (flat voidZero [])
-void-spliced {w} {u} {v} i old a l f s = record {
+pub void-spliced : {w u v : List ℕ} {i old : ℕ} → Slid w u i old 2 → i + old ≤ getD w 0 0 → getD w 0 0 + 2 ≤ 1024 + old → Put4 u v (16 + i * 2) 2078 0 22 0 → Spliced w v i old (flat voidZero [])
+void-spliced {w} {u} {v} {i} {old} a l f s = record {
   apart = apart-then (a .apart) (record { size = s .size; low = λ j x y. s .low j (omega arith); high = λ j x. s .high j (omega arith) });
   count = s .low 0 (omega arith) ∙ a .count;
   low = λ j q. core-same u v (16 + j * 2) (16 + j * 2) (s .low (16 + j * 2) (omega arith)) (s .low (16 + j * 2 + 1) (omega arith)) ∙ a .low j (omega arith);
@@ -196,11 +196,11 @@ module _ (w : List ℕ) (base at m : ℕ) (z : 0 < m) (h : Whole (run w base at 
   pub run-count : count (firstT (plant (run w base at m))) ≡ m
   run-count = omega (arith, sym (length-flat (firstT (plant (run w base at m))) []) ∙ ap length run-is ∙ run-length w base at m)
 
-pub run-done : (w : List ℕ) (g : Planted w) (i : ℕ) (l : i < getD w 0 0) (base at m : ℕ) → 0 < m → Whole (run w base at m) → getD w 0 0 + m ≤ 1024 + count (treeFrom (tree w) i)
+pub run-done : {w : List ℕ} (g : Planted w) {i : ℕ} (l : i < getD w 0 0) (base at m : ℕ) → 0 < m → Whole (run w base at m) → getD w 0 0 + m ≤ 1024 + count (treeFrom (tree w) i)
     → {w′ : List ℕ} → Spliced w w′ i (count (treeFrom (tree w) i)) (run w base at m) → Replants w w′ (putAt (tree w) i (firstT (plant (run w base at m))))
-run-done w g i l base at m z h f s =
+run-done {w} g l base at m z h f s =
     let e : flat (firstT (plant (run w base at m))) [] ≡ run w base at m = run-is w base at m z h in
-    put-done w g i l (firstT (plant (run w base at m))) (rw e s) (rw e (h .names)) (omega (arith, run-count w base at m z h))
+    put-done g l (firstT (plant (run w base at m))) (rw e s) (rw e (h .names)) (omega (arith, run-count w base at m z h))
 
 pub run-trees : (w : List ℕ) (base at m : ℕ) → 0 < m → Whole (run w base at m) → Trees (run w base at m)
 run-trees w base at m z h = whole-trees (run w base at m) (one-whole (record { is = run-is w base at m z h }))
@@ -214,7 +214,7 @@ value-flat : (t : Tree) → valueOf (flat t []) ≡ some t
 value-flat (node k f a ts) = ap (λ (us : Forest). some (firstT us)) (plant-flat (node k f a ts) [])
 
 -- the nodes of the tree at j
-module _ (w : List ℕ) (g : Planted w) (j : ℕ) (l : j < getD w 0 0) where
+module _ {w : List ℕ} (g : Planted w) {j : ℕ} (l : j < getD w 0 0) where
   abbrev e : Tree
   e = treeFrom (tree w) j
 
@@ -226,12 +226,12 @@ module _ (w : List ℕ) (g : Planted w) (j : ℕ) (l : j < getD w 0 0) where
 
   node-of : (q : ℕ) → q < count e → getD (flat e []) q noCore ≡ nodeOf w (j + q)
   node-of q h =
-      let r = room w g j l in
+      let r = room g l in
       sym (List·getD-append (flat e []) (drop (j + count e) (tree w)) noCore q (omega (arith, long-e))) ∙ ap (λ (l : List Core). getD l q noCore) nodes-of ∙ getD-drop j (tree w) q noCore ∙ tree-at w (j + q) (omega arith)
 
   names-of : Names (flat e [])
   names-of =
-      let r = room w g j l in
+      let r = room g l in
       let is : take (count e) (drop j (tree w)) ≡ flat e [] = ap (take (count e)) (sym nodes-of) ∙ take-at (flat e []) (drop (j + count e) (tree w)) (count e) long-e in
       rw is at (names-take (count e) (drop j (tree w)) (omega (arith, length-drop j (tree w), tree-length w)) (names-drop j (tree w) (g .good .names)))
 
@@ -247,31 +247,32 @@ module _ (w : List ℕ) (g : Planted w) (j : ℕ) (l : j < getD w 0 0) where
   subtree-one = ap runOf subtree-value ∙ sym subtree-run
 
 -- the tree at j in the place of that at i, whose child it is: copied there, and then the end moved
-module _ (w : List ℕ) (g : Planted w) (i j : ℕ) (h : Child (tree w) i 1 j) where
+module _ {w : List ℕ} (g : Planted w) {i j : ℕ} (h : Child (tree w) i 1 j) where
   inner : Whole′ (drop i (tree w))
   inner = whole-drop i (tree w) (tree-whole g)
 
-  outer-in : i < getD w 0 0
+  pub outer-in : i < getD w 0 0
   outer-in = rw tree-length at (h .parent)
 
   pub inner-in : j < getD w 0 0
-  inner-in = rw tree-length at (child-lt (tree w) i 1 j h inner .1)
+  inner-in = rw tree-length at (child-lt h inner .1)
 
   pub inner-lt : i < j
-  inner-lt = child-lt (tree w) i 1 j h inner .0
+  inner-lt = child-lt h inner .0
 
   pub inner-le : j + count (treeFrom (tree w) j) ≤ i + count (treeFrom (tree w) i)
-  inner-le = child-in (tree w) i 1 j h inner
+  inner-le = child-in h inner
 
-  pub unwrap-done : {u v : List ℕ} (old m : ℕ) → m ≡ count (treeFrom (tree w) j) → old ≡ count (treeFrom (tree w) i) → Moved w u (16 + j * 2) (16 + i * 2) (m * 2) → Slid u v i old m → Replants w v (putAt (tree w) i (treeFrom (tree w) j))
-  unwrap-done {u} {v} old m em eo s t =
-      let le = inner-le in
-      let lt = inner-lt in
-      let r = room w g i outer-in in
-      let n = g .good .nodes in
+  -- all that the indices of the copy and of the move need
+  pub lift-room : (i < j) × (j + count (treeFrom (tree w) j) ≤ i + count (treeFrom (tree w) i)) × (i + count (treeFrom (tree w) i) ≤ getD w 0 0) × (getD w 0 0 ≤ 1024) × (16384 ≤ length w)
+  lift-room = (inner-lt, inner-le, room g outer-in, g .good .nodes, g .good .long)
+
+  pub lift-done : {u v : List ℕ} {old m : ℕ} → m ≡ count (treeFrom (tree w) j) → old ≡ count (treeFrom (tree w) i) → Moved w u (16 + j * 2) (16 + i * 2) (m * 2) → Slid u v i old m → Replants w v (putAt (tree w) i (treeFrom (tree w) j))
+  lift-done {u} {v} {old} {m} em eo s t =
+      let r = lift-room in
       let f : i + m ≤ 1024 = omega arith in
       let c : getD u 0 0 ≡ getD w 0 0 = s .low 0 (omega arith) in
-      let long = long-e w g j inner-in in
+      let long = long-e g inner-in in
       let done : Spliced w v i old (flat (treeFrom (tree w) j) []) = record {
         apart = apart-then (copied-apart (16 + j * 2) i m s f) (t .apart);
         count = t .count ∙ omega arith;
@@ -279,12 +280,12 @@ module _ (w : List ℕ) (g : Planted w) (i j : ℕ) (h : Child (tree w) i 1 j) w
         new = λ k q.
             let q′ : k < m = omega arith in
             let p : 16 + j * 2 + k * 2 ≡ 16 + (j + k) * 2 = omega arith in
-            t .low (i + k) (omega arith) ∙ copied-new (16 + j * 2) i m s f k q′ ∙ ap (coreFrom w) p ∙ sym (node-of w g j inner-in k (omega arith));
+            t .low (i + k) (omega arith) ∙ copied-new (16 + j * 2) i m s f k q′ ∙ ap (coreFrom w) p ∙ sym (node-of g inner-in k (omega arith));
         high = λ k q.
             let p : i + length (flat (treeFrom (tree w) j) []) + k ≡ i + m + k = omega arith in
             rw p (t .high k (omega arith) ∙ copied-high (16 + j * 2) i m s f (i + old + k) (omega arith));
       } in
-      put-done w g i outer-in (treeFrom (tree w) j) (rw eo at done) (names-of w g j inner-in) (omega arith)
+      put-done g outer-in (treeFrom (tree w) j) (rw eo at done) (names-of g inner-in) (omega arith)
 
 -- a node's first word with one child less
 less-word : (x y : ℕ) → 0 < x / 2048 % 65536 → core ((x - 2048) % 64) ((x - 2048) / 64 % 32) ((x - 2048) / 2048 % 65536) y ≡ reArity (x / 2048 % 65536 - 1) (core (x % 64) (x / 64 % 32) (x / 2048 % 65536) y)
@@ -301,7 +302,7 @@ less-word x y h =
     low16 y l = omega arith
 
 -- the tree at i, a child of the node at q, taken out
-module _ (w : List ℕ) (g : Planted w) (q i : ℕ) (h : Child (tree w) q 1 i) where
+module _ {w : List ℕ} (g : Planted w) {q i : ℕ} (h : Child (tree w) q 1 i) where
   abbrev ys : List Core
   ys = tree w
 
@@ -311,12 +312,12 @@ module _ (w : List ℕ) (g : Planted w) (q i : ℕ) (h : Child (tree w) q 1 i) w
   parent-is : nodeOf w q ≡ c
   parent-is = sym (tree-at w q (rw tree-length at (h .parent)))
 
-  module _ {u : List ℕ} (old : ℕ) (eo : old ≡ count (treeFrom ys i)) (s : Slid w u i old 0) where
+  module _ {u : List ℕ} {old : ℕ} (eo : old ≡ count (treeFrom ys i)) (s : Slid w u i old 0) where
     abbrev x : ℕ
     x = getD u (16 + q * 2) 0
 
     parent-kept : nodeOf u q ≡ c
-    parent-kept = s .low q (omega (arith, inner-lt w g q i h)) ∙ parent-is
+    parent-kept = s .low q (omega (arith, inner-lt g h)) ∙ parent-is
 
     parent-arity : x / 2048 % 65536 ≡ c .arity
     parent-arity = ap (λ (d : Core). d .arity) parent-kept
@@ -330,7 +331,7 @@ module _ (w : List ℕ) (g : Planted w) (q i : ℕ) (h : Child (tree w) q 1 i) w
     fewer : NodePut u u₁ q (reArity (c .arity - 1) c)
     fewer =
         let b = g .good .nodes in
-        let low : q < 1024 = omega (arith, inner-lt w g q i h, inner-in w g q i h) in
+        let low : q < 1024 = omega (arith, inner-lt g h, inner-in g h) in
         let y : ℕ = getD u₁ (16 + q * 2 + 1) 0 in
         let put : NodePut u u₁ q (core ((x - 2048) % 64) ((x - 2048) / 64 % 32) ((x - 2048) / 2048 % 65536) y) =
         rw (set-getD u₁ (16 + q * 2 + 1) 0) at (node-put u q (x - 2048) y (omega (arith, s .apart .size, g .good .long)) low) in
@@ -354,11 +355,11 @@ module _ (w : List ℕ) (g : Planted w) (q i : ℕ) (h : Child (tree w) q 1 i) w
     pub cut-done : Replants w u₁ (cutAt ys q i)
     unfolding cutAt
     cut-done =
-        let r = room w g i (inner-in w g q i h) in
-        let lt = inner-lt w g q i h in
+        let r = room g (inner-in g h) in
+        let lt = inner-lt g h in
         let n : getD u 0 0 ≡ getD w 0 0 + 0 - old = s .count in
         let c′ : Core = reArity (c .arity - 1) c in
         let is : tree u₁ ≡ cutAt ys q i = put-tree fewer (omega arith) ∙ ap (λ (l : List Core). set l q c′) (spliced-tree gone (omega arith) ∙ ap (λ (k : ℕ). take i ys ++ drop (i + k) ys) eo) in
         replants (cutAt ys q i) g (apart-then (s .apart) (fewer .apart)) (omega (arith, fewer .count, g .good .nodes)) is
         (names-set (take i ys ++ drop (i + count (treeFrom ys i)) ys) q c′ (g .good .names q) (names-append (take i ys) (drop (i + count (treeFrom ys i)) ys) (names-take i ys (omega (arith, tree-length w)) (g .good .names)) (names-drop (i + count (treeFrom ys i)) ys (g .good .names))))
-        (cut-one ys q 1 i h (whole-drop q ys (tree-whole g)) (g .one))
+        (cut-one h (whole-drop q ys (tree-whole g)) (g .one))

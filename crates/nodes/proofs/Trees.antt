@@ -1,4 +1,4 @@
--- Trees in a list of nodes: where they end, what a loop over open trees passes, and that one tree stays one tree. Assumes nothing.
+-- Trees in a list of nodes: where they and their children stand, and that one tree stays one tree. Assumes nothing.
 use mathlib.Core.Path.{_≡_, refl, sym, ap, _∙_}
 use mathlib.Core.List.{List, [], _∷_, _++_, append-assoc}
 use mathlib.Core.Bool.{Bool, true, false, _||_}
@@ -23,7 +23,7 @@ append-nil : (ts : Forest) → appendF ts nil ≡ ts
 append-nil nil = refl
 append-nil (cons t ts) = ap (cons t) (append-nil ts)
 
-take-add : (n m : ℕ) (ts : Forest) → takeF (n + m) ts ≡ appendF (takeF n ts) (takeF m (dropF n ts))
+pub take-add : (n m : ℕ) (ts : Forest) → takeF (n + m) ts ≡ appendF (takeF n ts) (takeF m (dropF n ts))
 take-add zero m ts = rw zero-add refl
 take-add (suc n) m nil = rw suc-add (none m)
   where
@@ -36,15 +36,15 @@ first-rest : (ts : Forest) → 0 < lengthF ts → ts ≡ cons (firstT ts) (tailF
 first-rest nil h = absurd (omega arith)
 first-rest (cons t ts) h = refl
 
-counts-append : (ts us : Forest) → counts (appendF ts us) ≡ counts ts + counts us
+pub counts-append : (ts us : Forest) → counts (appendF ts us) ≡ counts ts + counts us
 counts-append nil us = sym (zero-add (counts us))
 counts-append (cons t ts) us = rw (counts-append ts us) (omega arith)
 
-heights-append : (ts us : Forest) → heights (appendF ts us) ≡ max (heights ts) (heights us)
+pub heights-append : (ts us : Forest) → heights (appendF ts us) ≡ max (heights ts) (heights us)
 heights-append nil us = omega arith
 heights-append (cons t ts) us = rw (heights-append ts us) (omega arith)
 
-this-append : (ts us : Forest) → hasThisF (appendF ts us) ≡ (hasThisF ts || hasThisF us)
+pub this-append : (ts us : Forest) → hasThisF (appendF ts us) ≡ (hasThisF ts || hasThisF us)
 this-append nil us = refl
 this-append (cons t ts) us = rw (this-append ts us) (or (hasThis t) (hasThisF ts) (hasThisF us))
   where
@@ -54,13 +54,13 @@ this-append (cons t ts) us = rw (this-append ts us) (or (hasThis t) (hasThisF ts
 
 -- `this` at a node
 module _ (k f a : ℕ) (ts : Forest) where
-  this-26 : k ≡ 26 → hasThis (node k f a ts) ≡ true
+  pub this-26 : k ≡ 26 → hasThis (node k f a ts) ≡ true
   this-26 e = rw e refl
 
-  this-shut : (k ≡ 39) ⊎ (k ≡ 7) → hasThis (node k f a ts) ≡ false
+  pub this-shut : (k ≡ 39) ⊎ (k ≡ 7) → hasThis (node k f a ts) ≡ false
   this-shut o = ⊎-elim (λ (e : k ≡ 39). rw e refl) (λ (e : k ≡ 7). rw e refl) o
 
-  this-kids : (k ≡ 26 → ⊥) → (k ≡ 39 → ⊥) → (k ≡ 7 → ⊥) → hasThis (node k f a ts) ≡ hasThisF ts
+  pub this-kids : (k ≡ 26 → ⊥) → (k ≡ 39 → ⊥) → (k ≡ 7 → ⊥) → hasThis (node k f a ts) ≡ hasThisF ts
   this-kids d b c =
       ap (λ (p : Bool). elim p [ true ↦ true | false ↦ elim (eqb k 39 || eqb k 7) [ true ↦ false | false ↦ hasThisF ts ] ]) (ne-eqb k 26 d)
       ∙ ap (λ (p : Bool). elim p [ true ↦ false | false ↦ hasThisF ts ]) (ap (λ (p : Bool). p || eqb k 7) (ne-eqb k 39 b) ∙ ne-eqb k 7 c)
@@ -87,7 +87,7 @@ mutual
   length-flats nil xs = sym (zero-add (length xs))
   length-flats (cons t ts) xs = omega (arith, length-flat t (flats ts xs), length-flats ts xs)
 
-trees-le : (xs : List Core) → lengthF (plant xs) ≤ length xs
+pub trees-le : (xs : List Core) → lengthF (plant xs) ≤ length xs
 trees-le [] = omega arith
 trees-le (x ∷ xs) = omega (arith, length-dropF (x .arity) (plant xs), trees-le xs)
 
@@ -171,7 +171,7 @@ module _ (xs : List Core) (i : ℕ) (l : i < length xs) where
   node-height = rw (drop-cons xs i noCore l, add-one) refl
 
 -- a child's place, and the list without it
-module _ (xs : List Core) (q m i : ℕ) (h : Child xs q m i) (w : Whole (drop q xs)) where
+module _ {xs : List Core} {q m i : ℕ} (h : Child xs q m i) (w : Whole (drop q xs)) where
   abbrev c : Core
   c = getD xs q noCore
 
@@ -266,169 +266,9 @@ module _ (xs : List Core) (q m i : ℕ) (h : Child xs q m i) (w : Whole (drop q 
       (omega (arith, h .few, at-parent .0), whole-flats (takeF m ts) z (whole-flats (tailF (dropF m ts)) [] tt))
       (rw (ap (λ (l : List Core). take q xs ++ l) (sym from-parent) ∙ take-append-drop q xs) o))
 
--- a loop to the end of n trees, from the node at `at` on
-unfoldable pub Open : List Core → ℕ → ℕ → Type 0
-Open xs at n = n ≤ lengthF (plant (drop at xs))
-
-pub open-first : (xs : List Core) (i : ℕ) → i < length xs → Open xs i 1
-unfolding Open
-open-first xs i l = rw (drop-cons xs i noCore l) (omega arith)
-
-pub forest-first : (xs : List Core) (i : ℕ) → i < length xs → forestFrom xs 1 i ≡ cons (treeFrom xs i) nil
-unfolding forestFrom treeFrom
-forest-first xs i l = rw (drop-cons xs i noCore l) refl
-
-pub open-le : (xs : List Core) (at n : ℕ) → Open xs at n → n ≤ length xs
-unfolding Open
-open-le xs at n o = omega (arith, trees-le (drop at xs), length-drop at xs)
-
-module _ (xs : List Core) (w : Whole xs) (at n : ℕ) (o : Open xs at n) (z : 0 < n) where
-  abbrev x : Core
-  x = getD xs at noCore
-
-  abbrev us : Forest
-  us = plant (drop (at + 1) xs)
-
-  pub open-here : at < length xs
-  unfolding Open
-  open-here = omega (arith, trees-le (drop at xs), length-drop at xs)
-
-  here : drop at xs ≡ x ∷ drop (at + 1) xs
-  here = rw add-one (drop-cons xs at noCore open-here)
-
-  pub open-in : Open xs (at + 1) (n - 1 + x .arity)
-  unfolding Open
-  open-in = let e : n ≤ lengthF (plant (x ∷ drop (at + 1) xs)) = rw here at o in let q : Whole (x ∷ drop (at + 1) xs) = rw here at (whole-drop at xs w) in omega (arith, length-dropF (x .arity) us, q .0)
-
-  forest-here : forestFrom xs n at ≡ cons (node (x .kind) (x .form) (x .num) (takeF (x .arity) us)) (takeF (n - 1) (dropF (x .arity) us))
-  unfolding forestFrom
-  forest-here = let e : n ≡ suc (n - 1) = omega arith in ap (λ (k : ℕ). takeF k (plant (drop at xs))) e ∙ rw here refl
-
-  forest-next : forestFrom xs (n - 1 + x .arity) (at + 1) ≡ appendF (takeF (x .arity) us) (takeF (n - 1) (dropF (x .arity) us))
-  unfolding forestFrom
-  forest-next = let e : n - 1 + x .arity ≡ x .arity + (n - 1) = omega arith in rw e (take-add (x .arity) (n - 1) us)
-
-  pub counts-in : counts (forestFrom xs n at) ≡ suc (counts (forestFrom xs (n - 1 + x .arity) (at + 1)))
-  counts-in = rw (forest-here, forest-next, counts-append (takeF (x .arity) us) (takeF (n - 1) (dropF (x .arity) us))) (omega arith)
-
-  this-here : hasThisF (forestFrom xs n at) ≡ (hasThis (node (x .kind) (x .form) (x .num) (takeF (x .arity) us)) || hasThisF (takeF (n - 1) (dropF (x .arity) us)))
-  this-here = ap hasThisF forest-here
-
-  abbrev others : Bool
-  others = hasThisF (takeF (n - 1) (dropF (x .arity) us))
-
-  pub this-found : x .kind ≡ 26 → hasThisF (forestFrom xs n at) ≡ true
-  this-found e = this-here ∙ ap (λ (b : Bool). b || others) (this-26 (x .kind) (x .form) (x .num) (takeF (x .arity) us) e)
-
-  pub this-in : (x .kind ≡ 26 → ⊥) → (x .kind ≡ 39 → ⊥) → (x .kind ≡ 7 → ⊥) → hasThisF (forestFrom xs n at) ≡ hasThisF (forestFrom xs (n - 1 + x .arity) (at + 1))
-  this-in d a b =
-      this-here ∙ ap (λ (b : Bool). b || others) (this-kids (x .kind) (x .form) (x .num) (takeF (x .arity) us) d a b)
-      ∙ sym (ap hasThisF forest-next ∙ this-append (takeF (x .arity) us) (takeF (n - 1) (dropF (x .arity) us)))
-
-  -- behind the tree at `at`
-  abbrev next : ℕ
-  next = at + count (treeFrom xs at)
-
-  behind : plant (drop next xs) ≡ dropF 1 (plant (drop at xs))
-  unfolding treeFrom
-  behind =
-      let e : counts (takeF 1 (plant (drop at xs))) ≡ count (firstT (plant (drop at xs))) = rw here (omega arith) in
-      ap plant (sym (drop-drop (count (firstT (plant (drop at xs)))) at xs) ∙ ap (λ (k : ℕ). drop k (drop at xs)) (sym e)) ∙ plant-behind 1 (drop at xs) (whole-drop at xs w)
-
-  pub open-past : Open xs next (n - 1)
-  unfolding Open
-  open-past = rw behind (omega (arith, length-dropF 1 (plant (drop at xs))))
-
-  forest-past : forestFrom xs (n - 1) next ≡ takeF (n - 1) (dropF (x .arity) us)
-  unfolding forestFrom
-  forest-past = ap (takeF (n - 1)) (behind ∙ rw here refl)
-
-  pub this-past : (x .kind ≡ 26 → ⊥) → (x .kind ≡ 39) ⊎ (x .kind ≡ 7) → hasThisF (forestFrom xs n at) ≡ hasThisF (forestFrom xs (n - 1) next)
-  this-past d o = this-here ∙ ap (λ (b : Bool). b || others) (this-shut (x .kind) (x .form) (x .num) (takeF (x .arity) us) o) ∙ ap hasThisF (sym forest-past)
-
--- from the tree at i to the node at `at`, with n trees open
-pub record Passed (xs : List Core) (i at n : ℕ) : Type 0 where
-  pub still : Open xs at n
-  pub ends : at + counts (forestFrom xs n at) ≡ i + count (treeFrom xs i)
-
-pub passed-none : (xs : List Core) (i : ℕ) → i < length xs → Passed xs i i 1
-passed-none xs i l = record { still = open-first xs i l; ends = rw (forest-first xs i l) (omega arith) }
-
-pub passed-more : (xs : List Core) (i at n a : ℕ) → Whole xs → Passed xs i at n → 0 < n → a ≡ getD xs at noCore .arity → Passed xs i (at + 1) (n - 1 + a)
-passed-more xs i at n a w p z e = rw e (record { still = open-in xs w at n (p .still) z; ends = omega (arith, p .ends, counts-in xs w at n (p .still) z) })
-
-pub passed-all : (xs : List Core) (i at n : ℕ) → n ≡ 0 → Passed xs i at n → at ≡ i + count (treeFrom xs i)
-unfolding forestFrom
-passed-all xs i at n z p = let q = p .ends in let e : counts (takeF n (plant (drop at xs))) ≡ 0 = rw z refl in omega arith
-
--- a search for `this` in the tree at i has come to the node at `at`, with n trees open
-pub record Sought (xs : List Core) (i at n : ℕ) : Type 0 where
-  pub still : Open xs at n
-  pub same : hasThis (treeFrom xs i) ≡ hasThisF (forestFrom xs n at)
-
-pub sought-none : (xs : List Core) (i : ℕ) → i < length xs → Sought xs i i 1
-sought-none xs i l = record { still = open-first xs i l; same = rw (forest-first xs i l) (or (hasThis (treeFrom xs i))) }
-  where
-    or : (b : Bool) → b ≡ (b || false)
-    or true = refl
-    or false = refl
-
-pub sought-all : (xs : List Core) (i at n : ℕ) → n ≡ 0 → Sought xs i at n → false ≡ hasThis (treeFrom xs i)
-unfolding forestFrom
-sought-all xs i at n z s = let e : hasThisF (takeF n (plant (drop at xs))) ≡ false = rw z refl in sym (s .same ∙ e)
-
-module _ (xs : List Core) (w : Whole xs) (i at n k : ℕ) (s : Sought xs i at n) (z : 0 < n) (e : k ≡ getD xs at noCore .kind) where
-  pub sought-found : k ≡ 26 → true ≡ hasThis (treeFrom xs i)
-  sought-found q = sym (s .same ∙ this-found xs w at n (s .still) z (sym e ∙ q))
-
-  module _ (d : k ≡ 26 → ⊥) where
-    pub sought-past : (k ≡ 39) ⊎ (k ≡ 7) → (r : ℕ) → r ≡ at + count (treeFrom xs at) → Sought xs i r (n - 1)
-    sought-past o r q = rw q (record {
-      still = open-past xs w at n (s .still) z;
-      same = s .same ∙ this-past xs w at n (s .still) z (λ x. d (e ∙ x)) (rw e at o);
-    })
-
-    pub sought-in : (k ≡ 39 → ⊥) → (k ≡ 7 → ⊥) → (a : ℕ) → a ≡ getD xs at noCore .arity → Sought xs i (at + 1) (n - 1 + a)
-    sought-in b c a q = rw q (record {
-      still = open-in xs w at n (s .still) z;
-      same = s .same ∙ this-in xs w at n (s .still) z (λ x. d (e ∙ x)) (λ x. b (e ∙ x)) (λ x. c (e ∙ x));
-    })
-
 -- whole, in the contracts' terms
 pub trees-whole : {xs : List Core} → Trees xs → Whole xs
 trees-whole {xs} h = rw (h .are) at (whole-flats (plant xs) [] tt)
 
 pub whole-trees : (xs : List Core) → Whole xs → Trees xs
 whole-trees xs h = record { are = unplant xs h }
-
--- of the children of the node at i, k are at most h high and end at j
-pub record Measuring (xs : List Core) (i h k j : ℕ) : Type 0 where
-  pub few : k ≤ getD xs i noCore .arity
-  pub next : j ≡ i + 1 + counts (forestFrom xs k (i + 1))
-  pub low : heights (forestFrom xs k (i + 1)) ≤ h
-
-pub measuring-none : (xs : List Core) (i h : ℕ) → Measuring xs i h 0 (i + 1)
-unfolding forestFrom
-measuring-none xs i h = record { few = omega arith; next = omega arith; low = omega arith }
-
-module _ (xs : List Core) (i h k j : ℕ) (l : i < length xs) (m : Measuring xs i h k j) where
-  pub measuring-all : k ≡ getD xs i noCore .arity → (j ≡ i + count (treeFrom xs i)) × (height (treeFrom xs i) ≤ h + 1)
-  measuring-all e =
-      let a : counts (forestFrom xs k (i + 1)) ≡ counts (forestFrom xs (getD xs i noCore .arity) (i + 1)) = rw e refl in
-      let b : heights (forestFrom xs k (i + 1)) ≡ heights (forestFrom xs (getD xs i noCore .arity) (i + 1)) = rw e refl in
-      (omega (arith, node-count xs i l, m .next), omega (arith, node-height xs i l, m .low))
-
-  module _ (few : k < getD xs i noCore .arity) (w : Whole (drop i xs)) where
-    pub measuring-child : Child xs i k j
-    measuring-child = record { parent = l; few = few; at = m .next }
-
-    pub measuring-more : (e : ℕ) → e ≡ j + count (treeFrom xs j) → height (treeFrom xs j) ≤ h → Measuring xs i h (k + 1) e
-    measuring-more e q b =
-        let n = child-next xs i k j measuring-child w in record {
-          few = omega arith;
-          next = omega (arith, m .next, ap counts n ∙ counts-append (forestFrom xs k (i + 1)) (cons (treeFrom xs j) nil));
-          low = omega (arith, m .low, ap heights n ∙ heights-append (forestFrom xs k (i + 1)) (cons (treeFrom xs j) nil));
-        }
-
-    pub measuring-over : h < height (treeFrom xs j) → h + 1 < height (treeFrom xs i)
-    measuring-over b = omega (arith, node-height xs i l, child-high xs i k j measuring-child w)

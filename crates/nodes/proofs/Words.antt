@@ -11,25 +11,26 @@ use Rattle.words.specs.Tab.{tab-ext}
 use Rattle.words.specs.Layout.{coreFrom, nodeOf, run, tree}
 use Rattle.words.proofs.Nodes.{tree-length, tree-at, run-at, run-length}
 use Rattle.nodes.specs.Nodes.{treeFrom, Planted}
-use Rattle.nodes.proofs.Trees.{one-whole, Open, open-here, open-le, behind-le, count-some}
+use Rattle.nodes.proofs.Loops.{Open, open-here, open-le}
+use Rattle.nodes.proofs.Trees.{one-whole, behind-le, count-some}
 
 pub tree-whole : {w : List ℕ} → Planted w → Whole (tree w)
 tree-whole g = one-whole (g .one)
 
 -- a node of the tree, while trees are open
-module _ (w : List ℕ) (g : Planted w) (at n : ℕ) (o : Open (tree w) at n) (z : 0 < n) where
+module _ {w : List ℕ} (g : Planted w) {at n : ℕ} (o : Open (tree w) at n) (z : 0 < n) where
   pub in-tree : at < getD w 0 0
-  in-tree = rw tree-length at (open-here (tree w) (tree-whole g) at n o z)
+  in-tree = rw tree-length at (open-here (tree-whole g) o z)
 
   pub few-open : n ≤ 1024
-  few-open = let l : n ≤ getD w 0 0 = rw tree-length at (open-le (tree w) at n o) in omega (arith, g .good .nodes)
+  few-open = let l : n ≤ getD w 0 0 = rw tree-length at (open-le o) in omega (arith, g .good .nodes)
 
   pub node-here : nodeOf w at ≡ getD (tree w) at noCore
   node-here = sym (tree-at w at in-tree)
 
 -- the end of the tree at i
-pub skipped : (w : List ℕ) → Planted w → (i : ℕ) → i < getD w 0 0 → {r : ℕ} → r ≡ i + count (treeFrom (tree w) i) → (r ≡ i + count (treeFrom (tree w) i)) × (i < r) × (r ≤ getD w 0 0)
-skipped w g i l e =
+pub skipped : {w : List ℕ} → Planted w → {i r : ℕ} → i < getD w 0 0 → r ≡ i + count (treeFrom (tree w) i) → (r ≡ i + count (treeFrom (tree w) i)) × (i < r) × (r ≤ getD w 0 0)
+skipped {w} g {i} l e =
     let b : i + count (treeFrom (tree w) i) ≤ getD w 0 0 = rw tree-length at (behind-le (tree w) i (rw tree-length l) (tree-whole g)) in
     (e, omega (arith, count-some (treeFrom (tree w) i)), omega arith)
 

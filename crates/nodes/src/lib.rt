@@ -143,7 +143,7 @@ pub fn replace_at(w: &mut [u32], i: usize, p: u32, base: usize, at: usize, m: us
     Step::Done
 }
 
-// The subtree at i, at depth p, gives way to `void 0`.
+// The subtree at i, at depth p, gives way to `void 0`: kind 30 with one child, kind 22.
 pub fn put_void(w: &mut [u32], i: usize, p: u32) -> Step
     requires { ⌜ (Planted (now w)) × (i < getD (now w) 0 0) ⌝ }
     ensures { λ r. ⌜ Swapped r (now (w .entry)) (now (w .exit)) p i voidZero ⌝ }
@@ -161,7 +161,16 @@ pub fn put_void(w: &mut [u32], i: usize, p: u32) -> Step
     Step::Done
 }
 
-// The node at i, at depth p, gives way to its second child, at j.
+// The node at i, of a subtree of `old` nodes, gives way to its second child, m nodes at j.
+fn lift(w: &mut [u32], i: usize, old: usize, j: usize, m: usize)
+    requires { ⌜ (Planted (now w)) × (Child (tree (now w)) i 1 j) × (old ≡ count (treeFrom (tree (now w)) i)) × (m ≡ count (treeFrom (tree (now w)) j)) ⌝ }
+    ensures { λ _. ⌜ Replants (now (w .entry)) (now (w .exit)) (putAt (tree (now (w .entry))) i (treeFrom (tree (now (w .entry))) j)) ⌝ }
+{
+    shift(w, 16 + j * 2, 16 + i * 2, m * 2);
+    slide(w, i, old, m);
+}
+
+// The same at depth p, if row 8 lets it; row 9 does, since there are no more nodes than before.
 pub fn unwrap(w: &mut [u32], i: usize, j: usize, p: u32) -> Step
     requires { ⌜ (Planted (now w)) × (Child (tree (now w)) i 1 j) × (p ≤ 201) ⌝ }
     ensures { λ r. ⌜ Swapped r (now (w .entry)) (now (w .exit)) p i (treeFrom (tree (now (w .entry))) j) ⌝ }
@@ -171,14 +180,12 @@ pub fn unwrap(w: &mut [u32], i: usize, j: usize, p: u32) -> Step
     let Tall::Behind(e) = r else {
         return Step::Refused(8);
     };
-    let m = e - j;
     let old = skip(w, i) - i;
-    shift(w, 16 + j * 2, 16 + i * 2, m * 2);
-    slide(w, i, old, m);
+    lift(w, i, old, j, e - j);
     Step::Done
 }
 
-// The node at q loses its second child, at i.
+// The node at q loses its second child, at i: 2048 in its first word is one child.
 pub fn cut(w: &mut [u32], q: usize, i: usize)
     requires { ⌜ (Planted (now w)) × (Child (tree (now w)) q 1 i) ⌝ }
     ensures { λ _. ⌜ Replants (now (w .entry)) (now (w .exit)) (cutAt (tree (now (w .entry))) q i) ⌝ }

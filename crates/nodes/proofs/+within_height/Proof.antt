@@ -1,6 +1,6 @@
 -- A height bounded: the children measured one after the other, each with one less. Assumes nothing.
-use mathlib.Core.Path.{_≡_, sym, ap, _∙_}
-use Prim.Native.Nat.{_+_, _-_, _≤_, ℕ, _<_}
+use mathlib.Core.Path.{_≡_, ap}
+use Prim.Native.Nat.{ℕ, _+_, _-_, _≤_, _<_}
 use native.Mathlib.Omega.{arith}
 use borrow.Author.Needs.{needs}
 use borrow.Fn.Kinds.{In}
@@ -10,7 +10,8 @@ use Rattle.tree.specs.Tree.{Core, count}
 use Rattle.definition.specs.Tree.{height}
 use Rattle.words.specs.Layout.{run}
 use Rattle.nodes.specs.Nodes.{treeFrom}
-use Rattle.nodes.proofs.Trees.{trees-whole, whole-trees, node-height, Measuring, measuring-none, measuring-child, measuring-more, measuring-over, measuring-all, child-lt, child-whole}
+use Rattle.nodes.proofs.Trees.{trees-whole, whole-trees, node-height, child-lt, child-whole}
+use Rattle.nodes.proofs.Loops.{Measuring, measuring-none, measuring-child, measuring-more, measuring-over, measuring-all}
 use Rattle.nodes.proofs.Words.{store-at, store-length}
 use Rattle.nodes.proofs.within_height.Reads as within-height
 use Rattle.nodes.proofs.within_height.Kinds as within-height-kinds
@@ -98,7 +99,9 @@ within-height-within-height-requires : (t : ℕ) → within-height-lts.Need-with
 within-height-within-height-requires t c κs =
     let at-loop = c .before in
     let at-entry = at-loop .before .before .before .before in
-    let ch = measuring-child (run (at-entry .args .w .now) (at-entry .args .base) 0 (at-entry .args .end)) (at-entry .args .at) (at-entry .args .left - 1) (at-loop .loop .k) (at-loop .loop .j) (rw store-length (at-entry .pre .1 .1)) (at-loop .loop .inv) (rw (ap (λ (x : Core). x .arity) (store-at (at-entry .args .w .now) (at-entry .args .base) (at-entry .args .end) (at-entry .args .at) (at-entry .pre .1 .1))) (c .loop-test .taken)) (trees-whole (at-entry .pre .1 .2)) in let b = child-lt (run (at-entry .args .w .now) (at-entry .args .base) 0 (at-entry .args .end)) (at-entry .args .at) (at-loop .loop .k) (at-loop .loop .j) ch (trees-whole (at-entry .pre .1 .2)) in (omega (arith, at-entry .pre .0), (at-entry .pre .1 .0, rw store-length at (b .1), whole-trees (drop (at-loop .loop .j) (run (at-entry .args .w .now) (at-entry .args .base) 0 (at-entry .args .end))) (child-whole (run (at-entry .args .w .now) (at-entry .args .base) 0 (at-entry .args .end)) (at-entry .args .at) (at-loop .loop .k) (at-loop .loop .j) ch (trees-whole (at-entry .pre .1 .2)))))
+    let ch = measuring-child (rw store-length (at-entry .pre .1 .1)) (at-loop .loop .inv) (rw (ap (λ (x : Core). x .arity) (store-at (at-entry .args .w .now) (at-entry .args .base) (at-entry .args .end) (at-entry .args .at) (at-entry .pre .1 .1))) (c .loop-test .taken)) (trees-whole (at-entry .pre .1 .2)) in
+    let lt = child-lt ch (trees-whole (at-entry .pre .1 .2)) in
+    (omega (arith, at-entry .pre .0), (at-entry .pre .1 .0, rw store-length at (lt .1), whole-trees (drop (at-loop .loop .j) (run (at-entry .args .w .now) (at-entry .args .base) 0 (at-entry .args .end))) (child-whole ch (trees-whole (at-entry .pre .1 .2)))))
 
 within-height-enum-known-r : (t : ℕ) → within-height-lts.Need-enum-known-r (
   within-height-below t,
@@ -121,7 +124,9 @@ within-height-returns-2 t c =
     let at-loop-test = at-within-height .before in
     let at-loop = at-loop-test .before in
     let at-entry = at-loop .before .before .before .before in
-    let e = c .enum-told .given .1 in let m : at-entry .args .left - 1 < height (treeFrom (run (at-entry .args .w .now) (at-entry .args .base) 0 (at-entry .args .end)) (at-loop .loop .j)) = rw e at (at-within-height .within-height .ensures) in rw e (omega (arith, measuring-over (run (at-entry .args .w .now) (at-entry .args .base) 0 (at-entry .args .end)) (at-entry .args .at) (at-entry .args .left - 1) (at-loop .loop .k) (at-loop .loop .j) (rw store-length (at-entry .pre .1 .1)) (at-loop .loop .inv) (rw (ap (λ (x : Core). x .arity) (store-at (at-entry .args .w .now) (at-entry .args .base) (at-entry .args .end) (at-entry .args .at) (at-entry .pre .1 .1))) (at-loop-test .loop-test .taken)) (trees-whole (at-entry .pre .1 .2)) m))
+    let e = c .enum-told .given .1 in
+    let m : at-entry .args .left - 1 < height (treeFrom (run (at-entry .args .w .now) (at-entry .args .base) 0 (at-entry .args .end)) (at-loop .loop .j)) = rw e at (at-within-height .within-height .ensures) in
+    rw e (omega (arith, measuring-over (rw store-length (at-entry .pre .1 .1)) (at-loop .loop .inv) (rw (ap (λ (x : Core). x .arity) (store-at (at-entry .args .w .now) (at-entry .args .base) (at-entry .args .end) (at-entry .args .at) (at-entry .pre .1 .1))) (at-loop-test .loop-test .taken)) (trees-whole (at-entry .pre .1 .2)) m))
 
 within-height-add-k : (t : ℕ) → within-height-lts.Need-add-k (
   within-height-below t,
@@ -145,7 +150,8 @@ within-height-loop-again t c =
     let at-loop-test = at-within-height .before in
     let at-loop = at-loop-test .before in
     let at-entry = at-loop .before .before .before .before in
-    let m : (at-r .r .given .0 .0 ≡ at-loop .loop .j + count (treeFrom (run (at-entry .args .w .now) (at-entry .args .base) 0 (at-entry .args .end)) (at-loop .loop .j))) × (height (treeFrom (run (at-entry .args .w .now) (at-entry .args .base) 0 (at-entry .args .end)) (at-loop .loop .j)) ≤ at-entry .args .left - 1) = rw (at-r .r .given .1) at (at-within-height .within-height .ensures) in measuring-more (run (at-entry .args .w .now) (at-entry .args .base) 0 (at-entry .args .end)) (at-entry .args .at) (at-entry .args .left - 1) (at-loop .loop .k) (at-loop .loop .j) (rw store-length (at-entry .pre .1 .1)) (at-loop .loop .inv) (rw (ap (λ (x : Core). x .arity) (store-at (at-entry .args .w .now) (at-entry .args .base) (at-entry .args .end) (at-entry .args .at) (at-entry .pre .1 .1))) (at-loop-test .loop-test .taken)) (trees-whole (at-entry .pre .1 .2)) (at-r .r .given .0 .0) (m .0) (m .1)
+    let m : (at-r .r .given .0 .0 ≡ at-loop .loop .j + count (treeFrom (run (at-entry .args .w .now) (at-entry .args .base) 0 (at-entry .args .end)) (at-loop .loop .j))) × (height (treeFrom (run (at-entry .args .w .now) (at-entry .args .base) 0 (at-entry .args .end)) (at-loop .loop .j)) ≤ at-entry .args .left - 1) = rw (at-r .r .given .1) at (at-within-height .within-height .ensures) in
+    measuring-more (rw store-length (at-entry .pre .1 .1)) (at-loop .loop .inv) (rw (ap (λ (x : Core). x .arity) (store-at (at-entry .args .w .now) (at-entry .args .base) (at-entry .args .end) (at-entry .args .at) (at-entry .pre .1 .1))) (at-loop-test .loop-test .taken)) (trees-whole (at-entry .pre .1 .2)) (m .0) (m .1)
 
 within-height-returns-3 : (t : ℕ) → within-height-lts.Need-returns-3 (
   within-height-below t,
@@ -154,7 +160,9 @@ within-height-returns-3 : (t : ℕ) → within-height-lts.Need-returns-3 (
 within-height-returns-3 t c =
     let at-loop = c .before in
     let at-entry = at-loop .before .before .before .before in
-    let m = measuring-all (run (at-entry .args .w .now) (at-entry .args .base) 0 (at-entry .args .end)) (at-entry .args .at) (at-entry .args .left - 1) (at-loop .loop .k) (at-loop .loop .j) (rw store-length (at-entry .pre .1 .1)) (at-loop .loop .inv) (sym (ap (λ (x : Core). x .arity) (store-at (at-entry .args .w .now) (at-entry .args .base) (at-entry .args .end) (at-entry .args .at) (at-entry .pre .1 .1)) ∙ omega (arith, rw (ap (λ (x : Core). x .arity) (store-at (at-entry .args .w .now) (at-entry .args .base) (at-entry .args .end) (at-entry .args .at) (at-entry .pre .1 .1))) at (at-loop .loop .inv .few)))) in (m .0, omega (arith, m .1))
+    let e = ap (λ (x : Core). x .arity) (store-at (at-entry .args .w .now) (at-entry .args .base) (at-entry .args .end) (at-entry .args .at) (at-entry .pre .1 .1)) in
+    let m = measuring-all (rw store-length (at-entry .pre .1 .1)) (at-loop .loop .inv) (omega (arith, e, at-loop .loop .inv .few)) in
+    (m .0, omega (arith, m .1))
 
 pub +within-height-spec : {M : Type 1} → statement M
 +within-height-spec = close μ-within-height λ t. within-height-lts.spec (

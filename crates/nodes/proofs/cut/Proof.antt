@@ -13,7 +13,7 @@ use Rattle.nodes.proofs.cut.Tie as tie
 skip-requires : tie.Need-skip-requires
 skip-requires c κs =
     let at-entry = c .before .before in
-    (at-entry .pre .0, inner-in (at-entry .args .w .now) (at-entry .pre .0) (at-entry .args .q) (at-entry .args .i) (at-entry .pre .1))
+    (at-entry .pre .0, inner-in (at-entry .pre .0) (at-entry .pre .1))
 
 sub-old : tie.Need-sub-old
 sub-old c = search needs
@@ -38,7 +38,8 @@ sub-w c =
     let at-slide = c .before .before .before in
     let at-skip = at-slide .before .before in
     let at-entry = at-skip .before .before .before in
-    let eo : at-skip .skip .result - at-entry .args .i ≡ count (treeFrom (tree (at-entry .args .w .now)) (at-entry .args .i)) = omega (arith, at-skip .skip .ensures .0) in omega (arith, parent-word (at-entry .args .w .now) (at-entry .pre .0) (at-entry .args .q) (at-entry .args .i) (at-entry .pre .1) (at-skip .skip .result - at-entry .args .i) eo (at-slide .slide .ensures))
+    let eo : at-skip .skip .result - at-entry .args .i ≡ count (treeFrom (tree (at-entry .args .w .now)) (at-entry .args .i)) = omega (arith, at-skip .skip .ensures .0) in
+    omega (arith, parent-word (at-entry .pre .0) (at-entry .pre .1) eo (at-slide .slide .ensures))
 
 slice-write-w : tie.Need-slice-write-w
 slice-write-w c = search needs
@@ -51,7 +52,8 @@ returns c =
     let at-slide = c .before .before .before in
     let at-skip = at-slide .before .before in
     let at-entry = at-skip .before .before .before in
-    let eo : at-skip .skip .result - at-entry .args .i ≡ count (treeFrom (tree (at-entry .args .w .now)) (at-entry .args .i)) = omega (arith, at-skip .skip .ensures .0) in cut-done (at-entry .args .w .now) (at-entry .pre .0) (at-entry .args .q) (at-entry .args .i) (at-entry .pre .1) (at-skip .skip .result - at-entry .args .i) eo (at-slide .slide .ensures)
+    let eo : at-skip .skip .result - at-entry .args .i ≡ count (treeFrom (tree (at-entry .args .w .now)) (at-entry .args .i)) = omega (arith, at-skip .skip .ensures .0) in
+    cut-done (at-entry .pre .0) (at-entry .pre .1) eo (at-slide .slide .ensures)
 
 pub cut-spec : {M : Type 1} → statement M
 cut-spec =

@@ -8,7 +8,7 @@ use lib.ListN.{getD}
 use Rattle.tree.specs.Tree.{Core}
 use Rattle.words.specs.Layout.{tree}
 use Rattle.words.proofs.Nodes.{tree-length}
-use Rattle.nodes.proofs.Trees.{Sought, sought-none, sought-all, sought-found, sought-past, sought-in}
+use Rattle.nodes.proofs.Loops.{Sought, sought-none, sought-all, sought-found, sought-past, sought-in}
 use Rattle.nodes.proofs.Words.{tree-whole, in-tree, few-open, node-here}
 use Rattle.nodes.proofs.has_this.Statement.{statement}
 use Rattle.nodes.proofs.has_this.Tie as tie
@@ -28,103 +28,92 @@ kind-at-requires : tie.Need-kind-at-requires Inv-loop μ-loop
 kind-at-requires c κs =
     let at-loop = c .before in
     let at-entry = at-loop .before .before in
-    let lt = in-tree (at-entry .args .w .now) (at-entry .pre .0) (at-loop .loop .at) (at-loop .loop .more) (at-loop .loop .inv .still) (c .loop-test .taken) in (at-entry .pre .0 .good .long, omega (arith, at-entry .pre .0 .good .nodes))
+    (at-entry .pre .0 .good .long, omega (arith, in-tree (at-entry .pre .0) (at-loop .loop .inv .still) (omega arith), at-entry .pre .0 .good .nodes))
 
 returns : tie.Need-returns Inv-loop μ-loop
 returns c =
     let at-kind-at = c .before in
-    let at-loop-test = at-kind-at .before in
-    let at-loop = at-loop-test .before in
+    let at-loop = at-kind-at .before .before in
     let at-entry = at-loop .before .before in
-    sought-found (tree (at-entry .args .w .now)) (tree-whole (at-entry .pre .0)) (at-entry .args .i) (at-loop .loop .at) (at-loop .loop .more) (at-kind-at .kind-at .result) (at-loop .loop .inv) (at-loop-test .loop-test .taken) (at-kind-at .kind-at .ensures ∙ ap (λ (x : Core). x .kind) (node-here (at-entry .args .w .now) (at-entry .pre .0) (at-loop .loop .at) (at-loop .loop .more) (at-loop .loop .inv .still) (at-loop-test .loop-test .taken))) (c .if1 .taken)
+    sought-found (tree-whole (at-entry .pre .0)) (at-loop .loop .inv) (omega arith) (at-kind-at .kind-at .ensures ∙ ap (λ (x : Core). x .kind) (node-here (at-entry .pre .0) (at-loop .loop .inv .still) (omega arith))) (c .if1 .taken)
 
 skip-requires : tie.Need-skip-requires Inv-loop μ-loop
 skip-requires c κs =
-    let at-loop-test = c .before .before .before in
-    let at-loop = at-loop-test .before in
+    let at-loop = c .before .before .before .before in
     let at-entry = at-loop .before .before in
-    (at-entry .pre .0, in-tree (at-entry .args .w .now) (at-entry .pre .0) (at-loop .loop .at) (at-loop .loop .more) (at-loop .loop .inv .still) (at-loop-test .loop-test .taken))
+    (at-entry .pre .0, in-tree (at-entry .pre .0) (at-loop .loop .inv .still) (omega arith))
 
 sub-more : tie.Need-sub-more Inv-loop μ-loop
 sub-more c = search needs
 
 loop-less : tie.Need-loop-less Inv-loop μ-loop
 loop-less c =
-    let at-loop-test = c .before .before .before .before in
-    let at-loop = at-loop-test .before in
+    let at-loop = c .before .before .before .before .before in
     let at-entry = at-loop .before .before in
-    let lt = in-tree (at-entry .args .w .now) (at-entry .pre .0) (at-loop .loop .at) (at-loop .loop .more) (at-loop .loop .inv .still) (at-loop-test .loop-test .taken) in omega (arith, c .skip .ensures .1)
+    omega (arith, in-tree (at-entry .pre .0) (at-loop .loop .inv .still) (omega arith), c .skip .ensures .1)
 
 loop-again : tie.Need-loop-again Inv-loop μ-loop
 loop-again c =
     let at-if2 = c .before in
     let at-if1 = at-if2 .before in
     let at-kind-at = at-if1 .before in
-    let at-loop-test = at-kind-at .before in
-    let at-loop = at-loop-test .before in
+    let at-loop = at-kind-at .before .before in
     let at-entry = at-loop .before .before in
-    sought-past (tree (at-entry .args .w .now)) (tree-whole (at-entry .pre .0)) (at-entry .args .i) (at-loop .loop .at) (at-loop .loop .more) (at-kind-at .kind-at .result) (at-loop .loop .inv) (at-loop-test .loop-test .taken) (at-kind-at .kind-at .ensures ∙ ap (λ (x : Core). x .kind) (node-here (at-entry .args .w .now) (at-entry .pre .0) (at-loop .loop .at) (at-loop .loop .more) (at-loop .loop .inv .still) (at-loop-test .loop-test .taken))) (at-if1 .if1 .left) (inl (at-if2 .if2 .taken)) (c .skip .result) (c .skip .ensures .0)
+    sought-past (tree-whole (at-entry .pre .0)) (at-loop .loop .inv) (omega arith) (at-kind-at .kind-at .ensures ∙ ap (λ (x : Core). x .kind) (node-here (at-entry .pre .0) (at-loop .loop .inv .still) (omega arith))) (at-if1 .if1 .left) (inl (at-if2 .if2 .taken)) (c .skip .ensures .0)
 
 skip-requires-2 : tie.Need-skip-requires-2 Inv-loop μ-loop
 skip-requires-2 c κs =
-    let at-loop-test = c .before .before .before .before in
-    let at-loop = at-loop-test .before in
+    let at-loop = c .before .before .before .before .before in
     let at-entry = at-loop .before .before in
-    (at-entry .pre .0, in-tree (at-entry .args .w .now) (at-entry .pre .0) (at-loop .loop .at) (at-loop .loop .more) (at-loop .loop .inv .still) (at-loop-test .loop-test .taken))
+    (at-entry .pre .0, in-tree (at-entry .pre .0) (at-loop .loop .inv .still) (omega arith))
 
 sub-more-2 : tie.Need-sub-more-2 Inv-loop μ-loop
 sub-more-2 c = search needs
 
 loop-less-2 : tie.Need-loop-less-2 Inv-loop μ-loop
 loop-less-2 c =
-    let at-loop-test = c .before .before .before .before .before in
-    let at-loop = at-loop-test .before in
+    let at-loop = c .before .before .before .before .before .before in
     let at-entry = at-loop .before .before in
-    let lt = in-tree (at-entry .args .w .now) (at-entry .pre .0) (at-loop .loop .at) (at-loop .loop .more) (at-loop .loop .inv .still) (at-loop-test .loop-test .taken) in omega (arith, c .skip2 .ensures .1)
+    omega (arith, in-tree (at-entry .pre .0) (at-loop .loop .inv .still) (omega arith), c .skip2 .ensures .1)
 
 loop-again-2 : tie.Need-loop-again-2 Inv-loop μ-loop
 loop-again-2 c =
     let at-if3 = c .before in
     let at-if1 = at-if3 .before .before in
     let at-kind-at = at-if1 .before in
-    let at-loop-test = at-kind-at .before in
-    let at-loop = at-loop-test .before in
+    let at-loop = at-kind-at .before .before in
     let at-entry = at-loop .before .before in
-    sought-past (tree (at-entry .args .w .now)) (tree-whole (at-entry .pre .0)) (at-entry .args .i) (at-loop .loop .at) (at-loop .loop .more) (at-kind-at .kind-at .result) (at-loop .loop .inv) (at-loop-test .loop-test .taken) (at-kind-at .kind-at .ensures ∙ ap (λ (x : Core). x .kind) (node-here (at-entry .args .w .now) (at-entry .pre .0) (at-loop .loop .at) (at-loop .loop .more) (at-loop .loop .inv .still) (at-loop-test .loop-test .taken))) (at-if1 .if1 .left) (inr (at-if3 .if3 .taken)) (c .skip2 .result) (c .skip2 .ensures .0)
+    sought-past (tree-whole (at-entry .pre .0)) (at-loop .loop .inv) (omega arith) (at-kind-at .kind-at .ensures ∙ ap (λ (x : Core). x .kind) (node-here (at-entry .pre .0) (at-loop .loop .inv .still) (omega arith))) (at-if1 .if1 .left) (inr (at-if3 .if3 .taken)) (c .skip2 .ensures .0)
 
 sub-more-3 : tie.Need-sub-more-3 Inv-loop μ-loop
 sub-more-3 c = search needs
 
 arity-at-requires : tie.Need-arity-at-requires Inv-loop μ-loop
 arity-at-requires c κs =
-    let at-loop-test = c .before .before .before .before in
-    let at-loop = at-loop-test .before in
+    let at-loop = c .before .before .before .before .before in
     let at-entry = at-loop .before .before in
-    let lt = in-tree (at-entry .args .w .now) (at-entry .pre .0) (at-loop .loop .at) (at-loop .loop .more) (at-loop .loop .inv .still) (at-loop-test .loop-test .taken) in (at-entry .pre .0 .good .long, omega (arith, at-entry .pre .0 .good .nodes))
+    (at-entry .pre .0 .good .long, omega (arith, in-tree (at-entry .pre .0) (at-loop .loop .inv .still) (omega arith), at-entry .pre .0 .good .nodes))
 
 cast-more : tie.Need-cast-more Inv-loop μ-loop
 cast-more c = search needs
 
 add-more : tie.Need-add-more Inv-loop μ-loop
 add-more c =
-    let at-loop-test = c .before .before .before .before .before in
-    let at-loop = at-loop-test .before in
+    let at-loop = c .before .before .before .before .before .before in
     let at-entry = at-loop .before .before in
-    omega (arith, few-open (at-entry .args .w .now) (at-entry .pre .0) (at-loop .loop .at) (at-loop .loop .more) (at-loop .loop .inv .still) (at-loop-test .loop-test .taken))
+    omega (arith, few-open (at-entry .pre .0) (at-loop .loop .inv .still) (omega arith))
 
 add-at : tie.Need-add-at Inv-loop μ-loop
 add-at c =
-    let at-loop-test = c .before .before .before .before .before in
-    let at-loop = at-loop-test .before in
+    let at-loop = c .before .before .before .before .before .before in
     let at-entry = at-loop .before .before in
-    let lt = in-tree (at-entry .args .w .now) (at-entry .pre .0) (at-loop .loop .at) (at-loop .loop .more) (at-loop .loop .inv .still) (at-loop-test .loop-test .taken) in omega (arith, at-entry .pre .0 .good .nodes)
+    omega (arith, in-tree (at-entry .pre .0) (at-loop .loop .inv .still) (omega arith), at-entry .pre .0 .good .nodes)
 
 loop-less-3 : tie.Need-loop-less-3 Inv-loop μ-loop
 loop-less-3 c =
-    let at-loop-test = c .before .before .before .before .before in
-    let at-loop = at-loop-test .before in
+    let at-loop = c .before .before .before .before .before .before in
     let at-entry = at-loop .before .before in
-    let lt = in-tree (at-entry .args .w .now) (at-entry .pre .0) (at-loop .loop .at) (at-loop .loop .more) (at-loop .loop .inv .still) (at-loop-test .loop-test .taken) in omega arith
+    omega (arith, in-tree (at-entry .pre .0) (at-loop .loop .inv .still) (omega arith))
 
 loop-again-3 : tie.Need-loop-again-3 Inv-loop μ-loop
 loop-again-3 c =
@@ -132,16 +121,14 @@ loop-again-3 c =
     let at-if2 = at-if3 .before in
     let at-if1 = at-if2 .before in
     let at-kind-at = at-if1 .before in
-    let at-loop-test = at-kind-at .before in
-    let at-loop = at-loop-test .before in
+    let at-loop = at-kind-at .before .before in
     let at-entry = at-loop .before .before in
-    sought-in (tree (at-entry .args .w .now)) (tree-whole (at-entry .pre .0)) (at-entry .args .i) (at-loop .loop .at) (at-loop .loop .more) (at-kind-at .kind-at .result) (at-loop .loop .inv) (at-loop-test .loop-test .taken) (at-kind-at .kind-at .ensures ∙ ap (λ (x : Core). x .kind) (node-here (at-entry .args .w .now) (at-entry .pre .0) (at-loop .loop .at) (at-loop .loop .more) (at-loop .loop .inv .still) (at-loop-test .loop-test .taken))) (at-if1 .if1 .left) (at-if2 .if2 .left) (at-if3 .if3 .left) (c .arity-at .result) (c .arity-at .ensures ∙ ap (λ (x : Core). x .arity) (node-here (at-entry .args .w .now) (at-entry .pre .0) (at-loop .loop .at) (at-loop .loop .more) (at-loop .loop .inv .still) (at-loop-test .loop-test .taken)))
+    sought-in (tree-whole (at-entry .pre .0)) (at-loop .loop .inv) (omega arith) (at-kind-at .kind-at .ensures ∙ ap (λ (x : Core). x .kind) (node-here (at-entry .pre .0) (at-loop .loop .inv .still) (omega arith))) (at-if1 .if1 .left) (at-if2 .if2 .left) (at-if3 .if3 .left) (c .arity-at .ensures ∙ ap (λ (x : Core). x .arity) (node-here (at-entry .pre .0) (at-loop .loop .inv .still) (omega arith)))
 
 returns-2 : tie.Need-returns-2 Inv-loop μ-loop
 returns-2 c =
     let at-loop = c .before in
-    let at-entry = at-loop .before .before in
-    sought-all (tree (at-entry .args .w .now)) (at-entry .args .i) (at-loop .loop .at) (at-loop .loop .more) (omega arith) (at-loop .loop .inv)
+    sought-all (omega arith) (at-loop .loop .inv)
 
 pub has-this-spec : {M : Type 1} → statement M
 has-this-spec =

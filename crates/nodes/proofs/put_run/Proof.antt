@@ -9,7 +9,7 @@ use Rattle.nodes.proofs.put_run.Tie as tie
 slide-requires : tie.Need-slide-requires
 slide-requires c κs =
     let at-entry = c .before .before in
-    (at-entry .pre .0 .good .long, at-entry .pre .0 .good .nodes, rw (at-entry .pre .2) (room (at-entry .args .w .now) (at-entry .pre .0) (at-entry .args .i) (at-entry .pre .1)), at-entry .pre .3)
+    (at-entry .pre .0 .good .long, at-entry .pre .0 .good .nodes, rw (at-entry .pre .2) (room (at-entry .pre .0) (at-entry .pre .1)), at-entry .pre .3)
 
 mul-shift : tie.Need-mul-shift
 mul-shift c = search needs
@@ -37,7 +37,9 @@ returns c =
     let at-shift = c .before .before in
     let at-slide = at-shift .before .before .before .before in
     let at-entry = at-slide .before .before .before in
-    let l = room (at-entry .args .w .now) (at-entry .pre .0) (at-entry .args .i) (at-entry .pre .1) in run-done (at-entry .args .w .now) (at-entry .pre .0) (at-entry .args .i) (at-entry .pre .1) (at-entry .args .base) (at-entry .args .at) (at-entry .args .m) (at-entry .pre .6) (at-entry .pre .7) (omega (arith, at-entry .pre .3, at-entry .pre .2)) (rw (at-entry .pre .2) at (run-spliced (at-entry .args .i) (at-entry .args .old) (at-entry .args .m) (at-slide .slide .ensures) (omega (arith, at-entry .pre .2)) (at-entry .pre .3) (at-entry .args .base) (at-entry .args .at) (at-entry .pre .4) (at-shift .shift .ensures)))
+    let l = room (at-entry .pre .0) (at-entry .pre .1) in
+    run-done (at-entry .pre .0) (at-entry .pre .1) (at-entry .args .base) (at-entry .args .at) (at-entry .args .m) (at-entry .pre .6) (at-entry .pre .7) (omega (arith, at-entry .pre .3, at-entry .pre .2))
+    (rw (at-entry .pre .2) at (run-spliced (at-slide .slide .ensures) (omega (arith, at-entry .pre .2)) (at-entry .pre .3) (at-entry .args .base) (at-entry .args .at) (at-entry .pre .4) (at-shift .shift .ensures)))
 
 pub put-run-spec : {M : Type 1} → statement M
 put-run-spec =

@@ -43,7 +43,8 @@ returns-2 : tie.Need-returns-2
 returns-2 c =
     let at-skip = c .before in
     let at-entry = at-skip .before .before .before .before .before in
-    let eo : at-skip .skip .result - at-entry .args .i ≡ count (treeFrom (tree (at-entry .args .w .now)) (at-entry .args .i)) = omega (arith, at-skip .skip .ensures .0) in (row-9 (at-entry .args .p) (getD (at-entry .args .w .now) 0 0) (treeFrom (tree (at-entry .args .w .now)) (at-entry .args .i)) voidZero (omega arith) (omega arith), omega arith, refl)
+    let eo : at-skip .skip .result - at-entry .args .i ≡ count (treeFrom (tree (at-entry .args .w .now)) (at-entry .args .i)) = omega (arith, at-skip .skip .ensures .0) in
+    (row-9 (at-entry .args .p) (getD (at-entry .args .w .now) 0 0) (treeFrom (tree (at-entry .args .w .now)) (at-entry .args .i)) voidZero (omega arith) (omega arith), omega arith, refl)
 
 slide-requires : tie.Need-slide-requires
 slide-requires c κs = search needs
@@ -68,7 +69,11 @@ returns-3 c =
     let at-skip = at-if2 .before in
     let at-if1 = at-skip .before .before .before in
     let at-entry = at-if1 .before .before in
-    let eo : at-skip .skip .result - at-entry .args .i ≡ count (treeFrom (tree (at-entry .args .w .now)) (at-entry .args .i)) = omega (arith, at-skip .skip .ensures .0) in let r = room (at-entry .args .w .now) (at-entry .pre .0) (at-entry .args .i) (at-entry .pre .1) in (row-0 (at-entry .args .p) (getD (at-entry .args .w .now) 0 0) (treeFrom (tree (at-entry .args .w .now)) (at-entry .args .i)) voidZero (omega (arith, at-if1 .if1 .left)) (omega (arith, at-if2 .if2 .left)), put-done (at-entry .args .w .now) (at-entry .pre .0) (at-entry .args .i) (at-entry .pre .1) voidZero (rw eo at (void-spliced (at-entry .args .i) (at-skip .skip .result - at-entry .args .i) (at-slide .slide .ensures) (omega arith) (omega (arith, at-if2 .if2 .left)) (at-put4 .put4 .ensures))) void-names (omega (arith, at-if2 .if2 .left)))
+    let eo : at-skip .skip .result - at-entry .args .i ≡ count (treeFrom (tree (at-entry .args .w .now)) (at-entry .args .i)) = omega (arith, at-skip .skip .ensures .0) in
+    let r = room (at-entry .pre .0) (at-entry .pre .1) in (
+      row-0 (at-entry .args .p) (getD (at-entry .args .w .now) 0 0) (treeFrom (tree (at-entry .args .w .now)) (at-entry .args .i)) voidZero (omega (arith, at-if1 .if1 .left)) (omega (arith, at-if2 .if2 .left)),
+      put-done (at-entry .pre .0) (at-entry .pre .1) voidZero (rw eo at (void-spliced (at-slide .slide .ensures) (omega arith) (omega (arith, at-if2 .if2 .left)) (at-put4 .put4 .ensures))) void-names (omega (arith, at-if2 .if2 .left)),
+    )
 
 pub put-void-spec : {M : Type 1} → statement M
 put-void-spec =

@@ -4,10 +4,10 @@ use Prim.Native.Nat.{_+_, _-_, _≤_, _<_}
 use native.Mathlib.Omega.{arith}
 use borrow.Author.Needs.{needs}
 use lib.ListN.{getD}
-use Rattle.tree.specs.Tree.{count, plant, firstT}
+use Rattle.tree.specs.Tree.{count}
 use Rattle.definition.specs.Tree.{height}
-use Rattle.words.specs.Layout.{tree, run}
-use Rattle.nodes.specs.Nodes.{treeFrom}
+use Rattle.words.specs.Layout.{tree}
+use Rattle.nodes.specs.Nodes.{treeFrom, valueFrom}
 use Rattle.nodes.proofs.Splice.{run-count, run-trees}
 use Rattle.nodes.proofs.Rows.{row-8, row-9, row-0}
 use Rattle.nodes.proofs.Words.{store-drop, store-tree}
@@ -34,6 +34,13 @@ within-height-requires c κs =
 enum-told : tie.Need-enum-told
 enum-told c = search needs
 
+-- the value is low enough
+measured : (c : tie.After-enum-told) → let a = c .before .before .before .before .before .before .args in height (valueFrom (a .w .now) (a .base) (a .at) (a .m)) ≤ 201 - a .p
+measured c =
+    let a = c .before .before .before .before .before .before .args in
+    let high : (c .enum-told .given .0 .0 ≡ a .at + count (valueFrom (a .w .now) (a .base) (a .at) (a .m))) × (height (valueFrom (a .w .now) (a .base) (a .at) (a .m)) ≤ 201 - a .p) = rw (c .enum-told .given .1, store-tree (a .w .now) (a .base) (a .at + a .m) (a .at) (a .m) refl) at (c .before .before .within-height .ensures) in
+    high .1
+
 enum-told-2 : tie.Need-enum-told-2
 enum-told-2 c = search needs
 
@@ -44,7 +51,8 @@ returns : tie.Need-returns
 returns c =
     let at-within-height = c .before .before in
     let at-entry = at-within-height .before .before .before .before in
-    let high : 201 - at-entry .args .p < height (firstT (plant (run (at-entry .args .w .now) (at-entry .args .base) (at-entry .args .at) (at-entry .args .m)))) = rw (c .enum-told2 .given .1, store-tree (at-entry .args .w .now) (at-entry .args .base) (at-entry .args .at + at-entry .args .m) (at-entry .args .at) (at-entry .args .m) refl) at (at-within-height .within-height .ensures) in (row-8 (at-entry .args .p) (getD (at-entry .args .w .now) 0 0) (treeFrom (tree (at-entry .args .w .now)) (at-entry .args .i)) (firstT (plant (run (at-entry .args .w .now) (at-entry .args .base) (at-entry .args .at) (at-entry .args .m)))) (omega (arith, at-entry .pre .2)), omega arith, refl)
+    let high : 201 - at-entry .args .p < height (valueFrom (at-entry .args .w .now) (at-entry .args .base) (at-entry .args .at) (at-entry .args .m)) = rw (c .enum-told2 .given .1, store-tree (at-entry .args .w .now) (at-entry .args .base) (at-entry .args .at + at-entry .args .m) (at-entry .args .at) (at-entry .args .m) refl) at (at-within-height .within-height .ensures) in
+    (row-8 (at-entry .args .p) (getD (at-entry .args .w .now) 0 0) (treeFrom (tree (at-entry .args .w .now)) (at-entry .args .i)) (valueFrom (at-entry .args .w .now) (at-entry .args .base) (at-entry .args .at) (at-entry .args .m)) (omega (arith, at-entry .pre .2)), omega arith, refl)
 
 skip-requires : tie.Need-skip-requires
 skip-requires c κs = search needs
@@ -67,14 +75,18 @@ returns-2 c =
     let at-enum-told = at-skip .before .before in
     let at-within-height = at-enum-told .before .before in
     let at-entry = at-within-height .before .before .before .before in
-    let high : (at-enum-told .enum-told .given .0 .0 ≡ at-entry .args .at + count (firstT (plant (run (at-entry .args .w .now) (at-entry .args .base) (at-entry .args .at) (at-entry .args .m))))) × (height (firstT (plant (run (at-entry .args .w .now) (at-entry .args .base) (at-entry .args .at) (at-entry .args .m)))) ≤ 201 - at-entry .args .p) = rw (at-enum-told .enum-told .given .1, store-tree (at-entry .args .w .now) (at-entry .args .base) (at-entry .args .at + at-entry .args .m) (at-entry .args .at) (at-entry .args .m) refl) at (at-within-height .within-height .ensures) in let n = run-count (at-entry .args .w .now) (at-entry .args .base) (at-entry .args .at) (at-entry .args .m) (at-entry .pre .5) (at-entry .pre .6) in let eo : at-skip .skip .result - at-entry .args .i ≡ count (treeFrom (tree (at-entry .args .w .now)) (at-entry .args .i)) = omega (arith, at-skip .skip .ensures .0) in (row-9 (at-entry .args .p) (getD (at-entry .args .w .now) 0 0) (treeFrom (tree (at-entry .args .w .now)) (at-entry .args .i)) (firstT (plant (run (at-entry .args .w .now) (at-entry .args .base) (at-entry .args .at) (at-entry .args .m)))) (omega (arith, high .1, at-entry .pre .2)) (omega (arith, c .if1 .taken)), omega arith, refl)
+    let high = measured at-enum-told in
+    let n = run-count (at-entry .args .w .now) (at-entry .args .base) (at-entry .args .at) (at-entry .args .m) (at-entry .pre .5) (at-entry .pre .6) in
+    let eo : at-skip .skip .result - at-entry .args .i ≡ count (treeFrom (tree (at-entry .args .w .now)) (at-entry .args .i)) = omega (arith, at-skip .skip .ensures .0) in
+    (row-9 (at-entry .args .p) (getD (at-entry .args .w .now) 0 0) (treeFrom (tree (at-entry .args .w .now)) (at-entry .args .i)) (valueFrom (at-entry .args .w .now) (at-entry .args .base) (at-entry .args .at) (at-entry .args .m)) (omega (arith, at-entry .pre .2)) (omega (arith, c .if1 .taken)), omega arith, refl)
 
 put-run-requires : tie.Need-put-run-requires
 put-run-requires c κs =
     let at-if1 = c .before in
     let at-skip = at-if1 .before in
     let at-entry = at-skip .before .before .before .before .before .before .before .before in
-    let eo : at-skip .skip .result - at-entry .args .i ≡ count (treeFrom (tree (at-entry .args .w .now)) (at-entry .args .i)) = omega (arith, at-skip .skip .ensures .0) in (at-entry .pre .0, at-entry .pre .1, eo, omega (arith, at-if1 .if1 .left), at-entry .pre .3, at-entry .pre .4, at-entry .pre .5, at-entry .pre .6)
+    let eo : at-skip .skip .result - at-entry .args .i ≡ count (treeFrom (tree (at-entry .args .w .now)) (at-entry .args .i)) = omega (arith, at-skip .skip .ensures .0) in
+    (at-entry .pre .0, at-entry .pre .1, eo, omega (arith, at-if1 .if1 .left), at-entry .pre .3, at-entry .pre .4, at-entry .pre .5, at-entry .pre .6)
 
 same-length-3 : tie.Need-same-length-3
 same-length-3 c = search needs
@@ -87,7 +99,10 @@ returns-3 c =
     let at-enum-told = at-skip .before .before in
     let at-within-height = at-enum-told .before .before in
     let at-entry = at-within-height .before .before .before .before in
-    let high : (at-enum-told .enum-told .given .0 .0 ≡ at-entry .args .at + count (firstT (plant (run (at-entry .args .w .now) (at-entry .args .base) (at-entry .args .at) (at-entry .args .m))))) × (height (firstT (plant (run (at-entry .args .w .now) (at-entry .args .base) (at-entry .args .at) (at-entry .args .m)))) ≤ 201 - at-entry .args .p) = rw (at-enum-told .enum-told .given .1, store-tree (at-entry .args .w .now) (at-entry .args .base) (at-entry .args .at + at-entry .args .m) (at-entry .args .at) (at-entry .args .m) refl) at (at-within-height .within-height .ensures) in let n = run-count (at-entry .args .w .now) (at-entry .args .base) (at-entry .args .at) (at-entry .args .m) (at-entry .pre .5) (at-entry .pre .6) in let eo : at-skip .skip .result - at-entry .args .i ≡ count (treeFrom (tree (at-entry .args .w .now)) (at-entry .args .i)) = omega (arith, at-skip .skip .ensures .0) in (row-0 (at-entry .args .p) (getD (at-entry .args .w .now) 0 0) (treeFrom (tree (at-entry .args .w .now)) (at-entry .args .i)) (firstT (plant (run (at-entry .args .w .now) (at-entry .args .base) (at-entry .args .at) (at-entry .args .m)))) (omega (arith, high .1, at-entry .pre .2)) (omega (arith, at-if1 .if1 .left)), at-put-run .put-run .ensures)
+    let high = measured at-enum-told in
+    let n = run-count (at-entry .args .w .now) (at-entry .args .base) (at-entry .args .at) (at-entry .args .m) (at-entry .pre .5) (at-entry .pre .6) in
+    let eo : at-skip .skip .result - at-entry .args .i ≡ count (treeFrom (tree (at-entry .args .w .now)) (at-entry .args .i)) = omega (arith, at-skip .skip .ensures .0) in
+    (row-0 (at-entry .args .p) (getD (at-entry .args .w .now) 0 0) (treeFrom (tree (at-entry .args .w .now)) (at-entry .args .i)) (valueFrom (at-entry .args .w .now) (at-entry .args .base) (at-entry .args .at) (at-entry .args .m)) (omega (arith, at-entry .pre .2)) (omega (arith, at-if1 .if1 .left)), at-put-run .put-run .ensures)
 
 pub replace-at-spec : {M : Type 1} → statement M
 replace-at-spec =

@@ -1,14 +1,14 @@
 -- The end of a subtree: a loop that counts the trees still open. Assumes nothing.
-use mathlib.Core.Path.{sym, ap, _∙_}
+use mathlib.Core.Path.{ap, _∙_}
 use Prim.Native.Nat.{_-_}
 use native.Mathlib.Omega.{arith}
 use borrow.Author.Needs.{needs}
 use lib.ListN.{getD}
 use Rattle.tree.specs.Tree.{Core}
 use Rattle.words.specs.Layout.{tree}
-use Rattle.words.proofs.Nodes.{tree-length, tree-at}
-use Rattle.nodes.proofs.Trees.{Passed, passed-none, passed-more, passed-all}
-use Rattle.nodes.proofs.Words.{tree-whole, in-tree, few-open, skipped}
+use Rattle.words.proofs.Nodes.{tree-length}
+use Rattle.nodes.proofs.Loops.{Passed, passed-none, passed-more, passed-all}
+use Rattle.nodes.proofs.Words.{tree-whole, in-tree, few-open, node-here, skipped}
 use Rattle.nodes.proofs.skip.Statement.{statement}
 use Rattle.nodes.proofs.skip.Tie as tie
 
@@ -30,44 +30,40 @@ arity-at-requires : tie.Need-arity-at-requires Inv-loop μ-loop
 arity-at-requires c κs =
     let at-loop = c .before in
     let at-entry = at-loop .before .before in
-    let lt = in-tree (at-entry .args .w .now) (at-entry .pre .0) (at-loop .loop .at) (at-loop .loop .trees) (at-loop .loop .inv .still) (omega arith) in (at-entry .pre .0 .good .long, omega (arith, at-entry .pre .0 .good .nodes))
+    (at-entry .pre .0 .good .long, omega (arith, in-tree (at-entry .pre .0) (at-loop .loop .inv .still) (omega arith), at-entry .pre .0 .good .nodes))
 
 cast-trees : tie.Need-cast-trees Inv-loop μ-loop
 cast-trees c = search needs
 
 add-trees : tie.Need-add-trees Inv-loop μ-loop
 add-trees c =
-    let at-loop-test = c .before in
-    let at-loop = at-loop-test .before in
+    let at-loop = c .before .before in
     let at-entry = at-loop .before .before in
-    omega (arith, few-open (at-entry .args .w .now) (at-entry .pre .0) (at-loop .loop .at) (at-loop .loop .trees) (at-loop .loop .inv .still) (omega arith))
+    omega (arith, few-open (at-entry .pre .0) (at-loop .loop .inv .still) (omega arith))
 
 add-at : tie.Need-add-at Inv-loop μ-loop
 add-at c =
-    let at-loop-test = c .before in
-    let at-loop = at-loop-test .before in
+    let at-loop = c .before .before in
     let at-entry = at-loop .before .before in
-    let lt = in-tree (at-entry .args .w .now) (at-entry .pre .0) (at-loop .loop .at) (at-loop .loop .trees) (at-loop .loop .inv .still) (omega arith) in omega (arith, at-entry .pre .0 .good .nodes)
+    omega (arith, in-tree (at-entry .pre .0) (at-loop .loop .inv .still) (omega arith), at-entry .pre .0 .good .nodes)
 
 loop-less : tie.Need-loop-less Inv-loop μ-loop
 loop-less c =
-    let at-loop-test = c .before in
-    let at-loop = at-loop-test .before in
+    let at-loop = c .before .before in
     let at-entry = at-loop .before .before in
-    let lt = in-tree (at-entry .args .w .now) (at-entry .pre .0) (at-loop .loop .at) (at-loop .loop .trees) (at-loop .loop .inv .still) (omega arith) in omega arith
+    omega (arith, in-tree (at-entry .pre .0) (at-loop .loop .inv .still) (omega arith))
 
 loop-again : tie.Need-loop-again Inv-loop μ-loop
 loop-again c =
-    let at-loop-test = c .before in
-    let at-loop = at-loop-test .before in
+    let at-loop = c .before .before in
     let at-entry = at-loop .before .before in
-    let lt = in-tree (at-entry .args .w .now) (at-entry .pre .0) (at-loop .loop .at) (at-loop .loop .trees) (at-loop .loop .inv .still) (omega arith) in passed-more (tree (at-entry .args .w .now)) (at-entry .args .i) (at-loop .loop .at) (at-loop .loop .trees) (c .arity-at .result) (tree-whole (at-entry .pre .0)) (at-loop .loop .inv) (omega arith) (c .arity-at .ensures ∙ ap (λ (x : Core). x .arity) (sym (tree-at (at-entry .args .w .now) (at-loop .loop .at) lt)))
+    passed-more (tree-whole (at-entry .pre .0)) (at-loop .loop .inv) (omega arith) (c .arity-at .ensures ∙ ap (λ (x : Core). x .arity) (node-here (at-entry .pre .0) (at-loop .loop .inv .still) (omega arith)))
 
 returns : tie.Need-returns Inv-loop μ-loop
 returns c =
     let at-loop = c .before in
     let at-entry = at-loop .before .before in
-    skipped (at-entry .args .w .now) (at-entry .pre .0) (at-entry .args .i) (at-entry .pre .1) (passed-all (tree (at-entry .args .w .now)) (at-entry .args .i) (at-loop .loop .at) (at-loop .loop .trees) (omega arith) (at-loop .loop .inv))
+    skipped (at-entry .pre .0) (at-entry .pre .1) (passed-all (omega arith) (at-loop .loop .inv))
 
 pub skip-spec : {M : Type 1} → statement M
 skip-spec =
