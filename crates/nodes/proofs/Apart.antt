@@ -3,11 +3,11 @@ use mathlib.Core.Path.{_≡_, refl, _∙_}
 use mathlib.Core.List.{List}
 use Prim.Native.Nat.{ℕ, _+_, _*_, _≤_, _<_}
 use native.Mathlib.Omega.{arith}
-use lib.ListN.{getD}
+use lib.ListN.{length, getD}
 use Rattle.tree.specs.Tree.{Core}
 use Rattle.definition.specs.Scope.{Stack}
 use Rattle.words.specs.Tab.{tab-ext}
-use Rattle.words.specs.Layout.{tree, beyond}
+use Rattle.words.specs.Layout.{Agree, tree, beyond}
 use Rattle.words.proofs.Nodes.{beyond-same}
 use Rattle.scopes.specs.State.{bindAt, heads, flags, binds, consts, stack, Good, Becomes, Others, Names}
 use Rattle.scopes.proofs.Words.{heads-part, part-consts, part-coff, part-crun, Runs, runs-off, runs-at, bind-same}
@@ -25,9 +25,15 @@ apart-rest {w} {w′} a = beyond-same w w′ (a .size) (λ j l. a .high j (omega
 pub apart-others : {w w′ : List ℕ} → Apart w w′ → Others w w′
 apart-others a = record { low = λ j l h. a .low j (omega arith) h; high = λ j l h. a .high j (omega arith) }
 
-module _ {w w′ : List ℕ} (g : Good w) (a : Apart w w′) where
-  count-same : (k : ℕ) → 1 ≤ k → k < 16 → getD w′ k 0 ≡ getD w k 0
-  count-same k l h = a .low k l h
+-- the scopes' own counts, and all words behind the tree, are as they were
+pub record Beside (w w′ : List ℕ) : Type 0 where
+  pub size : length w′ ≡ length w
+  pub counts : Agree 1 4 w w′
+  pub high : (j : ℕ) → 2064 ≤ j → getD w′ j 0 ≡ getD w j 0
+
+module _ {w w′ : List ℕ} (g : Good w) (a : Beside w w′) where
+  count-same : (k : ℕ) → 1 ≤ k → k < 4 → getD w′ k 0 ≡ getD w k 0
+  count-same k l h = a .counts k l h
 
   runs-same : Runs w w′
   runs-same = record { lens = λ k l. a .high _ (omega arith); ids = λ k l. a .high _ (omega arith); store = λ j l h. a .high j l }
@@ -48,12 +54,12 @@ module _ {w w′ : List ℕ} (g : Good w) (a : Apart w w′) where
   unfolding consts
   consts-same = rw (count-same 3 (omega arith) (omega arith)) (part-consts w′ g (getD w 3 0) (omega arith) (λ j x y. a .high j (omega arith)) (λ j x y. a .high j (omega arith)))
 
-  pub apart-stack : stack w′ ≡ stack w
+  pub beside-stack : stack w′ ≡ stack w
   unfolding stack
-  apart-stack = rw (heads-same, flags-same, binds-same, consts-same) refl
+  beside-stack = rw (heads-same, flags-same, binds-same, consts-same) refl
 
-  pub apart-good : getD w′ 0 0 ≤ 1024 → Names (tree w′) → Good w′
-  apart-good l n =
+  pub beside-good : getD w′ 0 0 ≤ 1024 → Names (tree w′) → Good w′
+  beside-good l n =
       let one = count-same 1 (omega arith) (omega arith) in
       let three = count-same 3 (omega arith) (omega arith) in
       let c = g .count in
@@ -75,12 +81,15 @@ module _ {w w′ : List ℕ} (g : Good w) (a : Apart w w′) where
         cwhole = rw three (λ k h. rw (cs k h) (g .cwhole k h));
       }
 
+beside : {w w′ : List ℕ} → Apart w w′ → Beside w w′
+beside a = record { size = a .size; counts = λ j l h. a .low j l (omega arith); high = a .high }
+
 -- the tree's nodes became xs
 pub replants : {w w′ : List ℕ} (xs : List Core) → Planted w → Apart w w′ → getD w′ 0 0 ≤ 1024 → tree w′ ≡ xs → Names xs → One xs → Replants w w′ xs
 replants xs g a l e n o = record {
-  planted = record { good = apart-good (g .good) a l (rw e n); one = rw e o };
+  planted = record { good = beside-good (g .good) (beside a) l (rw e n); one = rw e o };
   is = e;
-  stack = apart-stack (g .good) a;
+  stack = beside-stack (g .good) (beside a);
   others = apart-others a;
   rest = apart-rest a;
   apart = a;
