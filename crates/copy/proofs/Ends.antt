@@ -74,6 +74,18 @@ was-read {bs} {w} {w₁} {a} h R z = go (leb 16384 (length w)) (read bs) refl re
     go true (bad k) e q = absurd (not-both k h (sym (by R true (bad k) e q) ∙ z))
     go true (script s) e q = record { script = s; is = q; long = e; held = after R (script s) e q .0; kept = after R (script s) e q .1 }
 
+-- the counts of its answer are within the file
+pub within : {bs w w₁ : List ℕ} {a : Answer} (h : Header) → ReadIs bs w w₁ a → a ≡ Answer.Script h → (h .nodes ≤ 1024) × (32 + 16 * h .nodes ≤ length bs)
+within {bs} {w} {w₁} h R z =
+    let W = was-read h R z in
+    let same : h .nodes ≡ length (W .script .nodes) = as-told h _ (sym z ∙ by R true (script (W .script)) (W .long) (W .is)) in
+    let n = count (W .is) (W .held) in
+    let H = was (W .is) (W .held) .head in
+    (omega (arith, same, n, H .few), omega (arith, same, n, H .long))
+  where
+    as-told : (h k : Header) → Answer.Script h ≡ Answer.Script k → h .nodes ≡ k .nodes
+    as-told h k y = let q : h ≡ k = cc in ap (λ (i : Header). i .nodes) q
+
 module _ {bs w w₁ : List ℕ} (W : WasRead bs w w₁) where
   abbrev f : ℕ
   f = length bs
