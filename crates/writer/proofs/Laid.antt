@@ -20,9 +20,9 @@ use Rattle.treefile.specs.declared.header.Head.{Head}
 use Rattle.treefile.specs.declared.header.Head.the-variants as Head
 use Rattle.treefile.specs.Head.{headed, Counts, Headed, HeadIs}
 use Rattle.writer.specs.declared.Written.{Written}
-use Rattle.writer.specs.declared.Written.the-variants.{Done, Refused}
+use Rattle.writer.specs.declared.Written.the-variants as Written
 use Rattle.writer.specs.Back.{backIn}
-use Rattle.writer.specs.Written.{total, fitted, written, resultBytes, left, Wrote, Counted, behind}
+use Rattle.writer.specs.Written.{Answer, refused, wrote, total, fitted, written, resultBytes, left, Wrote, Counted, behind}
 
 -- stores from the first place on
 sets-front : (l vs : List ℕ) (n : ℕ) → length vs ≡ n → n ≤ length l → sets l 0 vs ≡ vs ++ drop n l
@@ -77,14 +77,14 @@ module _ (r hs ns ts : List ℕ) (m k : ℕ) (h : length hs ≡ 32) (n : length 
 
 -- the answers
 module _ (bs w : List ℕ) (room : ℕ) where
-  choose : Bool → Bool → Written
-  choose x y = elim x [ false ↦ Refused 9 | true ↦ elim y [ false ↦ Refused 10 | true ↦ Done (total bs w) ] ]
+  choose : Bool → Bool → Answer
+  choose x y = elim x [ false ↦ refused 9 | true ↦ elim y [ false ↦ refused 10 | true ↦ wrote (total bs w) ] ]
 
   by-tests : fitted bs w room ≡ choose (leb 1 (getD w 0 0) && leb (getD w 0 0) 1024) (leb (total bs w) room)
   unfolding fitted choose
   by-tests = refl
 
-  pub fit-none : getD w 0 0 ≡ 0 → fitted bs w room ≡ Refused 9
+  pub fit-none : getD w 0 0 ≡ 0 → fitted bs w room ≡ refused 9
   unfolding choose
   fit-none e = by-tests ∙ ap (λ (m : ℕ). choose (leb 1 m && leb m 1024) (leb (total bs w) room)) e
 
@@ -92,7 +92,7 @@ module _ (bs w : List ℕ) (room : ℕ) where
     count-test : (x : Bool) → leb (getD w 0 0) 1024 ≡ x → (leb 1 (getD w 0 0) && leb (getD w 0 0) 1024) ≡ x
     count-test x q = rw (le-leb 1 (getD w 0 0) e) q
 
-    pub fit-many : 1024 < getD w 0 0 → fitted bs w room ≡ Refused 9
+    pub fit-many : 1024 < getD w 0 0 → fitted bs w room ≡ refused 9
     unfolding choose
     fit-many h = by-tests ∙ ap (λ (x : Bool). choose x (leb (total bs w) room)) (count-test false (lt-leb (getD w 0 0) 1024 h))
 
@@ -100,20 +100,20 @@ module _ (bs w : List ℕ) (room : ℕ) where
       past : fitted bs w room ≡ choose true (leb (total bs w) room)
       past = by-tests ∙ ap (λ (x : Bool). choose x (leb (total bs w) room)) (count-test true (le-leb (getD w 0 0) 1024 h))
 
-      pub fit-full : room < total bs w → fitted bs w room ≡ Refused 10
+      pub fit-full : room < total bs w → fitted bs w room ≡ refused 10
       unfolding choose
       fit-full q = past ∙ ap (choose true) (lt-leb (total bs w) room q)
 
-      pub fit-done : total bs w ≤ room → fitted bs w room ≡ Done (total bs w)
+      pub fit-done : total bs w ≤ room → fitted bs w room ≡ wrote (total bs w)
       unfolding choose
       fit-done q = past ∙ ap (choose true) (le-leb (total bs w) room q)
 
 -- an answer, and the buffer that it leaves
-module _ (bs w r : List ℕ) (a : Written) where
-  pub refused : (k : ℕ) → a ≡ Refused k → Wrote bs w r r a (Refused k)
-  refused k e = record { is = sym e; leaves = sym (ap (left bs w r) e) }
+module _ (bs w r : List ℕ) (a : Answer) where
+  pub left-so : (k : ℕ) → a ≡ refused k → Wrote bs w r r a (Written.Refused k)
+  left-so k e = record { is = sym e; leaves = sym (ap (left bs w r) e) }
 
-  pub done : (n : ℕ) (r′ : List ℕ) → a ≡ Done n → r′ ≡ resultBytes bs w ++ drop n r → Wrote bs w r r′ a (Done n)
+  pub done : (n : ℕ) (r′ : List ℕ) → a ≡ wrote n → r′ ≡ resultBytes bs w ++ drop n r → Wrote bs w r r′ a (Written.Done n)
   done n r′ e q = record { is = sym e; leaves = q ∙ sym (ap (left bs w r) e) }
 
 -- all written
@@ -130,27 +130,27 @@ module _ (bs w r : List ℕ) (n t b : ℕ) (K : Counted bs w n t b) (some : 1 �
   nodes-length : length nodes ≡ 16 * m
   nodes-length = node-bytes-length (map (backIn bs w) (tree w)) ∙ ap (λ (k : ℕ). 16 * k) (length-map (tree w) (backIn bs w) ∙ tree-length w)
 
-  pub wrote : (r₁ p r₃ : List ℕ) (e : ℕ) → e ≡ length r → r₁ ≡ sets r 0 (headBytes m t b) → p ≡ sets (take (e - 32) (drop 32 r₁)) 0 nodes
+  pub all-wrote : (r₁ p r₃ : List ℕ) (e : ℕ) → e ≡ length r → r₁ ≡ sets r 0 (headBytes m t b) → p ≡ sets (take (e - 32) (drop 32 r₁)) 0 nodes
       → r₃ ≡ paste (take 32 r₁ ++ (p ++ drop (e - 32) (drop 32 r₁))) (32 + 16 * m) (drop (32 + 16 * n) bs) (4 * t + b)
-      → Wrote bs w r r₃ (fitted bs w (length r)) (Done (32 + 16 * m + 4 * t + b))
+      → Wrote bs w r r₃ (fitted bs w (length r)) (Written.Done (32 + 16 * m + 4 * t + b))
   unfolding resultBytes
-  wrote r₁ p r₃ e q e₁ e₂ e₃ =
+  all-wrote r₁ p r₃ e q e₁ e₂ e₃ =
       let tail : length (drop (32 + 16 * n) bs) ≡ 4 * t + b = simp length-drop (omega (arith, K .size)) in
       let sum : 32 + 16 * m + (4 * t + b) ≡ 32 + 16 * m + 4 * t + b = omega arith in
       let all = laid r (headBytes m t b) nodes (drop (32 + 16 * n) bs) m (4 * t + b) refl nodes-length tail (omega arith) r₁ e₁ e q p e₂ in
-      done bs w r (fitted bs w (length r)) (32 + 16 * m + 4 * t + b) r₃ (fit-done bs w (length r) some few (omega (arith, total-is)) ∙ ap Done (sym total-is))
+      done bs w r (fitted bs w (length r)) (32 + 16 * m + 4 * t + b) r₃ (fit-done bs w (length r) some few (omega (arith, total-is)) ∙ ap wrote (sym total-is))
       (rw (← K .texts, ← K .bytes, ← K .source .count) (e₃ ∙ all ∙ ap (λ (k : ℕ). headBytes m t b ++ nodes ++ drop (32 + 16 * n) bs ++ drop k r) sum))
 
 -- before that: too few words, and the header
 module _ (bs w : List ℕ) (room : ℕ) where
-  enough : Bool → Read → Written
-  enough x y = elim x [ false ↦ Refused 1 | true ↦ behind y (fitted bs w room) ]
+  enough : Bool → Read → Answer
+  enough x y = elim x [ false ↦ refused 1 | true ↦ behind y (fitted bs w room) ]
 
   by-words : written bs w room ≡ enough (leb 16384 (length w)) (header bs (script (record { nodes = []; texts = [] })))
   unfolding written enough
   by-words = refl
 
-  pub short : length w < 16384 → written bs w room ≡ Refused 1
+  pub short : length w < 16384 → written bs w room ≡ refused 1
   unfolding enough
   short h = by-words ∙ ap (λ (x : Bool). enough x (header bs (script (record { nodes = []; texts = [] })))) (lt-leb 16384 (length w) h)
 
@@ -159,7 +159,7 @@ module _ (bs w : List ℕ) (room : ℕ) where
     unfolding enough
     headed-so = by-words ∙ ap (λ (x : Bool). enough x (header bs (script (record { nodes = []; texts = [] })))) (le-leb 16384 (length w) l) ∙ ap (enough true) (h .is (script (record { nodes = []; texts = [] })))
 
-    pub head-refused : (k : ℕ) → a ≡ Head.Refused k → written bs w room ≡ Refused k
+    pub head-refused : (k : ℕ) → a ≡ Head.Refused k → written bs w room ≡ refused k
     head-refused k e = headed-so ∙ ap (λ (x : Head). behind (headed x (script (record { nodes = []; texts = [] }))) (fitted bs w room)) e
 
     module _ (x : Header) (e : a ≡ Head.Found x) where
@@ -179,4 +179,4 @@ module _ (bs w : List ℕ) (room : ℕ) where
           }
 
       pub as-found : {r r′ : List ℕ} {y : Written} → Wrote bs w r r′ (fitted bs w room) y → Wrote bs w r r′ (written bs w room) y
-      as-found {r} {r′} {y} q = subst (λ (z : Written). Wrote bs w r r′ z y) (sym head-found) q
+      as-found {r} {r′} {y} q = subst (λ (z : Answer). Wrote bs w r r′ z y) (sym head-found) q

@@ -20,7 +20,7 @@ returns c =
     let bs = a .file .now in
     let w = a .words .now in
     let r = a .result .now in
-    laid.refused bs w r (written bs w (length r)) 1 (laid.short bs w (length r) (c .if1 .taken))
+    laid.left-so bs w r (written bs w (length r)) 1 (laid.short bs w (length r) (c .if1 .taken))
 
 read-header-requires : tie.Need-read-header-requires
 read-header-requires c κs = search needs
@@ -59,7 +59,7 @@ returns-3 c =
     let w = a .words .now in
     let r = a .result .now in
     let g = c .before .head2 .given in
-    laid.refused bs w r (written bs w (length r)) (g .0 .0) (laid.head-refused bs w (length r) (c .before .before .before .before .if1 .left) (c .before .before .before .read-header .ensures) (g .0 .0) (g .1))
+    laid.left-so bs w r (written bs w (length r)) (g .0 .0) (laid.head-refused bs w (length r) (c .before .before .before .before .if1 .left) (c .before .before .before .read-header .ensures) (g .0 .0) (g .1))
 
 pub write-spec : {M : Type 1} → statement M
 write-spec =

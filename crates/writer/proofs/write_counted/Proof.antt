@@ -27,7 +27,7 @@ returns c =
     let w = a .words .now in
     let r = a .result .now in
     let K = c .before .before .before .before .before .pre in
-    laid.refused bs w r (fitted bs w (length r)) 9 (laid.fit-none bs w (length r) (c .if1 .taken))
+    laid.left-so bs w r (fitted bs w (length r)) 9 (laid.fit-none bs w (length r) (c .if1 .taken))
 
 returns-2 : tie.Need-returns-2
 returns-2 c =
@@ -37,7 +37,7 @@ returns-2 c =
     let r = a .result .now in
     let K = c .before .before .before .before .before .before .pre in
     let l : 1 ≤ getD w 0 0 = omega arith in
-    laid.refused bs w r (fitted bs w (length r)) 9 (laid.fit-many bs w (length r) l (c .if2 .taken))
+    laid.left-so bs w r (fitted bs w (length r)) 9 (laid.fit-many bs w (length r) l (c .if2 .taken))
 
 mul-total : tie.Need-mul-total
 mul-total c = search needs
@@ -64,7 +64,7 @@ returns-3 c =
     let l : 1 ≤ getD w 0 0 = omega arith in
     let h : getD w 0 0 ≤ 1024 = omega arith in
     let q : length r < total bs w = omega (arith, K .texts, K .bytes) in
-    laid.refused bs w r (fitted bs w (length r)) 10 (laid.fit-full bs w (length r) l h q)
+    laid.left-so bs w r (fitted bs w (length r)) 10 (laid.fit-full bs w (length r) l h q)
 
 cast-put-head : tie.Need-cast-put-head
 cast-put-head c = search needs
@@ -124,7 +124,7 @@ returns-4 c =
     let l : 1 ≤ getD w 0 0 = omega (arith, c .before .before .before .before .before .before .before .before .before .before .before .before .before .before .if1) in
     let h : getD w 0 0 ≤ 1024 = omega (arith, c .before .before .before .before .before .before .before .before .before .before .before .before .before .if2) in
     let q = c .before .before .before .before .before .before .before .before .before .before .before .before .if3 .left in
-    laid.wrote bs w r (a .n) (a .t) (a .b) K l h q (c .before .before .before .before .before .before .before .before .before .before .put-head .last .0) (c .before .before .before .before .before .before .put-nodes .last .1 .1 .1 .0) (c .before .before .copy .last .1 .1 .0) (length (c .before .before .before .before .before .before .before .before .before .before .put-head .last .0)) (c .before .before .before .before .before .before .before .before .before .before .put-head .kept .0) (c .before .before .before .before .before .before .before .before .before .before .put-head .ensures) (c .before .before .before .before .before .before .put-nodes .ensures) (c .before .before .copy .ensures)
+    laid.all-wrote bs w r (a .n) (a .t) (a .b) K l h q (c .before .before .before .before .before .before .before .before .before .before .put-head .last .0) (c .before .before .before .before .before .before .put-nodes .last .1 .1 .1 .0) (c .before .before .copy .last .1 .1 .0) (length (c .before .before .before .before .before .before .before .before .before .before .put-head .last .0)) (c .before .before .before .before .before .before .before .before .before .before .put-head .kept .0) (c .before .before .before .before .before .before .before .before .before .before .put-head .ensures) (c .before .before .before .before .before .before .put-nodes .ensures) (c .before .before .copy .ensures)
 
 pub write-counted-spec : {M : Type 1} → statement M
 write-counted-spec =
