@@ -67,7 +67,7 @@ module _ {bs : List ℕ} {s : Script} {n t b : ℕ} (y : Bytes bs) (f : Found bs
   abbrev pub texts : List (List ℕ)
   texts = textsFrom 0 (endsFrom t xs) body
 
-  body-length : length body ≡ b
+  pub body-length : length body ≡ b
   body-length = length-drop (32 + 16 * n + 4 * t) bs ∙ omega (arith, f .head .long)
 
   -- the texts' bytes are the last part of the file, and the ends the part before it
