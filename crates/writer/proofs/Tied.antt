@@ -14,8 +14,8 @@ use Rattle.format.specs.declared.Raw.{Raw}
 use Rattle.format.specs.Script.{Script, idents, zeroNode, nodeAt}
 use Rattle.format.specs.Read.{script, u32, rawOf, nodesFrom, endsFrom, textsFrom, read}
 use Rattle.format.specs.Write.{headBytes, nodeBytes, endBytes, textBytes, file}
-use Rattle.format.specs.Core.{Out, hasText, identAt, litOut, idOut, plainOut, back}
-use Rattle.words.specs.Tab.{tab, getD-tab, getD-tab-out, below-or-not}
+use Rattle.format.specs.Core.{Out, litOut, idOut, plainOut, back}
+use Rattle.words.specs.Tab.{getD-tab, getD-tab-out, below-or-not}
 use Rattle.words.specs.Layout.{tree}
 use Rattle.words.proofs.Nodes.{tree-length}
 use Rattle.treefile.specs.Idents.{numbered, idsOf, Listed}
@@ -23,10 +23,11 @@ use Rattle.treefile.proofs.Raws.{node-raw}
 use Rattle.roundtrip.specs.Fits.{Bytes}
 use Rattle.roundtrip.proofs.Nodes.{nodes-length}
 use Rattle.roundtrip.proofs.Texts.{texts-length}
-use Rattle.roundtrip.proofs.Header.{and-true}
-use Rattle.roundtrip.proofs.Round.{Found, found, texts-written, ends-written, body-length}
-use Rattle.writer.specs.Back.{nodeIn, identIn, textIn, named, plain, backIn}
-use Rattle.writer.specs.Written.{resultBytes}
+use Rattle.roundtrip.proofs.Header.{and-true, passes}
+use Rattle.roundtrip.proofs.Round.{found, texts-written, ends-written, body-length}
+use Rattle.writer.specs.Back.{nodeIn, identIn, textIn, backIn}
+use Rattle.writer.specs.Written.{total, inRoom, written, resultBytes}
+use Rattle.writer.proofs.Laid.{bytes-total, fit-room, none, behind-so}
 use Rattle.writer.proofs.Backs.{node-there, ident-there, ident-none}
 
 raw-pick : (b : Bool) (x y : Out) → pick b x y .raw ≡ pick b (x .raw) (y .raw)
@@ -93,11 +94,21 @@ module _ (bs w : List ℕ) (s : Script) (h : read bs ≡ script s) where
     unfolding resultBytes
     result-is y =
         let f = found bs s h in
-        let texts = s .texts in
-        let ts : texts ≡ _ = ap (λ (x : Script). x .texts) (sym (f .is)) in
-        ap (λ (ns : List Raw). headBytes (getD w 0 0) (u32 bs 16) (u32 bs 28) ++ nodeBytes ns ++ drop (32 + 16 * n) bs) (map-same (tree w))
-        ∙ sym (file-so (resultScript .nodes) (s .texts) (getD w 0 0) (u32 bs 16) (u32 bs 28) (drop (32 + 16 * n) bs)
+        let t = u32 bs 16 in
+        let xs = drop (32 + 16 * n) bs in
+        let body = drop (32 + 16 * n + 4 * t) bs in
+        let ts : s .texts ≡ textsFrom 0 (endsFrom t xs) body = ap (λ (x : Script). x .texts) (sym (f .is)) in
+        ap (λ (ns : List Raw). headBytes (getD w 0 0) t (u32 bs 28) ++ nodeBytes ns ++ xs) (map-same (tree w))
+        ∙ sym (file-so (resultScript .nodes) (s .texts) (getD w 0 0) t (u32 bs 28) xs
         (length-map (tree w) (λ (c : Core). back s c .raw) ∙ tree-length w)
-        (ap length ts ∙ texts-length (u32 bs 16) 0 (drop (32 + 16 * n) bs) (drop (32 + 16 * n + 4 * u32 bs 16) bs))
+        (ap length ts ∙ texts-length t 0 xs body)
         (ap (λ (x : List (List ℕ)). length (textBytes x)) ts ∙ ap length (texts-written y f) ∙ body-length y f)
-        (ap (λ (x : List (List ℕ)). endBytes 0 x ++ textBytes x) ts ∙ ap (λ (x : List ℕ). endBytes 0 (textsFrom 0 (endsFrom (u32 bs 16) (drop (32 + 16 * n) bs)) (drop (32 + 16 * n + 4 * u32 bs 16) bs)) ++ x) (texts-written y f) ∙ ends-written y f))
+        (ap (λ (x : List (List ℕ)). endBytes 0 x ++ textBytes x) ts ∙ ap (λ (x : List ℕ). endBytes 0 (textsFrom 0 (endsFrom t xs) body) ++ x) (texts-written y f) ∙ ends-written y f))
+
+    pub result-length : Bytes bs → length (file resultScript) ≡ total bs w
+    result-length y = ap length (sym (result-is y)) ∙ bytes-total bs w (found bs s h .head .long)
+
+    -- and so is the answer, for words that hold a tree
+    pub answer-is : Bytes bs → 16384 ≤ length w → 1 ≤ getD w 0 0 → getD w 0 0 ≤ 1024 → (room : ℕ) → written bs w room ≡ inRoom (length (file resultScript)) room
+    answer-is y l some few room =
+        behind-so bs w room l (none bs w room) (passes (found bs s h .head) (none bs w room)) ∙ fit-room bs w room some few ∙ ap (λ (k : ℕ). inRoom k room) (sym (result-length y))

@@ -25,13 +25,13 @@ says (Written.Refused k) = refused k
 abbrev pub total : List ℕ → List ℕ → ℕ
 total bs w = 32 + 16 * getD w 0 0 + 4 * u32 bs 16 + u32 bs 28
 
+-- a result of n bytes
+abbrev pub inRoom : ℕ → ℕ → Answer
+inRoom n room = elim (leb n room) [ false ↦ refused 10 | true ↦ wrote n ]
+
 -- behind the header: 9 where word 0 is no count from 1 to 1,024, which it always is after reading; then 10
 unfoldable pub fitted : List ℕ → List ℕ → ℕ → Answer
-fitted bs w room =
-    elim (leb 1 (getD w 0 0) && leb (getD w 0 0) 1024) [
-      | false ↦ refused 9
-      | true ↦ elim (leb (total bs w) room) [ false ↦ refused 10 | true ↦ wrote (total bs w) ]
-    ]
+fitted bs w room = elim (leb 1 (getD w 0 0) && leb (getD w 0 0) 1024) [ false ↦ refused 9 | true ↦ inRoom (total bs w) room ]
 
 -- rows 2 to 4 alone: a refusal, or what stands behind them
 abbrev pub behind : Read → Answer → Answer

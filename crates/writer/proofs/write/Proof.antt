@@ -1,18 +1,10 @@
 -- Words and header first. Assumes nothing.
-use native.Mathlib.Omega.{arith}
-use mathlib.Core.Path.{sym, _∙_}
-use Prim.Native.Nat.{_≤_}
 use lib.ListN.{length}
-use Rattle.writer.specs.declared.Written.{Written}
-use Rattle.writer.specs.Written.{written, Wrote}
+use Rattle.writer.specs.Written.{written}
 use Rattle.writer.proofs.Laid as laid
 use borrow.Author.Needs.{needs}
 use Rattle.writer.proofs.write.Statement.{statement}
 use Rattle.writer.proofs.write.Tie as tie
-use Rattle.writer.proofs.write.Reads as reads
-use Rattle.writer.proofs.write.Lts as lts
-use Rattle.treefile.proofs.header.read_header.Reads as read-header-reads
-use Rattle.writer.proofs.write_counted.Reads as write-counted-reads
 
 returns : tie.Need-returns
 returns c =
