@@ -7,7 +7,7 @@ use native.Mathlib.Omega.{arith}
 use borrow.Author.Tests.{le-leb, lt-leb}
 use lib.ListN.{length, getD, take, drop, length-append, length-drop, drop-of-length-le, length-map}
 use lib.Seq.{sets, paste, sets-eq, take-at, drop-at, take-all, drop-drop}
-use Rattle.format.specs.Read.{Read, bad, script, u32, header}
+use Rattle.format.specs.Read.{Read, bad, u32, header}
 use Rattle.format.specs.Write.{headBytes, nodeBytes}
 use Rattle.words.specs.Layout.{tree}
 use Rattle.words.proofs.Nodes.{tree-length}
@@ -19,7 +19,7 @@ use Rattle.treefile.specs.Head.{headed, Counts, Headed, HeadIs}
 use Rattle.writer.specs.declared.Written.{Written}
 use Rattle.writer.specs.declared.Written.the-variants as Written
 use Rattle.writer.specs.Back.{backIn}
-use Rattle.writer.specs.Written.{Answer, refused, wrote, total, inRoom, fitted, written, resultBytes, left, Wrote, Counted, behind}
+use Rattle.writer.specs.Written.{Answer, refused, wrote, total, inRoom, fitted, written, resultBytes, left, Wrote, Counted, none, behind}
 
 -- stores from the first place on
 sets-front : (l vs : List ℕ) (n : ℕ) → length vs ≡ n → n ≤ length l → sets l 0 vs ≡ vs ++ drop n l
@@ -41,7 +41,7 @@ module _ (r hs ns ts : List ℕ) (m k : ℕ) (h : length hs ≡ 32) (n : length 
     part-there = ap (drop 32) front ∙ drop-at hs (drop 32 r) 32 h
 
     module _ (e : ℕ) (q : e ≡ length r) where
-      pub part-is : take (e - 32) (drop 32 r₁) ≡ drop 32 r
+      part-is : take (e - 32) (drop 32 r₁) ≡ drop 32 r
       part-is = ap (take (e - 32)) part-there ∙ take-all (e - 32) (drop 32 r) (simp length-drop (omega arith))
 
       behind-is : drop (e - 32) (drop 32 r₁) ≡ []
@@ -59,10 +59,6 @@ module _ (r hs ns ts : List ℕ) (m k : ℕ) (h : length hs ≡ 32) (n : length 
 
         length-both : length (hs ++ ns) ≡ 32 + 16 * m
         length-both = simp length-append (omega arith)
-
-        pub whole-length : length (take 32 r₁ ++ (p ++ drop (e - 32) (drop 32 r₁))) ≡ length r
-        unfolding rest
-        whole-length = ap length whole ∙ length-append (hs ++ ns) rest ∙ omega (arith, length-both, length-drop (32 + 16 * m) r)
 
         pub laid : paste (take 32 r₁ ++ (p ++ drop (e - 32) (drop 32 r₁))) (32 + 16 * m) ts k ≡ hs ++ ns ++ ts ++ drop (32 + 16 * m + k) r
         unfolding rest
@@ -102,40 +98,32 @@ long-enough : (n room : ℕ) → n ≤ room → inRoom n room ≡ wrote n
 long-enough n room h = rw (le-leb n room h, inRoom) refl
 
 -- an answer, and the buffer that it leaves
-module _ (bs w r : List ℕ) (a : Answer) where
-  pub left-so : (k : ℕ) → a ≡ refused k → Wrote bs w r r a (Written.Refused k)
-  left-so k e = record { is = sym e; leaves = sym (ap (left bs w r) e) }
+module _ (out r : List ℕ) (a : Answer) where
+  pub left-so : (k : ℕ) → a ≡ refused k → Wrote out r r a (Written.Refused k)
+  left-so k e = record { is = sym e; leaves = sym (ap (left out r) e) }
 
-  pub done : (n : ℕ) (r′ : List ℕ) → a ≡ wrote n → r′ ≡ resultBytes bs w ++ drop n r → Wrote bs w r r′ a (Written.Done n)
-  done n r′ e q = record { is = sym e; leaves = q ∙ sym (ap (left bs w r) e) }
+  done : (n : ℕ) (r′ : List ℕ) → a ≡ wrote n → r′ ≡ out ++ drop n r → Wrote out r r′ a (Written.Done n)
+  done n r′ e q = record { is = sym e; leaves = q ∙ sym (ap (left out r) e) }
 
 -- all written
-module _ (bs w r : List ℕ) (n t b : ℕ) (K : Counted bs w n t b) (some : 1 ≤ getD w 0 0) (few : getD w 0 0 ≤ 1024) (room : 32 + 16 * getD w 0 0 + 4 * t + b ≤ length r) where
-  abbrev pub m : ℕ
-  m = getD w 0 0
-
-  abbrev pub nodes : List ℕ
-  nodes = nodeBytes (map (backIn bs w) (tree w))
-
-  total-is : 32 + 16 * m + 4 * t + b ≡ total bs w
-  total-is = omega (arith, K .texts, K .bytes)
-
-  pub all-wrote : (r₁ p r₃ : List ℕ) (e : ℕ) → e ≡ length r → r₁ ≡ sets r 0 (headBytes m t b) → p ≡ sets (take (e - 32) (drop 32 r₁)) 0 nodes
-      → r₃ ≡ paste (take 32 r₁ ++ (p ++ drop (e - 32) (drop 32 r₁))) (32 + 16 * m) (drop (32 + 16 * n) bs) (4 * t + b)
-      → Wrote bs w r r₃ (fitted bs w (length r)) (Written.Done (32 + 16 * m + 4 * t + b))
-  unfolding resultBytes
-  all-wrote r₁ p r₃ e q e₁ e₂ e₃ =
-      let tail : length (drop (32 + 16 * n) bs) ≡ 4 * t + b = simp length-drop (omega (arith, K .size)) in
-      let sum : 32 + 16 * m + (4 * t + b) ≡ 32 + 16 * m + 4 * t + b = omega arith in
-      let all = laid r (headBytes m t b) nodes (drop (32 + 16 * n) bs) m (4 * t + b) refl (nodes-length bs w) tail (omega arith) r₁ e₁ e q p e₂ in
-      done bs w r (fitted bs w (length r)) (32 + 16 * m + 4 * t + b) r₃ (fit-room bs w (length r) some few ∙ long-enough (total bs w) (length r) (omega (arith, total-is)) ∙ ap wrote (sym total-is))
-      (rw (← K .texts, ← K .bytes, ← K .source .count) (e₃ ∙ all ∙ ap (λ (k : ℕ). headBytes m t b ++ nodes ++ drop (32 + 16 * n) bs ++ drop k r) sum))
+pub all-wrote : (bs w r : List ℕ) (n t b : ℕ) → Counted bs w n t b → 1 ≤ getD w 0 0 → getD w 0 0 ≤ 1024 → 32 + 16 * getD w 0 0 + 4 * t + b ≤ length r
+    → (r₁ p r₃ : List ℕ) (e : ℕ) → e ≡ length r → r₁ ≡ sets r 0 (headBytes (getD w 0 0) t b) → p ≡ sets (take (e - 32) (drop 32 r₁)) 0 (nodeBytes (map (backIn bs w) (tree w)))
+    → r₃ ≡ paste (take 32 r₁ ++ (p ++ drop (e - 32) (drop 32 r₁))) (32 + 16 * getD w 0 0) (drop (32 + 16 * n) bs) (4 * t + b)
+    → Wrote (resultBytes bs w) r r₃ (fitted bs w (length r)) (Written.Done (32 + 16 * getD w 0 0 + 4 * t + b))
+unfolding resultBytes
+all-wrote bs w r n t b K some few room r₁ p r₃ e q e₁ e₂ e₃ =
+    let m = getD w 0 0 in
+    let ns = nodeBytes (map (backIn bs w) (tree w)) in
+    let ts = drop (32 + 16 * n) bs in
+    let size : 32 + 16 * m + 4 * t + b ≡ total bs w = omega (arith, K .texts, K .bytes) in
+    let tail : length ts ≡ 4 * t + b = simp length-drop (omega (arith, K .size)) in
+    let sum : 32 + 16 * m + (4 * t + b) ≡ 32 + 16 * m + 4 * t + b = omega arith in
+    let all = laid r (headBytes m t b) ns ts m (4 * t + b) refl (nodes-length bs w) tail (omega arith) r₁ e₁ e q p e₂ in
+    done (resultBytes bs w) r (fitted bs w (length r)) (32 + 16 * m + 4 * t + b) r₃ (fit-room bs w (length r) some few ∙ long-enough (total bs w) (length r) (omega (arith, size)) ∙ ap wrote (sym size))
+    (rw (← K .texts, ← K .bytes, ← K .source .count) (e₃ ∙ all ∙ ap (λ (k : ℕ). headBytes m t b ++ ns ++ ts ++ drop k r) sum))
 
 -- before that: too few words, and the header
 module _ (bs w : List ℕ) (room : ℕ) where
-  abbrev pub none : Read
-  none = script (record { nodes = []; texts = [] })
-
   pub short : length w < 16384 → written bs w room ≡ refused 1
   unfolding written
   short h = rw (lt-leb 16384 (length w) h, written) refl
@@ -166,5 +154,5 @@ module _ (bs w : List ℕ) (room : ℕ) where
               size = k .size;
             }
 
-        pub as-found : {r r′ : List ℕ} {y : Written} → Wrote bs w r r′ (fitted bs w room) y → Wrote bs w r r′ (written bs w room) y
-        as-found {r} {r′} {y} q = subst (λ (z : Answer). Wrote bs w r r′ z y) (sym head-found) q
+        pub as-found : {out r r′ : List ℕ} {y : Written} → Wrote out r r′ (fitted bs w room) y → Wrote out r r′ (written bs w room) y
+        as-found {out} {r} {r′} {y} q = subst (λ (z : Answer). Wrote out r r′ z y) (sym head-found) q

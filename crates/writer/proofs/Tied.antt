@@ -25,9 +25,10 @@ use Rattle.roundtrip.proofs.Nodes.{nodes-length}
 use Rattle.roundtrip.proofs.Texts.{texts-length}
 use Rattle.roundtrip.proofs.Header.{and-true, passes}
 use Rattle.roundtrip.proofs.Round.{found, texts-written, ends-written, body-length}
+use Rattle.writer.specs.declared.Written.{Written}
 use Rattle.writer.specs.Back.{nodeIn, identIn, textIn, backIn}
-use Rattle.writer.specs.Written.{total, inRoom, written, resultBytes}
-use Rattle.writer.proofs.Laid.{bytes-total, fit-room, none, behind-so}
+use Rattle.writer.specs.Written.{total, inRoom, none, written, resultBytes, Wrote}
+use Rattle.writer.proofs.Laid.{bytes-total, fit-room, behind-so}
 use Rattle.writer.proofs.Backs.{node-there, ident-there, ident-none}
 
 raw-pick : (b : Bool) (x y : Out) → pick b x y .raw ≡ pick b (x .raw) (y .raw)
@@ -41,8 +42,12 @@ unfolding file
 file-so ns ts m t b tail p q r e =
     rw (p, q, r) (append-assoc (headBytes m t b ++ nodeBytes ns) (endBytes 0 ts) (textBytes ts) ∙ ap (λ (x : List ℕ). headBytes m t b ++ nodeBytes ns ++ x) e)
 
+-- the script of a result: the tree's nodes turned back, and the texts kept
+abbrev pub resultScript : Script → List ℕ → Script
+resultScript s w = record { nodes = map (λ (c : Core). back s c .raw) (tree w); texts = s .texts }
+
 module _ (bs w : List ℕ) (s : Script) (h : read bs ≡ script s) where
-  abbrev pub n : ℕ
+  abbrev n : ℕ
   n = u32 bs 8
 
   -- a node by its number
@@ -64,7 +69,7 @@ module _ (bs w : List ℕ) (s : Script) (h : read bs ≡ script s) where
       less : (k : ℕ) → suc k - 1 ≡ k
       less k = omega arith
 
-  module _ (L : Listed w n) (e : idsOf bs w ≡ idents s) where
+  module _ (L : Listed w (u32 bs 8)) (e : idsOf bs w ≡ idents s) where
     -- an identifier by its number
     pub ident-is : (i : ℕ) → identIn bs w i ≡ getD (idents s) i zeroNode
     unfolding idsOf
@@ -83,14 +88,11 @@ module _ (bs w : List ℕ) (s : Script) (h : read bs ≡ script s) where
         (sym (raw-pick a (litOut s c) (pick b (idOut s c) (plainOut s c)) ∙ ap (λ (x : Raw). pick a (nodeAt s (c .num)) x) (raw-pick b (idOut s c) (plainOut s c))))
 
     -- the result's bytes
-    abbrev pub resultScript : Script
-    resultScript = record { nodes = map (λ (c : Core). back s c .raw) (tree w); texts = s .texts }
-
     map-same : (xs : List Core) → map (backIn bs w) xs ≡ map (λ (c : Core). back s c .raw) xs
     map-same [] = refl
     map-same (x ∷ xs) = ap₂ {C = List Raw} (λ y ys. y ∷ ys) (back-is x) (map-same xs)
 
-    pub result-is : Bytes bs → resultBytes bs w ≡ file resultScript
+    pub result-is : Bytes bs → resultBytes bs w ≡ file (resultScript s w)
     unfolding resultBytes
     result-is y =
         let f = found bs s h in
@@ -99,16 +101,19 @@ module _ (bs w : List ℕ) (s : Script) (h : read bs ≡ script s) where
         let body = drop (32 + 16 * n + 4 * t) bs in
         let ts : s .texts ≡ textsFrom 0 (endsFrom t xs) body = ap (λ (x : Script). x .texts) (sym (f .is)) in
         ap (λ (ns : List Raw). headBytes (getD w 0 0) t (u32 bs 28) ++ nodeBytes ns ++ xs) (map-same (tree w))
-        ∙ sym (file-so (resultScript .nodes) (s .texts) (getD w 0 0) t (u32 bs 28) xs
+        ∙ sym (file-so (resultScript s w .nodes) (s .texts) (getD w 0 0) t (u32 bs 28) xs
         (length-map (tree w) (λ (c : Core). back s c .raw) ∙ tree-length w)
         (ap length ts ∙ texts-length t 0 xs body)
         (ap (λ (x : List (List ℕ)). length (textBytes x)) ts ∙ ap length (texts-written y f) ∙ body-length y f)
         (ap (λ (x : List (List ℕ)). endBytes 0 x ++ textBytes x) ts ∙ ap (λ (x : List ℕ). endBytes 0 (textsFrom 0 (endsFrom t xs) body) ++ x) (texts-written y f) ∙ ends-written y f))
 
-    pub result-length : Bytes bs → length (file resultScript) ≡ total bs w
+    pub result-length : Bytes bs → length (file (resultScript s w)) ≡ total bs w
     result-length y = ap length (sym (result-is y)) ∙ bytes-total bs w (found bs s h .head .long)
 
-    -- and so is the answer, for words that hold a tree
-    pub answer-is : Bytes bs → 16384 ≤ length w → 1 ≤ getD w 0 0 → getD w 0 0 ≤ 1024 → (room : ℕ) → written bs w room ≡ inRoom (length (file resultScript)) room
-    answer-is y l some few room =
-        behind-so bs w room l (none bs w room) (passes (found bs s h .head) (none bs w room)) ∙ fit-room bs w room some few ∙ ap (λ (k : ℕ). inRoom k room) (sym (result-length y))
+    -- what writing answers and leaves, where the words hold a tree
+    module _ (y : Bytes bs) (long : 16384 ≤ length w) (some : 1 ≤ getD w 0 0) (few : getD w 0 0 ≤ 1024) where
+      pub answer-is : (room : ℕ) → written bs w room ≡ inRoom (length (file (resultScript s w))) room
+      answer-is room = behind-so bs w room long none (passes (found bs s h .head) none) ∙ fit-room bs w room some few ∙ ap (λ (k : ℕ). inRoom k room) (sym (result-length y))
+
+      pub wrote-file : (r r′ : List ℕ) (x : Written) → Wrote (resultBytes bs w) r r′ (written bs w (length r)) x → Wrote (file (resultScript s w)) r r′ (inRoom (length (file (resultScript s w))) (length r)) x
+      wrote-file r r′ x q = rw (← answer-is (length r), ← result-is y) q

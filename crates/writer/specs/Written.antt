@@ -34,6 +34,9 @@ unfoldable pub fitted : List ℕ → List ℕ → ℕ → Answer
 fitted bs w room = elim (leb 1 (getD w 0 0) && leb (getD w 0 0) 1024) [ false ↦ refused 9 | true ↦ inRoom (total bs w) room ]
 
 -- rows 2 to 4 alone: a refusal, or what stands behind them
+abbrev pub none : Read
+none = script (record { nodes = []; texts = [] })
+
 abbrev pub behind : Read → Answer → Answer
 behind (bad k) x = refused k
 behind (script s) x = x
@@ -44,7 +47,7 @@ unfolding fitted
 written bs w room =
     elim (leb 16384 (length w)) [
       | false ↦ refused 1
-      | true ↦ behind (header bs (script (record { nodes = []; texts = [] }))) (fitted bs w room)
+      | true ↦ behind (header bs none) (fitted bs w room)
     ]
 
 -- the result: header, nodes, and the file's own text ends and text bytes
@@ -54,13 +57,13 @@ resultBytes bs w =
     headBytes (getD w 0 0) (u32 bs 16) (u32 bs 28) ++ nodeBytes (map (backIn bs w) (tree w)) ++ drop (32 + 16 * u32 bs 8) bs
 
 -- the buffer r after an answer: a refusal leaves it as it was, and the bytes behind the result stay
-abbrev pub left : List ℕ → List ℕ → List ℕ → Answer → List ℕ
-left bs w r (wrote n) = resultBytes bs w ++ drop n r
-left bs w r (refused k) = r
+abbrev pub left : List ℕ → List ℕ → Answer → List ℕ
+left out r (wrote n) = out ++ drop n r
+left out r (refused k) = r
 
-pub record Wrote (bs w r r′ : List ℕ) (a : Answer) (x : Written) : Type 0 where
+pub record Wrote (out r r′ : List ℕ) (a : Answer) (x : Written) : Type 0 where
   pub is : says x ≡ a
-  pub leaves : r′ ≡ left bs w r a
+  pub leaves : r′ ≡ left out r a
 
 -- a file's counts, and words enough
 pub record Counted (bs w : List ℕ) (n t b : ℕ) : Type 0 where

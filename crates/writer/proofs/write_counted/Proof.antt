@@ -3,7 +3,7 @@ use mathlib.Core.Path.{_∙_}
 use Prim.Native.Nat.{_≤_, _<_}
 use native.Mathlib.Omega.{arith}
 use lib.ListN.{length, getD}
-use Rattle.writer.specs.Written.{fitted, total}
+use Rattle.writer.specs.Written.{fitted, total, resultBytes}
 use Rattle.writer.proofs.Laid as laid
 use borrow.Author.Needs.{needs}
 use Rattle.writer.proofs.write_counted.Statement.{statement}
@@ -21,7 +21,7 @@ returns c =
     let bs = a .file .now in
     let w = a .words .now in
     let r = a .result .now in
-    laid.left-so bs w r (fitted bs w (length r)) 9 (laid.fit-none bs w (length r) (c .if1 .taken))
+    laid.left-so (resultBytes bs w) r (fitted bs w (length r)) 9 (laid.fit-none bs w (length r) (c .if1 .taken))
 
 returns-2 : tie.Need-returns-2
 returns-2 c =
@@ -30,7 +30,7 @@ returns-2 c =
     let w = a .words .now in
     let r = a .result .now in
     let l : 1 ≤ getD w 0 0 = omega arith in
-    laid.left-so bs w r (fitted bs w (length r)) 9 (laid.fit-many bs w (length r) l (c .if2 .taken))
+    laid.left-so (resultBytes bs w) r (fitted bs w (length r)) 9 (laid.fit-many bs w (length r) l (c .if2 .taken))
 
 mul-total : tie.Need-mul-total
 mul-total c = search needs
@@ -57,7 +57,7 @@ returns-3 c =
     let l : 1 ≤ getD w 0 0 = omega arith in
     let h : getD w 0 0 ≤ 1024 = omega arith in
     let q : length r < total bs w = omega (arith, K .texts, K .bytes) in
-    laid.left-so bs w r (fitted bs w (length r)) 10 (laid.fit-room bs w (length r) l h ∙ laid.too-short (total bs w) (length r) q)
+    laid.left-so (resultBytes bs w) r (fitted bs w (length r)) 10 (laid.fit-room bs w (length r) l h ∙ laid.too-short (total bs w) (length r) q)
 
 cast-put-head : tie.Need-cast-put-head
 cast-put-head c = search needs
