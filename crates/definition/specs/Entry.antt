@@ -15,14 +15,12 @@ pub data Entry : Type 0 where
   passed : ℕ → ℕ → Bool → List ℕ → List Root → Entry
 
 abbrev pub written : ℕ → Script → Answer → Entry
-unfolding file
 written room s (no! r) = refused r
 written room s (yes! k c xs rs) =
     let out = file (record { nodes = map (λ (x : Out). x .raw) xs; texts = s .texts }) in
     elim (leb (length out) room) [ true ↦ passed (length out) k c out rs | false ↦ refused 10 ]
 
 abbrev pub entryRead : ℕ → ℕ → Read → Entry
-unfolding pass file
 entryRead runs room (bad r) = refused r
 entryRead runs room (script s) = written room s (pass runs s)
 

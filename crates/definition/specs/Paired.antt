@@ -2,14 +2,16 @@
 use mathlib.Core.Path.{_≡_}
 use mathlib.Core.Logic.{_⊎_}
 use mathlib.Core.Bool.{Bool}
-use mathlib.Core.List.{List, [], _∷_}
-use Prim.Native.Nat.{ℕ, zero, suc, _<_, _≤_}
-use lib.Dec.{T, not-T}
+use mathlib.Core.List.{List, [], _∷_, map}
+use Prim.Native.Nat.{ℕ, _<_, _≤_}
+use lib.Dec.{T}
 use lib.ListN.{length, getD}
 use Rattle.format.specs.declared.Raw.{Raw}
 use Rattle.format.specs.Script.{Script, isLit, hasId, sameId, isArguments, nodeAt, zeroNode}
 use Rattle.format.specs.Read.{script, read}
+use Rattle.format.specs.Write.{file}
 use Rattle.definition.specs.Script.{Out, Root, Answer, no!, yes!, passFile}
+use Rattle.definition.specs.Entry.{Entry, refused, passed, entry}
 
 -- agree in kind, form and child count
 pub record Agree (x y : Raw) : Type 0 where
@@ -91,3 +93,31 @@ Kept s (yes! k c xs rs) = KeptAll s xs
 abbrev pub Demand3 : Type 0
 Demand3 = (as′ bs : List ℕ) (a b : Script) → read as′ ≡ script a → read bs ≡ script b → Paired a b → (n : ℕ)
     → Alike a b (passFile n as′) (passFile n bs) × Kept a (passFile n as′) × Kept b (passFile n bs)
+
+-- the result file of a script, as Entry writes it
+abbrev pub fileOf : Script → List Out → List ℕ
+fileOf s xs = file (record { nodes = map (λ (x : Out). x .raw) xs; texts = s .texts })
+
+-- two written results: the files of two lists of nodes that are alike, whose literals are the input's
+pub record AlikePassed (a b : Script) (n m k l : ℕ) (c d : Bool) (out out′ : List ℕ) (rs ss : List Root) : Type 0 where
+  pub one : List Out
+  pub two : List Out
+  pub one-file : out ≡ fileOf a one
+  pub two-file : out′ ≡ fileOf b two
+  pub one-length : n ≡ length out
+  pub two-length : m ≡ length out′
+  pub results : AlikeResults a b k l c d one two rs ss
+  pub one-kept : KeptAll a one
+  pub two-kept : KeptAll b two
+
+-- two answers of the entry: refusals are the same, but that one result may fit its buffer where the other, with its own texts, does not
+abbrev pub AlikeEntry : Script → Script → Entry → Entry → Type 0
+AlikeEntry a b (refused n) (refused m) = n ≡ m
+AlikeEntry a b (refused n) (passed m l d out′ ss) = n ≡ 10
+AlikeEntry a b (passed n k c out rs) (refused m) = m ≡ 10
+AlikeEntry a b (passed n k c out rs) (passed m l d out′ ss) = AlikePassed a b n m k l c d out out′ rs ss
+
+-- demand 3 about the whole entry: for every pair, run limit, number of working words and room for each result
+abbrev pub Demand3Entry : Type 0
+Demand3Entry = (as′ bs : List ℕ) (a b : Script) → read as′ ≡ script a → read bs ≡ script b → Paired a b → (runs words room room′ : ℕ)
+    → AlikeEntry a b (entry runs words as′ room) (entry runs words bs room′)

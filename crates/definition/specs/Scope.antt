@@ -100,9 +100,12 @@ sensitiveNow b = record { id = b .id; kind = b .kind; aliasOf = b .aliasOf; read
 abbrev pub withValue : Option Tree → VarInfo → VarInfo
 withValue v b = record { id = b .id; kind = b .kind; aliasOf = b .aliasOf; readCnt = b .readCnt; inlinePrevented = b .inlinePrevented; isUndefined = b .isUndefined; value = v; thisSensitive = b .thisSensitive; hoisted = b .hoisted }
 
--- read once more; a hoisted binding is then prevented
+-- read once more; a hoisted binding is then prevented. Reads are counted up to 2: all that is asked of them is whether they are 1
+abbrev pub oneMore : ℕ → ℕ
+oneMore n = pick (ltb n 2) (n + 1) n
+
 abbrev pub readOnce : VarInfo → VarInfo
-readOnce b = record { id = b .id; kind = b .kind; aliasOf = b .aliasOf; readCnt = 1 + b .readCnt; inlinePrevented = b .hoisted || b .inlinePrevented; isUndefined = b .isUndefined; value = b .value; thisSensitive = b .thisSensitive; hoisted = b .hoisted }
+readOnce b = record { id = b .id; kind = b .kind; aliasOf = b .aliasOf; readCnt = oneMore (b .readCnt); inlinePrevented = b .hoisted || b .inlinePrevented; isUndefined = b .isUndefined; value = b .value; thisSensitive = b .thisSensitive; hoisted = b .hoisted }
 
 abbrev pub redeclare : Bool → Bool → Option Tree → VarInfo → VarInfo
 redeclare p u v b = record { id = b .id; kind = b .kind; aliasOf = b .aliasOf; readCnt = 0; inlinePrevented = p; isUndefined = u; value = v; thisSensitive = b .thisSensitive; hoisted = b .hoisted }

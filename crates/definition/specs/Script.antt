@@ -25,17 +25,14 @@ pub data Answer : Type 0 where
   yes! : ℕ → Bool → List Out → List Root → Answer
 
 abbrev pub answer : Script → Outcome → Answer
-unfolding back rootOf
 answer s (refused n) = no! n
 answer s (result k c t ms) = yes! k c (map (back s) (flat t [])) (map (rootOf s) ms)
 
 abbrev pub coreTree : Script → Option Tree
-unfolding coreNodes
 coreTree s = headT (plant (coreNodes s))
 
 -- row 6 refuses a file whose nodes are no tree
 abbrev pub passTree : ℕ → Option Tree → Outcome
-unfolding corePass
 passTree n none = refused 6
 passTree n (some t) = corePass n t
 
@@ -45,7 +42,6 @@ unfolding corePass coreNodes back rootOf
 pass n s = answer s (passTree n (coreTree s))
 
 abbrev pub passRead : ℕ → Read → Answer
-unfolding pass
 passRead n (bad r) = no! r
 passRead n (script s) = pass n s
 

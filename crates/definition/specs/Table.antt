@@ -1,4 +1,4 @@
--- The P cases of document 01, and cases against its plausible errors, as one table, and one theorem over it. Written by tools/cases.py.
+-- The P cases of document 01, and cases against its plausible errors, as one table, and one theorem over it.
 use mathlib.Core.Path.{_≡_, refl}
 use mathlib.Core.Bool.{Bool, true, false, _&&_}
 use mathlib.Core.List.{List, [], _∷_, map}

@@ -1,4 +1,4 @@
--- Vectors: files and the oracle's answers, as numbers of 16 bytes each. Written by tools/vectors.py.
+-- Scripts that tell near-misses of the pass apart, with the original Rust's answers and the origins of literals, in numbers of 16 bytes.
 use mathlib.Core.Path.{_≡_, refl}
 use mathlib.Core.Bool.{Bool, true, false, _&&_}
 use mathlib.Core.List.{List, [], _∷_, _++_}

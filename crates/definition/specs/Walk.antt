@@ -360,12 +360,12 @@ unfoldable pub visitMutTryStmt : Walks → ℕ → Tree → M Tree
 unfolding writeTree
 visitMutTryStmt w p t = onKids (split (λ b. writeTree true b >> ret b) (each (λ h. iff (isCatch h) (w .full (suc p) h) (ret h)))) t
 
--- 17 catch: visit_mut_catch_clause
+-- 17 catch: visit_mut_catch_clause; find_pat_ids of its parameter is a binding's identifier
 unfoldable pub catchParam : Walks → ℕ → Tree → M Tree
 catchParam w p b = do
   b′ ← w .full p b
   s ← get
-  when (not (s .inlining)) (mark (preventInline (num b)))
+  when (isBind b && not (s .inlining)) (mark (preventInline (num b)))
   ret b′
 
 unfoldable pub visitMutCatchClause : Walks → ℕ → Tree → M Tree

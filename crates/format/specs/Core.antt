@@ -24,7 +24,6 @@ coreNode s n x =
     (record { kind = x .kind; form = x .form; arity = x .arity; num = n }))
 
 abbrev pub coreFrom : Script → ℕ → List Raw → List Core
-unfolding coreNode
 coreFrom s n [] = []
 coreFrom s n (x ∷ xs) = coreNode s n x ∷ coreFrom s (suc n) xs
 
@@ -39,7 +38,6 @@ pub record Out : Type 0 where
 
 -- an identifier by its number
 abbrev pub identAt : Script → ℕ → Raw
-unfolding idents
 identAt s i = getD (idents s) i zeroNode
 
 -- the file's node of a core node: a literal whole, an identifier's text and context, a property's text
@@ -47,7 +45,6 @@ abbrev pub litOut : Script → Core → Out
 litOut s c = record { raw = nodeAt s (c .num); origin = c .num }
 
 abbrev pub idOut : Script → Core → Out
-unfolding idents
 idOut s c = record { raw = record { kind = c .kind; form = 0; arity = c .arity; text = identAt s (c .num) .text; bits = identAt s (c .num) .bits }; origin = c .num }
 
 abbrev pub plainOut : Script → Core → Out

@@ -91,11 +91,9 @@ pub data Read : Type 0 where
 
 -- rows 2 to 7, each after the ones before
 abbrev pub checked : Script → Read
-unfolding nodesOk idents
 checked s = elim (nodesOk s) [ false ↦ bad 6 | true ↦ elim (leb (length (idents s)) 256) [ false ↦ bad 7 | true ↦ script s ] ]
 
 abbrev pub parts : ℕ → ℕ → ℕ → List ℕ → Read
-unfolding nodesFrom endsFrom textsFrom rising distinct nodesOk idents
 parts n t b bs =
     let ends = endsFrom t (drop (32 + 16 * n) bs) in
     let texts = textsFrom 0 ends (drop (32 + 16 * n + 4 * t) bs) in

@@ -4,3 +4,5 @@ pub mod Fill
 pub mod Strings
 pub mod Heads
 pub mod Names
+pub mod Cores
+pub mod Readings

@@ -2,5 +2,7 @@
 pub mod fields;
 pub mod header;
 mod idents;
+mod load;
 mod nodes;
+pub mod read;
 mod texts;

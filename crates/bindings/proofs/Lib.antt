@@ -1,0 +1,5 @@
+-- What the proofs of several functions use.
+pub mod Top
+pub mod Fields
+pub mod Hoist
+pub mod Ends

@@ -1,0 +1,29 @@
+-- The innermost scope's own binding of an identifier; hoisting, binding by binding. Assumes nothing: these are definitions.
+use mathlib.Core.Path.{_≡_}
+use mathlib.Core.List.{List, [], _∷_}
+use mathlib.Core.Bool.{Bool, true, false}
+use Prim.Native.Nat.{ℕ, zero, suc, _+_, _*_, _≤_, _<_}
+use lib.ListN.{getD}
+use Rattle.tree.specs.Base.{pick}
+use Rattle.definition.specs.Scope.{VarInfo, Stack, findBindingFromCurrent, isSome, isVar, onBindings, put, hoist}
+use Rattle.scopes.specs.State.{stack, heads, binds, place, bareOf}
+
+-- by its place among all bindings; their count if there is none
+pub record Own (w : List ℕ) (x r : ℕ) : Type 0 where
+  pub most : r ≤ getD w 1 0
+  pub there : r < getD w 1 0 → (place x (heads w) (binds w) ≡ suc r) × (isSome (findBindingFromCurrent x (stack w)) ≡ true) × (getD w (4112 + r * 10) 0 ≡ x)
+  pub absent : getD w 1 0 ≤ r → isSome (findBindingFromCurrent x (stack w)) ≡ false
+
+-- record j, whether it is a binding's or past the last, without its value
+abbrev pub recordAt : List ℕ → ℕ → VarInfo
+recordAt w j = bareOf (getD w (4112 + j * 10) 0) (getD w (4112 + j * 10 + 1) 0) (getD w (4112 + j * 10 + 2) 0) (getD w (4112 + j * 10 + 3) 0) (getD w (4112 + j * 10 + 4) 0) (getD w (4112 + j * 10 + 5) 0) (getD w (4112 + j * 10 + 6) 0) (getD w (4112 + j * 10 + 7) 0)
+
+-- a binding of a closed scope goes up, if it is a `var`
+abbrev pub hoistOne : VarInfo → Stack → Stack
+hoistOne c [] = []
+hoistOne c (s ∷ st) = onBindings (λ bs. pick (isVar (c .kind)) (put (hoist (s .unresolvedUsages) c) bs) bs) s ∷ st
+
+-- n of them, from a on
+abbrev pub hoistUp : (ℕ → VarInfo) → ℕ → ℕ → Stack → Stack
+hoistUp f a zero st = st
+hoistUp f a (suc n) st = hoistOne (f (a + n)) (hoistUp f a n st)

@@ -1,0 +1,129 @@
+// Bindings over the working words: rewritten, hoisted at the end of a scope, declared.
+ghost use mathlib.Core.Path.{_≡_};
+ghost use Prim.Native.Nat.{ℕ, _+_, _*_, _-_, _≤_, _<_};
+ghost use mathlib.Core.Bool.{Bool, _||_};
+ghost use mathlib.Core.List.{[], _∷_};
+ghost use lib.ListN.{getD, length, set};
+ghost use Rattle.definition.specs.Scope.{close};
+ghost use Rattle.words.specs.Layout.{yes, Agree};
+ghost use Rattle.scopes.specs.State.{Good, Becomes, stack, binds, consts, bindAt};
+ghost use Rattle.records.specs.Steps.{Listed, refill};
+ghost use Rattle.bindings.specs.Hoist.{Own, recordAt, hoistOne, hoistUp};
+use records::first_at;
+use records::set_run;
+use scopes::append_record;
+use scopes::drop_scope;
+use words::put5;
+
+// A mark that stands if one of two does.
+fn either(a: u32, b: u32) -> u32
+    ensures { λ r. ⌜ yes r ≡ (yes a || yes b) ⌝ }
+{
+    if a == 0 {
+        return b;
+    }
+    1
+}
+
+// Overwrites the words of binding k but its name and its value.
+fn rewrite(
+    w: &mut [u32],
+    k: usize,
+    kind: u32,
+    alias: u32,
+    reads: u32,
+    prevented: u32,
+    undef: u32,
+    sensitive: u32,
+    hoisted: u32,
+)
+    requires { ⌜ (Good (now w)) × (k < getD (now w) 1 0) ⌝ }
+    ensures { λ _. ⌜ (Listed (now (w .entry)) (now (w .exit)) (set (binds (now (w .entry))) k (refill kind alias reads prevented undef sensitive hoisted (bindAt (now (w .entry)) k))) (consts (now (w .entry)))) × (Agree (4112 + k * 10 + 10) 6672 (now (w .entry)) (now (w .exit))) ⌝ }
+{
+    put5(w, 4112 + k * 10 + 1, kind, alias, reads, prevented, undef);
+    w[4112 + k * 10 + 6] = sensitive;
+    w[4112 + k * 10 + 7] = hoisted;
+}
+
+// The binding of x in the innermost scope, by its place among all; their count if there is none.
+fn own_binding(w: &[u32], x: u8) -> usize
+    requires { ⌜ (Good (now w)) × (0 < getD (now w) 2 0) ⌝ }
+    ensures { λ r. ⌜ Own (now (w .entry)) x r ⌝ }
+{
+    let d = w[2] as usize - 1;
+    let a = w[7184 + d * 4 + 1] as usize;
+    let n = w[1] as usize;
+    first_at(w, 4112, 10, a, n, x)
+}
+
+// What a `var` of a closed scope, whose record j is, leaves in the innermost scope: in place of its binding of the same name, or appended.
+fn hoist_var(w: &mut [u32], j: usize)
+    requires { ⌜ (Good (now w)) × (0 < getD (now w) 2 0) × (getD (now w) 1 0 ≤ j) × (j < 256) × (getD (now w) (4112 + j * 10) 0 < 256) × (getD (now w) (4112 + j * 10 + 1) 0 ≡ 1) ⌝ }
+    ensures { λ _. ⌜ (Becomes (now (w .entry)) (now (w .exit)) (hoistOne (recordAt (now (w .entry)) j) (stack (now (w .entry))))) × (Agree (4112 + j * 10 + 10) 6672 (now (w .entry)) (now (w .exit))) × (getD (now (w .exit)) 1 0 ≤ j + 1) ⌝ }
+{
+    let x = w[4112 + j * 10] as u8;
+    let alias = w[4112 + j * 10 + 2];
+    let reads = w[4112 + j * 10 + 3];
+    let sensitive = w[4112 + j * 10 + 6];
+    let d = w[2] as usize - 1;
+    let prevented = either(w[7312 + d * 256 + x as usize], w[4112 + j * 10 + 4]);
+    let n = w[1] as usize;
+    let r = own_binding(w, x);
+    if r < n {
+        set_run(w, r, 0, 0);
+        rewrite(w, r, 1, alias, reads, prevented, 0, sensitive, 1);
+    } else {
+        append_record(w, x, 1, alias, reads, prevented, 0, sensitive, 1);
+    }
+}
+
+// A binding of a closed scope, whose record j is, goes up if it is a `var`.
+fn hoist_one(w: &mut [u32], j: usize)
+    requires { ⌜ (Good (now w)) × (0 < getD (now w) 2 0) × (getD (now w) 1 0 ≤ j) × (j < 256) × (getD (now w) (4112 + j * 10) 0 < 256) ⌝ }
+    ensures { λ _. ⌜ (Becomes (now (w .entry)) (now (w .exit)) (hoistOne (recordAt (now (w .entry)) j) (stack (now (w .entry))))) × (Agree (4112 + j * 10 + 10) 6672 (now (w .entry)) (now (w .exit))) × (getD (now (w .exit)) 1 0 ≤ j + 1) ⌝ }
+{
+    if w[4112 + j * 10 + 1] == 1 {
+        hoist_var(w, j);
+    }
+}
+
+// The bindings of a closed scope, whose records are those from a up to e, go up.
+fn hoist_all(w: &mut [u32], a: usize, e: usize)
+    requires { ⌜ (Good (now w)) × (0 < getD (now w) 2 0) × (getD (now w) 1 0 ≤ a) × (a ≤ e) × (e ≤ 256) × ((j : ℕ) → j < e → getD (now w) (4112 + j * 10) 0 < 256) ⌝ }
+    ensures { λ _. ⌜ Becomes (now (w .entry)) (now (w .exit)) (hoistUp (λ j. recordAt (now (w .entry)) j) a (e - a) (stack (now (w .entry)))) ⌝ }
+{
+    let mut j = a;
+    while j < e {
+        hoist_one(w, j);
+        j += 1;
+    }
+}
+
+// No scope is left.
+fn drop_all(w: &mut [u32])
+    requires { ⌜ Good (now w) ⌝ }
+    ensures { λ _. ⌜ Becomes (now (w .entry)) (now (w .exit)) [] ⌝ }
+{
+    w[1] = 0;
+    w[2] = 0;
+    w[3] = 0;
+}
+
+// The end of the innermost scope: what was unresolved in it is unresolved above, and its `var` bindings go up unless it is a function's.
+pub fn close(w: &mut [u32])
+    requires { ⌜ Good (now w) ⌝ }
+    ensures { λ _. ⌜ Becomes (now (w .entry)) (now (w .exit)) (close (stack (now (w .entry)))) ⌝ }
+{
+    let d = w[2] as usize;
+    if d < 2 {
+        drop_all(w);
+        return;
+    }
+    let kind = w[7184 + (d - 1) * 4];
+    let a = w[7184 + (d - 1) * 4 + 1] as usize;
+    let e = w[1] as usize;
+    drop_scope(w);
+    if kind < 3 {
+        hoist_all(w, a, e);
+    }
+}

@@ -1,0 +1,1 @@
+// Vectors that the checker computes the definition on: specs only.

@@ -1,0 +1,81 @@
+-- The current scope, and those behind it. Assumes nothing.
+use Prim.Native.Nat.{_+_, _*_, _-_}
+use mathlib.Core.Path.{refl, sym, ap, _∙_}
+use native.Mathlib.Omega.{arith}
+use borrow.Author.Needs.{needs}
+use lib.ListN.{getD}
+use Rattle.definition.specs.Scope.{shouldPreventInlineBecauseOfScope}
+use Rattle.words.specs.Layout.{yes}
+use Rattle.look.specs.Look.{scopeAt, below}
+use Rattle.look.proofs.Facts as facts
+use Rattle.look.proofs.Out as out
+use Rattle.look.proofs.should_prevent_inline_because_of_scope.Statement.{statement}
+use Rattle.look.proofs.should_prevent_inline_because_of_scope.Tie as tie
+
+shared-slice-read-d : tie.Need-shared-slice-read-d
+shared-slice-read-d c = search needs
+
+cast-d : tie.Need-cast-d
+cast-d c = search needs
+
+returns : tie.Need-returns
+returns c =
+    let at-entry = c .before .before .before in
+    let w = at-entry .args .w .now in sym (ap (shouldPreventInlineBecauseOfScope (at-entry .args .x)) (out.below-all w ∙ ap (below w) (c .if1 .taken) ∙ out.below-none w))
+
+sub-if2 : tie.Need-sub-if2
+sub-if2 c = search needs
+
+mul-if2 : tie.Need-mul-if2
+mul-if2 c = search needs
+
+add-if2 : tie.Need-add-if2
+add-if2 c = search needs
+
+add-if2-2 : tie.Need-add-if2-2
+add-if2-2 c = search needs
+
+mul-if2-2 : tie.Need-mul-if2-2
+mul-if2-2 c = search needs
+
+shared-slice-read-if2 : tie.Need-shared-slice-read-if2
+shared-slice-read-if2 c = search needs
+
+returns-2 : tie.Need-returns-2
+returns-2 c =
+    let at-entry = c .before .before .before .before .before in
+    let w = at-entry .args .w .now in
+    let k = getD w 2 0 - 1 in
+    sym (ap (shouldPreventInlineBecauseOfScope (at-entry .args .x)) (out.below-all w ∙ out.turn w (getD w 2 0) (at-entry .pre) (omega arith) (omega arith)) ∙ facts.should-held (at-entry .args .x) (scopeAt w k) (below w k) ∙ rw (facts.unresolved-at w k (at-entry .args .x) (omega arith) ∙ facts.flag-set (getD w (7312 + k * 256 + at-entry .args .x) 0) (c .if2 .taken)) refl)
+
+sub-held-below : tie.Need-sub-held-below
+sub-held-below c = search needs
+
+held-below-requires : tie.Need-held-below-requires
+held-below-requires c κs = search needs
+
+returns-3 : tie.Need-returns-3
+returns-3 c =
+    let at-if2 = c .before in
+    let at-entry = at-if2 .before .before .before .before .before in
+    let w = at-entry .args .w .now in
+    let k = getD w 2 0 - 1 in
+    c .held-below .ensures ∙ sym (ap (shouldPreventInlineBecauseOfScope (at-entry .args .x)) (out.below-all w ∙ out.turn w (getD w 2 0) (at-entry .pre) (omega arith) (omega arith)) ∙ facts.should-held (at-entry .args .x) (scopeAt w k) (below w k) ∙ rw (facts.unresolved-at w k (at-entry .args .x) (omega arith) ∙ ap yes (at-if2 .if2 .left)) refl)
+
+pub should-prevent-inline-because-of-scope-spec : {M : Type 1} → statement M
+should-prevent-inline-because-of-scope-spec =
+    tie.close
+    (tie.spec
+    shared-slice-read-d
+    cast-d
+    returns
+    sub-if2
+    mul-if2
+    add-if2
+    add-if2-2
+    mul-if2-2
+    shared-slice-read-if2
+    returns-2
+    sub-held-below
+    held-below-requires
+    returns-3)

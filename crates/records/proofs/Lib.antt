@@ -1,0 +1,6 @@
+-- What the proofs of several functions use.
+pub mod Count
+pub mod Store
+pub mod Listed
+pub mod Constants
+pub mod ConstWords

@@ -1,0 +1,43 @@
+-- All records. Assumes nothing.
+use Prim.Native.Nat.{ℕ, _+_, _*_, _-_, _≤_, _<_}
+use mathlib.Core.Path.{_≡_, refl, sym, ap, _∙_}
+use native.Mathlib.Omega.{arith}
+use lib.ListN.{getD}
+use Rattle.records.proofs.Count.{live-is}
+use borrow.Author.Needs.{needs}
+use Rattle.records.proofs.live.Statement.{statement}
+use Rattle.records.proofs.live.Tie as tie
+use Rattle.records.proofs.live.Reads as reads
+use Rattle.records.proofs.live.Lts as lts
+
+shared-slice-read-result : tie.Need-shared-slice-read-result
+shared-slice-read-result c = search needs
+
+cast-result : tie.Need-cast-result
+cast-result c = search needs
+
+shared-slice-read-result-2 : tie.Need-shared-slice-read-result-2
+shared-slice-read-result-2 c = search needs
+
+cast-result-2 : tie.Need-cast-result-2
+cast-result-2 c = search needs
+
+add-result : tie.Need-add-result
+add-result c = search needs
+
+returns : tie.Need-returns
+returns c =
+    let at-entry = c .before .before in
+    let g = at-entry .pre in
+    (sym (live-is (at-entry .args .w .now) g), omega (arith, g .count, g .ccount))
+
+pub live-spec : {M : Type 1} → statement M
+live-spec =
+    tie.close
+    (tie.spec
+    shared-slice-read-result
+    cast-result
+    shared-slice-read-result-2
+    cast-result-2
+    add-result
+    returns)

@@ -1,0 +1,164 @@
+// The scope state in lent words: leaf functions whose contracts speak of the definition's stack of scopes.
+ghost use mathlib.Core.Path.{_≡_};
+ghost use Prim.Native.Nat.{ℕ, _+_, _*_, _-_, _≤_, _<_};
+ghost use mathlib.Core.List.{_∷_};
+ghost use mathlib.Core.Option.{none};
+ghost use lib.ListN.{getD, length};
+ghost use Rattle.definition.specs.Scope.{prevent, change, preventInline, append, fresh, newScope};
+ghost use Rattle.words.specs.Layout.{yes, Agree};
+ghost use Rattle.scopes.specs.State.{Good, Becomes, stack, heads, binds, place, off, hitAt, varTypeOf, aliasAt, scopeKindOf, bareOf, dropInner};
+use words::merge;
+use words::put4;
+use words::put5;
+use words::wipe;
+
+// The place of the first binding of x from a up to e, e if there is none.
+pub fn find_in(w: &[u32], a: usize, e: usize, x: u8) -> usize
+    requires { ⌜ (16384 ≤ length (now w)) × (a ≤ e) × (e ≤ 256) ⌝ }
+    ensures { λ r. ⌜ (a ≤ r) × (r ≤ e) × (r < e → getD (now (w .entry)) (4112 + r * 10) 0 ≡ x) × ((j : ℕ) → a ≤ j → j < r → getD (now (w .entry)) (4112 + j * 10) 0 ≡ x → ⊥) ⌝ }
+{
+    let mut k = a;
+    while k < e {
+        if w[4112 + k * 10] == x as u32 {
+            return k;
+        }
+        k += 1;
+    }
+    k
+}
+
+// 1 + the place of the innermost binding of x, 0 if there is none.
+pub fn find_binding(w: &[u32], x: u8) -> usize
+    requires { ⌜ Good (now w) ⌝ }
+    ensures { λ r. ⌜ (r ≡ place x (heads (now (w .entry))) (binds (now (w .entry)))) × (r ≤ getD (now (w .entry)) 1 0) ⌝ }
+{
+    let mut k = w[2] as usize;
+    let mut e = w[1] as usize;
+    while 0 < k {
+        k -= 1;
+        let a = w[7184 + k * 4 + 1] as usize;
+        let r = find_in(w, a, e, x);
+        if r < e {
+            return r + 1;
+        }
+        e = a;
+    }
+    0
+}
+
+// Marks the innermost binding of x, if there is one.
+pub fn prevent_found(w: &mut [u32], x: u8)
+    requires { ⌜ Good (now w) ⌝ }
+    ensures { λ _. ⌜ Becomes (now (w .entry)) (now (w .exit)) (change x prevent (stack (now (w .entry)))) ⌝ }
+{
+    let k = find_binding(w, x);
+    if k == 0 {
+        return;
+    }
+    w[4112 + (k - 1) * 10 + 4] = 1;
+}
+
+// Is x the identifier of binding k, or its value; the value begins at node at of the store.
+fn hit(w: &[u32], k: usize, at: usize, x: u8) -> bool
+    requires { ⌜ (Good (now w)) × (k < getD (now w) 1 0) × (at ≡ off (now w) k) × (at + getD (now w) (4112 + k * 10 + 8) 0 ≤ 512) ⌝ }
+    ensures { λ r. ⌜ r ≡ hitAt (now (w .entry)) k x ⌝ }
+{
+    if w[4112 + k * 10] == x as u32 {
+        return true;
+    }
+    if w[4112 + k * 10 + 8] == 0 {
+        return false;
+    }
+    if w[2064 + at * 2] % 64 == 21 {
+        return w[2064 + at * 2 + 1] == x as u32;
+    }
+    false
+}
+
+// Marks every binding of x, and every binding whose value is x, in all scopes.
+pub fn prevent_inline(w: &mut [u32], x: u8)
+    requires { ⌜ Good (now w) ⌝ }
+    ensures { λ _. ⌜ Becomes (now (w .entry)) (now (w .exit)) (preventInline x (stack (now (w .entry)))) ⌝ }
+{
+    let n = w[1] as usize;
+    let mut k: usize = 0;
+    let mut at: usize = 0;
+    while k < n {
+        let m = w[4112 + k * 10 + 8] as usize;
+        if hit(w, k, at, x) {
+            w[4112 + k * 10 + 4] = 1;
+        }
+        at += m;
+        k += 1;
+    }
+}
+
+// How many nodes the values before binding k have.
+pub fn offset(w: &[u32], k: usize) -> usize
+    requires { ⌜ (Good (now w)) × (k ≤ getD (now w) 1 0) ⌝ }
+    ensures { λ r. ⌜ (r ≡ off (now (w .entry)) k) × (r ≤ 512) ⌝ }
+{
+    let mut at: usize = 0;
+    let mut j: usize = 0;
+    while j < k {
+        at += w[4112 + j * 10 + 8] as usize;
+        j += 1;
+    }
+    at
+}
+
+// Appends a binding without a value, by its words, to the innermost scope.
+pub fn append_record(
+    w: &mut [u32],
+    id: u8,
+    kind: u32,
+    alias: u32,
+    reads: u32,
+    prevented: u32,
+    undef: u32,
+    sensitive: u32,
+    hoisted: u32,
+)
+    requires { ⌜ (Good (now w)) × (getD (now w) 1 0 < 256) × (0 < getD (now w) 2 0) ⌝ }
+    ensures { λ _. ⌜ (Becomes (now (w .entry)) (now (w .exit)) (append (bareOf id kind alias reads prevented undef sensitive hoisted) (stack (now (w .entry))))) × (Agree (4112 + getD (now (w .entry)) 1 0 * 10 + 10) 6672 (now (w .entry)) (now (w .exit))) × (getD (now (w .exit)) 1 0 ≡ getD (now (w .entry)) 1 0 + 1) ⌝ }
+{
+    let n = w[1] as usize;
+    put5(w, 4112 + n * 10, id as u32, kind, alias, reads, prevented);
+    put5(w, 4112 + n * 10 + 5, undef, sensitive, hoisted, 0, 0);
+    w[1] = (n + 1) as u32;
+}
+
+// Appends a binding that was not read yet.
+pub fn push(w: &mut [u32], id: u8, kind: u32, alias: u32, prevented: u32, undef: u32)
+    requires { ⌜ (Good (now w)) × (getD (now w) 1 0 < 256) × (0 < getD (now w) 2 0) ⌝ }
+    ensures { λ _. ⌜ Becomes (now (w .entry)) (now (w .exit)) (append (fresh id (varTypeOf kind) (aliasAt alias) (yes prevented) (yes undef) none) (stack (now (w .entry)))) ⌝ }
+{
+    append_record(w, id, kind, alias, 0, prevented, undef, 0, 0);
+}
+
+// Opens a scope of a kind.
+pub fn open(w: &mut [u32], kind: u32)
+    requires { ⌜ (Good (now w)) × (getD (now w) 2 0 < 32) ⌝ }
+    ensures { λ _. ⌜ Becomes (now (w .entry)) (now (w .exit)) (newScope (scopeKindOf kind) ∷ stack (now (w .entry))) ⌝ }
+{
+    let d = w[2] as usize;
+    let n = w[1];
+    let c = w[3];
+    wipe(w, 7312 + d * 256, 256);
+    put4(w, 7184 + d * 4, kind, n, c, 0);
+    w[2] = (d + 1) as u32;
+}
+
+// Drops the innermost of two or more scopes with its records; what was unresolved in it is unresolved above.
+pub fn drop_scope(w: &mut [u32])
+    requires { ⌜ (Good (now w)) × (1 < getD (now w) 2 0) ⌝ }
+    ensures { λ _. ⌜ (Becomes (now (w .entry)) (now (w .exit)) (dropInner (stack (now (w .entry))))) × (Agree 4112 6672 (now (w .entry)) (now (w .exit))) × (getD (now (w .exit)) 1 0 ≡ getD (now (w .entry)) (7184 + (getD (now (w .entry)) 2 0 - 1) * 4 + 1) 0) ⌝ }
+{
+    let d = w[2] as usize - 1;
+    let n = w[7184 + d * 4 + 1];
+    let c = w[7184 + d * 4 + 2];
+    merge(w, 7312 + d * 256, 7312 + (d - 1) * 256, 256);
+    w[1] = n;
+    w[3] = c;
+    w[2] = d as u32;
+}

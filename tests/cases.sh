@@ -1,0 +1,13 @@
+#!/usr/bin/env bash
+# The tables of crates/cases are what tools/vectors.py writes from the vectors.
+set -u
+cd "$(dirname "$0")/.." || exit 1
+out=$(mktemp -d)
+trap 'rm -rf "$out"' EXIT
+cp crates/cases/specs/Vector.antt "$out"
+if python3 tools/vectors.py tests/vectors/small.txt "$out" && diff -r "$out" crates/cases/specs; then
+    echo "1 passed, 0 failed"
+else
+    echo "0 passed, 1 failed"
+    exit 1
+fi
