@@ -2,10 +2,7 @@
 mod nodes;
 mod put;
 
-ghost use mathlib.Core.Path.{_≡_};
-ghost use Prim.Native.Nat.{_≤_};
 ghost use lib.ListN.{length};
-ghost use Rattle.writer.specs.Back.{Source};
 ghost use Rattle.writer.specs.Written.{Counted, Wrote, fitted, written, resultBytes};
 use crate::nodes::put_nodes;
 use crate::put::copy;
