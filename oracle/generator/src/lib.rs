@@ -1,0 +1,1 @@
+//! Random tree files.
