@@ -3,6 +3,7 @@
 use std::collections::HashSet;
 use std::fmt;
 
+pub mod javascript;
 mod kinds;
 
 pub const MAX_NODES: usize = 1024;
