@@ -2,6 +2,7 @@
 //! that lie just below, at and above each limit.
 
 pub mod damage;
+pub mod limits;
 pub mod node;
 pub mod pairs;
 pub mod rng;

@@ -18,12 +18,12 @@ struct Maker<'a> {
     contexts: u64,
     statement_weights: Vec<usize>,
     expression_weights: Vec<usize>,
-    /// How often a group of statements that belong together is written.
+    /// How often, out of ten times, a group of statements that belong together is written.
     idioms: usize,
 }
 
 /// Kinds of statements, with the fewest nodes and the usual weight of each.
-const STATEMENTS: [(u8, usize, usize); 18] = [
+const STATEMENTS: [(u8, usize, usize); 17] = [
     (2, 1, 3),
     (3, 1, 1),
     (4, 2, 14),
@@ -41,7 +41,6 @@ const STATEMENTS: [(u8, usize, usize); 18] = [
     (18, 2, 3),
     (43, 1, 1),
     (44, 1, 1),
-    (0, 6, 10), // an idiom
 ];
 
 /// Kinds of expressions likewise.
@@ -96,11 +95,15 @@ impl<'a> Maker<'a> {
         texts.extend(OTHERS[..others].iter().map(|text| text.as_bytes().to_vec()));
         let contexts = if rng.once_in(3) { 3 } else { 1 };
         let mut weights = |table: &[(u8, usize, usize)]| -> Vec<usize> {
-            let vary = |row: &(u8, usize, usize)| row.2 * *rng.pick(&[0, 1, 1, 1, 2, 4]);
-            table.iter().map(vary).collect()
+            // Names, expressions and declarations are never left out.
+            let mut vary = |row: &(u8, usize, usize)| match row.0 {
+                4 | 5 | 21 => row.2 * *rng.pick(&[1, 1, 2, 4]),
+                _ => row.2 * *rng.pick(&[0, 1, 1, 1, 2, 4]),
+            };
+            table.iter().map(&mut vary).collect()
         };
         let (statement_weights, expression_weights) = (weights(&STATEMENTS), weights(&EXPRESSIONS));
-        let idioms = rng.below(3);
+        let idioms = *rng.pick(&[0, 3, 5, 8]);
         Maker {
             rng,
             names,
@@ -130,8 +133,8 @@ impl<'a> Maker<'a> {
         // Where the budget is large, what has no children is chosen seldom, else sizes are never met.
         let fit = |(row, weight): (&(u8, usize, usize), &usize)| match row {
             (_, least, _) if *least > n => 0,
-            (_, least, _) if n > 8 && *least == 1 => weight.div_ceil(4),
-            _ => weight * 4,
+            (_, least, _) if n > 3 && *least == 1 => *weight,
+            _ => weight * 6,
         };
         let weights: Vec<usize> = table.iter().zip(weights).map(fit).collect();
         match weights.iter().sum() {
@@ -145,33 +148,36 @@ impl<'a> Maker<'a> {
         let mut list = Vec::new();
         let mut left = n;
         while left > 0 {
-            let most = if self.rng.once_in(4) {
+            let most = if self.rng.once_in(5) {
                 left
             } else {
-                left.min(14)
+                left.min(16)
             };
-            let share = self.rng.from(1, most);
-            let made = self.statement_or_idiom(share);
+            // A share of one or two nodes has room for little of interest.
+            let least = if self.rng.once_in(6) { 1 } else { left.min(4) };
+            let share = self.rng.from(least, most);
+            let made = if share >= 7 && self.rng.below(10) < self.idioms {
+                self.idiom(share)
+            } else {
+                vec![self.any_statement(share)]
+            };
             let size: usize = made.iter().map(Tree::count).sum();
-            assert!(size <= share, "a statement larger than its share");
+            assert!(size <= share, "statements larger than their share");
             left -= size;
             list.extend(made);
         }
         list
     }
 
-    fn statement_or_idiom(&mut self, n: usize) -> Vec<Tree> {
+    fn any_statement(&mut self, n: usize) -> Tree {
         let weights = self.statement_weights.clone();
-        match self.choose(&STATEMENTS, &weights, n) {
-            0 if self.idioms > 0 => self.idiom(n),
-            0 => vec![self.statement(n, 4)],
-            kind => vec![self.statement(n, kind)],
-        }
+        let kind = self.choose(&STATEMENTS, &weights, n);
+        self.statement(n, kind)
     }
 
     fn inner_statement(&mut self, n: usize) -> Tree {
         let weights = self.statement_weights.clone();
-        match self.choose(&STATEMENTS[..17], &weights[..17], n) {
+        match self.choose(&STATEMENTS, &weights, n) {
             // Loops and branches take a block most of the time.
             kind if kind != 2 && n > 1 && self.rng.once_in(2) => {
                 block(vec![self.statement(n - 1, kind)])

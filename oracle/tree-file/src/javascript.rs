@@ -4,7 +4,7 @@
 use crate::{Script, Tree};
 
 const UNARY: [&str; 7] = ["void ", "typeof ", "!", "-", "+", "~", "delete "];
-const BINARY: [&str; 25] = [
+pub(crate) const BINARY: [&str; 25] = [
     "&&",
     "||",
     "==",
@@ -31,7 +31,7 @@ const BINARY: [&str; 25] = [
     "**",
     "??",
 ];
-const ASSIGN: [&str; 16] = [
+pub(crate) const ASSIGN: [&str; 16] = [
     "=", "+=", "-=", "*=", "/=", "%=", "<<=", ">>=", ">>>=", "|=", "^=", "&=", "**=", "&&=", "||=",
     "??=",
 ];

@@ -5,6 +5,7 @@ use std::fmt;
 
 pub mod javascript;
 mod kinds;
+pub mod parse;
 
 pub const MAX_NODES: usize = 1024;
 pub const MAX_TEXTS: usize = 256;

@@ -1,10 +1,12 @@
-//! For reading: lines of hex digits on standard input; prints each script as JavaScript, then the
-//! original's answer in the same way, the root bindings in brackets, a marked one with `!`.
+//! For reading: tree files as lines of hex digits, or scripts as lines of JavaScript, on standard
+//! input; prints each script as JavaScript, then the original's answer in the same way, the root
+//! bindings in brackets, a marked one with `!`.
 
 use original::answer;
 use programs::on_deep_stack;
 use std::io::{self, BufRead};
-use tree_file::{from_hex, javascript, read, Answer, Script};
+use tree_file::parse::parse;
+use tree_file::{from_hex, javascript, read, write, Answer, Script};
 
 fn show(file: &[u8]) -> String {
     let script = match read(file) {
@@ -42,7 +44,10 @@ fn main() {
             let line = line.expect("standard input");
             match from_hex(line.trim()) {
                 Some(file) => println!("{}", show(&file)),
-                None => println!("not hex\n"),
+                None => match parse(&line) {
+                    Ok(script) => println!("{}", show(&write(&script))),
+                    Err(what) => println!("not understood: {what}\n"),
+                },
             }
         }
     });
