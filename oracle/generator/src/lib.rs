@@ -6,6 +6,7 @@ pub mod limits;
 pub mod node;
 pub mod pairs;
 pub mod rng;
+pub mod runnable;
 pub mod scripts;
 
 use rng::Rng;

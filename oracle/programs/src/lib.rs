@@ -1,5 +1,8 @@
 //! What the programs of the bench share.
 
+pub mod engine;
+pub mod shrink;
+
 use std::io::{self, BufRead};
 use tree_file::from_hex;
 
