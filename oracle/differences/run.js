@@ -2,7 +2,8 @@
 //
 // Each line of standard input is a JSON list of two sources; each line of standard output is a
 // JSON list of two traces, or null where one of them cannot be judged. An observer sees the calls
-// of g and of the method o.q, with their arguments, and how the script ends.
+// of g and of the method o.q, with their arguments, the properties read from k, and how the
+// script ends.
 'use strict';
 const vm = require('vm');
 const readline = require('readline');
@@ -10,6 +11,9 @@ const readline = require('readline');
 const hosts = new Set(Object.getOwnPropertyNames(globalThis));
 let trace;
 let fuel;
+
+// The text of a function shows every change inside it; that is no difference to speak of.
+Function.prototype.toString = () => 'function';
 
 function shown(value, depth = 0) {
   if (typeof value === 'function') return 'function';
@@ -34,6 +38,9 @@ function reset() {
     get m() { return fuel-- > 0; },
     q() { trace.push(`q this ${shown(this)}`); return 3; },
   };
+  globalThis.k = new Proxy({}, {
+    get(target, key) { trace.push(`k[${String(key)}]`); return 1; },
+  });
   globalThis.g = (...args) => {
     trace.push(`g(${args.map((value) => shown(value)).join(', ')})`);
     if (trace.length > 400) throw new RangeError('too long');

@@ -2,7 +2,8 @@
 //! declared name belongs to one variable.
 //!
 //! What they can see of the host: `g` traces its arguments and changes `h` and `o.p`; `o.q` is a
-//! method that traces its `this`; `o.m` is true a few times, so that loops end.
+//! method that traces its `this`; `k[e]` traces e without a call, which the pass would take for a
+//! barrier and for a write; `o.m` is true a few times, so that loops end.
 
 use crate::node::*;
 use crate::rng::Rng;
@@ -30,8 +31,35 @@ struct Place {
     at_top: bool,
 }
 
+/// What a script may use. Each script draws its own, since the commonest differences would
+/// otherwise hide the rarer ones.
+struct Allowed {
+    again: bool,
+    constants: bool,
+    /// The host's `h` and `o.p`, which calls change.
+    changing: bool,
+    /// Initialisers other than names and literals.
+    subtrees: bool,
+    before: bool,
+    arrows: bool,
+}
+
+impl Allowed {
+    fn draw(rng: &mut Rng) -> Allowed {
+        Allowed {
+            again: rng.once_in(4),
+            constants: rng.once_in(3),
+            changing: rng.once_in(3),
+            subtrees: rng.once_in(2),
+            before: rng.once_in(3),
+            arrows: rng.once_in(2),
+        }
+    }
+}
+
 struct Maker<'a> {
     rng: &'a mut Rng,
+    allowed: Allowed,
     texts: Vec<Vec<u8>>,
     made: usize,
     /// The names of the open scopes, innermost last.
@@ -42,8 +70,10 @@ struct Maker<'a> {
 
 /// A script of about `size` nodes.
 pub fn script(rng: &mut Rng, size: usize) -> Script {
+    let allowed = Allowed::draw(rng);
     let mut maker = Maker {
         rng,
+        allowed,
         texts: Vec::new(),
         made: 0,
         visible: vec![vec![]],
@@ -145,6 +175,10 @@ impl Maker<'_> {
 
     fn trace(&mut self, size: usize) -> Tree {
         let value = self.expression(size);
+        if !self.rng.once_in(3) {
+            let traced = self.host("k");
+            return statement(node(38, 0, vec![traced, value]));
+        }
         let mut args = vec![value];
         if self.rng.once_in(3) {
             args.push(self.expression(1));
@@ -153,33 +187,42 @@ impl Maker<'_> {
     }
 
     fn declaration(&mut self, size: usize) -> Tree {
-        let form = *self.rng.pick(&[0, 0, 0, 1, 1, 2]);
+        let form = match *self.rng.pick(&[0, 0, 0, 1, 1, 2]) {
+            2 if !self.allowed.constants => 1,
+            form => form,
+        };
         let function = *self.functions.last().expect("a function");
         let old: Vec<u32> = self.visible[function]
             .iter()
             .filter(|name| name.sort == Sort::Var)
             .map(|name| name.text)
             .collect();
-        let again = form == 0 && !old.is_empty() && self.rng.once_in(3);
+        let again = self.allowed.again && form == 0 && !old.is_empty() && self.rng.once_in(3);
         let text = if again {
             *self.rng.pick(&old)
         } else {
             self.fresh()
         };
+        // Seldom the name is known to its own initialiser and, a `var`, before it.
+        let early = self.allowed.before && !again && self.rng.once_in(3);
+        if early {
+            self.add(text, [Sort::Var, Sort::Let, Sort::Const][form as usize]);
+        }
         let init = (form == 2 || !self.rng.once_in(4)).then(|| {
-            if self.rng.once_in(2) {
+            if !self.allowed.subtrees || self.rng.once_in(2) {
                 self.expression(1)
             } else {
                 self.expression(size)
             }
         });
-        if !again {
+        if !again && !early {
             self.add(text, [Sort::Var, Sort::Let, Sort::Const][form as usize]);
         }
         declare(form, binding(text), init)
     }
 
     fn function(&mut self, size: usize) -> Vec<Tree> {
+        // What is called may change later what it reads.
         self.in_scope(true, |maker| {
             let params: Vec<u32> = (0..maker.rng.below(3)).map(|_| maker.fresh()).collect();
             params.iter().for_each(|text| maker.add(*text, Sort::Var));
@@ -354,8 +397,8 @@ impl Maker<'_> {
             0 => node(22, 0, vec![]),
             1 => node(23, self.rng.below(2) as u8, vec![]),
             2 | 3 => number(self.rng.below(9) as f64),
-            4 => self.host("h"),
-            5 => self.host_member("p"),
+            4 if self.allowed.changing => self.host("h"),
+            5 if self.allowed.changing => self.host_member("p"),
             6 if self.functions.len() > 1 && self.rng.once_in(2) => {
                 let arguments = ident(self.text(ARGUMENTS));
                 node(38, 0, vec![arguments, number(0.0)])
@@ -398,11 +441,11 @@ impl Maker<'_> {
                 call(method, vec![])
             }
             16 => self.host_member("q"),
-            17 => node(39, 0, self.function(half)),
-            18 => {
+            18 if self.allowed.arrows => {
                 let body = self.in_scope(true, |maker| maker.expression(half));
                 node(40, 1, vec![body])
             }
+            17 | 18 => node(39, 0, self.function(half)),
             19 => node(41, 0, vec![self.expression(size - 1)]),
             20 => node(
                 30,

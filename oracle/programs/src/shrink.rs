@@ -21,12 +21,19 @@ fn step(script: &Script, holds: &mut dyn FnMut(&Script) -> bool) -> Option<Scrip
                 texts: script.texts.clone(),
             };
             let smaller = weight(&candidate.tree) < weight(&script.tree);
-            if smaller && read(&write(&candidate)).is_ok() && holds(&candidate) {
+            if smaller && is_plain(&candidate) && holds(&candidate) {
                 return Some(candidate);
             }
         }
     }
     None
+}
+
+/// Readable, and without the sequence of one, which no text is.
+fn is_plain(script: &Script) -> bool {
+    let nodes = script.tree.preorder();
+    let odd = |node: &&Tree| node.kind == 42 && node.kids.len() < 2;
+    read(&write(script)).is_ok() && !nodes.iter().any(odd)
 }
 
 /// Fewer nodes first; then plainer ones.
