@@ -63,6 +63,13 @@ fn highest_form(kind: u8) -> u8 {
     }
 }
 
+/// Every kind with every form that it may have.
+pub fn all() -> Vec<(u8, u8)> {
+    let forms =
+        |kind: u8| (u8::from(kind == 16)..=highest_form(kind)).map(move |form| (kind, form));
+    (1..=44).flat_map(forms).collect()
+}
+
 /// Of a for-in or for-of: a declaration of one declarator, or a binding.
 fn head(tree: &Tree) -> bool {
     match tree.kind {

@@ -4,7 +4,7 @@ use std::collections::HashSet;
 use std::fmt;
 
 pub mod javascript;
-mod kinds;
+pub mod kinds;
 pub mod parse;
 
 pub const MAX_NODES: usize = 1024;

@@ -332,10 +332,12 @@ impl Parser {
         Ok(Tree::new(42, 0, list))
     }
 
-    /// Does the parenthesis here hold the parameters of an arrow?
+    /// Does the parenthesis here hold the parameters of an arrow, names and commas alone?
     fn at_arrow(&self) -> bool {
-        let close = self.tokens[self.at..].iter().position(|t| t == ")");
-        self.peek() == "(" && close.is_some_and(|ahead| self.look(ahead + 1) == "=>")
+        let is_param = |token: &String| token == "," || token.starts_with(in_name);
+        let rest = self.tokens.get(self.at + 1..).unwrap_or_default();
+        let params = rest.iter().take_while(|token| is_param(token)).count();
+        self.peek() == "(" && self.look(params + 1) == ")" && self.look(params + 2) == "=>"
     }
 
     fn arrow(&mut self) -> Parsed {

@@ -10,20 +10,23 @@ use programs::on_deep_stack;
 use std::collections::HashMap;
 use std::io::{self, BufWriter, Write};
 use tree_file::parse::parse;
-use tree_file::{read, to_hex, write, Answer, Script};
+use tree_file::{kinds, read, to_hex, write, Answer, Script};
 
 /// How many vectors of each sort, and how large the scripts are.
 struct Plan {
     random: usize,
     high: usize,
+    /// Scripts of 150 to 500 nodes besides.
+    large: usize,
     damaged: usize,
     most_case_nodes: usize,
     limits: fn(&str) -> bool,
 }
 
 const SAMPLE: Plan = Plan {
-    random: 560,
+    random: 420,
     high: 75,
+    large: 8,
     damaged: 110,
     most_case_nodes: 1024,
     limits: |_| true,
@@ -31,8 +34,9 @@ const SAMPLE: Plan = Plan {
 
 /// Rows 7 and 9 need many nodes; one family of each is enough here.
 const SMALL: Plan = Plan {
-    random: 250,
+    random: 160,
     high: 45,
+    large: 0,
     damaged: 70,
     most_case_nodes: 45,
     limits: |name| ["file_identifiers", "hoisted", "blocks"].contains(&name),
@@ -59,22 +63,31 @@ fn cases() -> Vec<Script> {
         .collect()
 }
 
-/// Which kinds and forms were met how often.
+/// Which kinds and forms were met how often in scripts that pass.
 #[derive(Default)]
 struct Met(HashMap<(u8, u8), usize>);
 
 impl Met {
+    fn times(&self, kind_and_form: (u8, u8)) -> usize {
+        self.0.get(&kind_and_form).copied().unwrap_or(0)
+    }
+
     fn is_rare(&self, script: &Script) -> bool {
         let nodes = script.tree.preorder();
-        nodes
-            .iter()
-            .any(|n| self.0.get(&(n.kind, n.form)).is_none_or(|times| *times < 4))
+        nodes.iter().any(|n| self.times((n.kind, n.form)) < 4)
     }
 
     fn add(&mut self, script: &Script) {
+        if let Answer::Refused(_) = original::pass(script, 16) {
+            return;
+        }
         for node in script.tree.preorder() {
             *self.0.entry((node.kind, node.form)).or_default() += 1;
         }
+    }
+
+    fn is_complete(&self) -> bool {
+        kinds::all().into_iter().all(|pair| self.times(pair) >= 4)
     }
 }
 
@@ -92,10 +105,22 @@ fn is_kept(rng: &mut Rng, met: &Met, script: &Script) -> bool {
 fn random(rng: &mut Rng, plan: &Plan) -> Vec<Script> {
     let mut met = Met::default();
     let mut list = Vec::new();
-    while list.len() < plan.random {
+    while list.len() < plan.random || !met.is_complete() {
         let script = random_script(rng, 5, plan.high);
-        if script.tree.count() >= 5 && is_kept(rng, &met, &script) {
+        let wanted = if list.len() < plan.random {
+            is_kept(rng, &met, &script)
+        } else {
+            met.is_rare(&script)
+        };
+        if script.tree.count() >= 5 && wanted {
             met.add(&script);
+            list.push(script);
+        }
+    }
+    let large = list.len() + plan.large;
+    while list.len() < large {
+        let script = random_script(rng, 150, 500);
+        if is_kept(rng, &met, &script) {
             list.push(script);
         }
     }
