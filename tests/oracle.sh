@@ -62,7 +62,7 @@ count "stored vectors" "$bin/replay" tests/vectors/sample.txt tests/vectors/smal
 count "sample rewritten" rewritten sample
 count "small rewritten" rewritten small
 count "limits" "$bin/limits"
-count "consistency" "$bin/consistency" "${SEED:-1}" 5000
+count "consistency" "$bin/consistency" "${SEED:-1}" 2000
 if command -v node >/dev/null 2>&1; then
   count "differences" bash -c "cd oracle && target/release/differences check differences/classes.txt"
 else

@@ -3,6 +3,7 @@
 
 pub mod damage;
 pub mod limits;
+pub mod near;
 pub mod node;
 pub mod pairs;
 pub mod rng;

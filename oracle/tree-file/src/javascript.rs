@@ -254,7 +254,7 @@ impl Printer<'_> {
         }
     }
 
-    fn new(&self, t: &Tree) -> String {
+    fn construction(&self, t: &Tree) -> String {
         let callee = match t.kids[0].kind {
             21 | 26 | 41 => self.expr(&t.kids[0]),
             _ => format!("({})", self.expr(&t.kids[0])),
@@ -331,7 +331,7 @@ impl Printer<'_> {
                 format!("{} ? {} : {}", parts[0], parts[1], parts[2])
             }
             35 => format!("{}({})", self.operand(&kids[0]), self.list(&kids[1..])),
-            36 => self.new(t),
+            36 => self.construction(t),
             37 => self.member(t),
             38 => format!("{}[{}]", self.operand(&kids[0]), self.expr(&kids[1])),
             39 => {

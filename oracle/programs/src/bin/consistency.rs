@@ -3,7 +3,7 @@
 //! Of each random script: it is read back as it was written; the result is readable too; paired
 //! copies are readable and treated alike; a damaged copy is refused or read back as it was.
 
-use generator::{damage, pairs, random_script, rng::Rng};
+use generator::{damage, near, pairs, random_script, rng::Rng};
 use original::{pass, result};
 use programs::on_deep_stack;
 use tree_file::{read, write, Answer, Script};
@@ -42,7 +42,10 @@ fn main() {
         let mut rng = Rng::new(seed);
         for number in 0..count {
             let high = *rng.pick(&[30, 60, 120, 400, 1024]);
-            let script = random_script(&mut rng, 5, high);
+            let mut script = random_script(&mut rng, 5, high);
+            if rng.once_in(4) {
+                script = near::near_limit(&mut rng, &script);
+            }
             let runs = rng.from(1, 16) as u32;
             let answer = pass(&script, runs);
             let facts = [
