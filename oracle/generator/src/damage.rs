@@ -14,14 +14,14 @@ pub fn damage(rng: &mut Rng, file: &[u8]) -> Vec<u8> {
 
 fn fault(rng: &mut Rng, file: &mut Vec<u8>) {
     if file.len() < HEADER + NODE {
-        file.push(rng.next() as u8);
+        file.push(rng.word() as u8);
         return;
     }
     match rng.below(12) {
         0 => flip(rng, file, 0, HEADER),
         1 => header(rng, file),
         2 => file.truncate(rng.below(file.len())),
-        3 => file.push(rng.next() as u8),
+        3 => file.push(rng.word() as u8),
         4 | 5 => {
             let end = file.len();
             flip(rng, file, HEADER, end)

@@ -78,7 +78,7 @@ fn fresh(
             true => ARGUMENTS.to_vec(),
             false => format!("n{}", rng.below(40)).into_bytes(),
         };
-        let any = rng.next();
+        let any = rng.word();
         let context = *rng.pick(&[0, 1, 5, u64::MAX, any]);
         let new = (texts.number(name), context);
         if taken.insert(new) {
@@ -99,7 +99,7 @@ fn literal(rng: &mut Rng, texts: &mut Texts) -> Tree {
     Tree {
         kind,
         form: if kind == 23 { rng.below(2) as u8 } else { 0 },
-        bits: if kind == 24 { rng.next() } else { 0 },
+        bits: if kind == 24 { rng.word() } else { 0 },
         text: if kind == 25 {
             texts.number(property(rng))
         } else {

@@ -119,7 +119,7 @@ impl<'a> Maker<'a> {
         let text = *self.rng.pick(&self.names);
         let context = match self.contexts {
             1 => 0,
-            contexts => self.rng.next() % contexts,
+            contexts => self.rng.word() % contexts,
         };
         named(kind, text, context, vec![])
     }

@@ -6,17 +6,7 @@ pub mod shrink;
 use std::io::{self, BufRead};
 use tree_file::from_hex;
 
-/// Deep trees need a deep stack: 200 levels, each of several calls.
-pub fn on_deep_stack<T: Send>(work: impl FnOnce() -> T + Send) -> T {
-    std::thread::scope(|scope| {
-        std::thread::Builder::new()
-            .stack_size(256 << 20)
-            .spawn_scoped(scope, work)
-            .expect("a thread")
-            .join()
-            .unwrap_or_else(|panic| std::panic::resume_unwind(panic))
-    })
-}
+pub use tree_file::on_deep_stack;
 
 /// A stored file with its run limit and its answer as printed.
 pub struct Vector {

@@ -239,3 +239,15 @@ pub fn from_hex(line: &str) -> Option<Vec<u8>> {
     let digits = digits.filter(|d| d.len() % 2 == 0)?;
     Some(digits.chunks(2).map(|d| d[0] * 16 + d[1]).collect())
 }
+
+/// Deep trees need a deep stack: 200 levels, each of several calls.
+pub fn on_deep_stack<T: Send>(work: impl FnOnce() -> T + Send) -> T {
+    std::thread::scope(|scope| {
+        std::thread::Builder::new()
+            .stack_size(256 << 20)
+            .spawn_scoped(scope, work)
+            .expect("a thread")
+            .join()
+            .unwrap_or_else(|panic| std::panic::resume_unwind(panic))
+    })
+}

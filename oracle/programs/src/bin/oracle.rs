@@ -1,7 +1,8 @@
 //! The original as a program: a tree file on standard input, its answer on standard output.
 //!
 //! Options: `--runs N` (16), `--words N` (16384), `--room N` (no limit), and `--batch`: lines of
-//! hex digits on standard input, each answered in turn with a blank line after it.
+//! hex digits on standard input, each answered in turn with a blank line after it; a number after
+//! the digits is that file's run limit.
 
 use original::{entry, WORDS};
 use programs::on_deep_stack;
@@ -37,15 +38,18 @@ fn options() -> Option<Options> {
 
 fn run(options: &Options) -> io::Result<()> {
     let mut out = BufWriter::new(io::stdout().lock());
-    let answer = |file: &[u8]| entry(file, options.runs, options.words, options.room);
+    let answer = |file: &[u8], runs: u32| entry(file, runs, options.words, options.room);
     if !options.batch {
         let mut file = Vec::new();
         io::stdin().lock().read_to_end(&mut file)?;
-        return write!(out, "{}", answer(&file));
+        return write!(out, "{}", answer(&file, options.runs));
     }
     for line in io::stdin().lock().lines() {
-        match from_hex(line?.trim()) {
-            Some(file) => writeln!(out, "{}", answer(&file))?,
+        let line = line?;
+        let (hex, runs) = line.split_once(' ').unwrap_or((&line, ""));
+        let runs = runs.parse().unwrap_or(options.runs);
+        match from_hex(hex) {
+            Some(file) => writeln!(out, "{}", answer(&file, runs))?,
             None => writeln!(out, "not hex\n")?,
         }
     }

@@ -19,7 +19,8 @@ struct Plan {
     /// Scripts of 150 to 500 nodes besides.
     large: usize,
     damaged: usize,
-    most_case_nodes: usize,
+    /// Files at a limit that pass are left out if they are longer.
+    most_bytes: usize,
     limits: fn(&str) -> bool,
 }
 
@@ -28,7 +29,7 @@ const SAMPLE: Plan = Plan {
     high: 75,
     large: 8,
     damaged: 110,
-    most_case_nodes: 1024,
+    most_bytes: usize::MAX,
     limits: |_| true,
 };
 
@@ -38,7 +39,7 @@ const SMALL: Plan = Plan {
     high: 45,
     large: 0,
     damaged: 70,
-    most_case_nodes: 45,
+    most_bytes: 2048,
     limits: |name| ["file_identifiers", "hoisted", "blocks"].contains(&name),
 };
 
@@ -131,11 +132,9 @@ fn write_limits<W: Write>(writer: &mut Writer<W>, plan: &Plan) -> io::Result<()>
     for family in FAMILIES.iter().filter(|family| (plan.limits)(family.name)) {
         for k in family.limit - 1..=family.limit + 1 {
             let file = (family.make)(k);
-            let small = plan.most_case_nodes < 1024;
-            if small && k <= family.limit && file.len() > 2048 {
-                continue;
+            if k > family.limit || file.len() <= plan.most_bytes {
+                writer.vector(&file, 16)?;
             }
-            writer.vector(&file, 16)?;
         }
     }
     Ok(())

@@ -6,9 +6,8 @@
 
 use generator::rng::Rng;
 use generator::{damage::damage, near::near_limit, pairs::paired, random_script};
-use programs::on_deep_stack;
 use std::io::{self, BufWriter, Write};
-use tree_file::{to_hex, write};
+use tree_file::{on_deep_stack, to_hex, write};
 
 fn run(numbers: &[u64], way: &str) -> io::Result<()> {
     let mut rng = Rng::new(numbers[0]);
