@@ -7,7 +7,20 @@ use crate::node::*;
 use crate::rng::Rng;
 use tree_file::{Script, Tree, ARGUMENTS};
 
-const NAMES: [&str; 10] = ["a", "b", "c", "f", "g", "o", "p", "v", "x", "y"];
+/// One begins like another, and one is nearly `arguments`.
+const NAMES: [&str; 11] = [
+    "a",
+    "ab",
+    "b",
+    "c",
+    "f",
+    "g",
+    "o",
+    "v",
+    "x",
+    "y",
+    "argumentz",
+];
 const OTHERS: [&str; 3] = ["q", "", "key-1"];
 
 struct Maker<'a> {
@@ -15,7 +28,7 @@ struct Maker<'a> {
     /// Text numbers of variables.
     names: Vec<u32>,
     texts: Vec<Vec<u8>>,
-    contexts: u64,
+    contexts: &'static [u64],
     statement_weights: Vec<usize>,
     expression_weights: Vec<usize>,
     /// How often, out of ten times, a group of statements that belong together is written.
@@ -93,7 +106,12 @@ impl<'a> Maker<'a> {
         let names = (0..texts.len() as u32).collect();
         let others = rng.below(OTHERS.len() + 1);
         texts.extend(OTHERS[..others].iter().map(|text| text.as_bytes().to_vec()));
-        let contexts = if rng.once_in(3) { 3 } else { 1 };
+        // Two contexts agree in their lower half.
+        let contexts: &[u64] = if rng.once_in(3) {
+            &[0, 1, 1 << 32]
+        } else {
+            &[0]
+        };
         let mut weights = |table: &[(u8, usize, usize)]| -> Vec<usize> {
             // Names, expressions and declarations are never left out.
             let mut vary = |row: &(u8, usize, usize)| match row.0 {
@@ -117,10 +135,7 @@ impl<'a> Maker<'a> {
 
     fn name(&mut self, kind: u8) -> Tree {
         let text = *self.rng.pick(&self.names);
-        let context = match self.contexts {
-            1 => 0,
-            contexts => self.rng.word() % contexts,
-        };
+        let context = *self.rng.pick(self.contexts);
         named(kind, text, context, vec![])
     }
 
@@ -393,7 +408,7 @@ impl<'a> Maker<'a> {
             21 => self.name(21),
             22 | 26 => node(kind, 0, vec![]),
             23 => node(23, self.rng.below(2) as u8, vec![]),
-            24 => number(*self.rng.pick(&[0.0, 1.0, 2.0, 7.0, -1.0, 0.5, f64::NAN])),
+            24 => number(*self.rng.pick(&[0.0, 1.0, 2.0, 7.0, -0.0, 0.5, f64::NAN])),
             25 => named(25, self.any_text(), 0, vec![]),
             27 => node(27, 0, self.expressions(n - 1, 0)),
             28 => self.object(n),
