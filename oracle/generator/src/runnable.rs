@@ -186,24 +186,27 @@ impl Maker<'_> {
         statement(call(self.host("g"), args))
     }
 
+    /// The variables of the innermost function, which `var` may declare again.
+    fn own_vars(&self) -> Vec<u32> {
+        let function = *self.functions.last().expect("a function");
+        let names = self.visible[function].iter();
+        let vars = names.filter(|name| name.sort == Sort::Var);
+        vars.map(|name| name.text).collect()
+    }
+
     fn declaration(&mut self, size: usize) -> Tree {
         let form = match *self.rng.pick(&[0, 0, 0, 1, 1, 2]) {
             2 if !self.allowed.constants => 1,
             form => form,
         };
-        let function = *self.functions.last().expect("a function");
-        let old: Vec<u32> = self.visible[function]
-            .iter()
-            .filter(|name| name.sort == Sort::Var)
-            .map(|name| name.text)
-            .collect();
+        let old = self.own_vars();
         let again = self.allowed.again && form == 0 && !old.is_empty() && self.rng.once_in(3);
         let text = if again {
             *self.rng.pick(&old)
         } else {
             self.fresh()
         };
-        // Seldom the name is known to its own initialiser and, a `var`, before it.
+        // The name may be known in its own initialiser.
         let early = self.allowed.before && !again && self.rng.once_in(3);
         if early {
             self.add(text, [Sort::Var, Sort::Let, Sort::Const][form as usize]);
@@ -222,7 +225,6 @@ impl Maker<'_> {
     }
 
     fn function(&mut self, size: usize) -> Vec<Tree> {
-        // What is called may change later what it reads.
         self.in_scope(true, |maker| {
             let params: Vec<u32> = (0..maker.rng.below(3)).map(|_| maker.fresh()).collect();
             params.iter().for_each(|text| maker.add(*text, Sort::Var));
@@ -246,6 +248,14 @@ impl Maker<'_> {
         self.host_member("m")
     }
 
+    /// The start of a `for`.
+    fn start(&mut self) -> Tree {
+        let text = self.fresh();
+        self.add(text, Sort::Var);
+        let value = self.expression(1);
+        declare(0, binding(text), Some(value))
+    }
+
     fn looped(&mut self, size: usize, place: Place) -> Tree {
         let inner = Place {
             in_loop: true,
@@ -258,7 +268,7 @@ impl Maker<'_> {
                 node(11, 0, vec![self.test(), body])
             }
             2 => {
-                let start = statement_start(self);
+                let start = self.start();
                 let test = self.test();
                 let update = self.expression(3);
                 let body = self.block(size, inner);
@@ -418,7 +428,7 @@ impl Maker<'_> {
         match self.rng.below(22) {
             0..=3 => self.leaf(),
             4 | 5 => node(27, 0, vec![self.expression(size - 1)]),
-            6 => named(28, 0, 0, vec![]),
+            6 => node(28, 0, vec![]),
             7..=9 => {
                 let form = *self.rng.pick(&[0, 0, 1, 1, 13, 4, 6, 24]);
                 node(32, form, vec![self.expression(half), self.expression(half)])
@@ -462,11 +472,4 @@ fn ends(block: &Tree) -> bool {
         .kids
         .last()
         .is_some_and(|last| matches!(last.kind, 8 | 15 | 43 | 44))
-}
-
-fn statement_start(maker: &mut Maker) -> Tree {
-    let text = maker.fresh();
-    maker.add(text, Sort::Var);
-    let value = maker.expression(1);
-    declare(0, binding(text), Some(value))
 }

@@ -1,9 +1,10 @@
 //! Rows 8 and 9 of the refusals, measured beside the walk.
 //!
 //! The two source files know no limits. The stand-in visitor tells this crate when a node's walk
-//! opens and ends, how large that node is at that moment, and what the scopes hold; each figure
-//! is counted anew from the tree and the scopes themselves. A limit that is passed ends the whole
-//! pass by unwinding, since a visitor has no way to say "stop".
+//! opens and ends, how large that node is at that moment, and what the scopes hold, all counted
+//! anew each time. What lies outside a node cannot change while its walk is open, so it is counted
+//! when the walk opens; at the end of a run the sum must be the whole tree's. A limit that is
+//! passed ends the whole pass by unwinding, since a visitor has no way to say "stop".
 //!
 //! The sources change a record or the tree between two calls of the visitor. Such a change is the
 //! older step, so every call first settles what changed before it, then takes its own step.
