@@ -1,6 +1,7 @@
 //! What the programs of the bench share.
 
 pub mod engine;
+pub mod other;
 pub mod shrink;
 
 use std::io::{self, BufRead};

@@ -21,7 +21,7 @@ fn step(script: &Script, holds: &mut dyn FnMut(&Script) -> bool) -> Option<Scrip
                 texts: script.texts.clone(),
             };
             let smaller = weight(&candidate.tree) < weight(&script.tree);
-            if smaller && is_plain(&candidate) && holds(&candidate) {
+            if smaller && read(&write(&candidate)).is_ok() && holds(&candidate) {
                 return Some(candidate);
             }
         }
@@ -29,11 +29,11 @@ fn step(script: &Script, holds: &mut dyn FnMut(&Script) -> bool) -> Option<Scrip
     None
 }
 
-/// Readable, and without the sequence of one, which no text is.
-fn is_plain(script: &Script) -> bool {
+/// No text is a sequence of one, which the tree file allows.
+pub fn is_text(script: &Script) -> bool {
     let nodes = script.tree.preorder();
     let odd = |node: &&Tree| node.kind == 42 && node.kids.len() < 2;
-    read(&write(script)).is_ok() && !nodes.iter().any(odd)
+    !nodes.iter().any(odd)
 }
 
 /// Fewer nodes first; then plainer ones.

@@ -1,21 +1,23 @@
 //! The original beside another program: `compare SEED COUNT COMMAND ARGUMENT..`.
 //!
-//! The command reads lines `HEX RUNS` and answers each as `oracle --batch` does. It gets random
-//! scripts, scripts near a limit and damaged copies; every answer is compared. The order of the
-//! root lines is free.
+//! The command reads lines `HEX RUNS` and answers each at once as `oracle --batch` does. It gets
+//! random scripts, scripts near a limit and damaged copies; every answer is compared, the order of
+//! the root lines aside. A script that is answered otherwise is made as small as it will go.
 
 use generator::{damage::damage, near::near_limit, random_script, rng::Rng};
 use original::answer;
-use std::io::{self, BufRead, BufReader, BufWriter, Write};
-use std::process::{Command, Stdio};
+use programs::other::Other;
+use programs::shrink::{renamed, shrink};
 use tree_file::javascript::print;
-use tree_file::{on_deep_stack, read, to_hex, write};
+use tree_file::{on_deep_stack, read, to_hex, write, Script};
 
-/// The next file and its run limit; the same from the same seed.
+/// After so many differences there is nothing more to learn.
+const ENOUGH: u64 = 10;
+
 fn next_file(rng: &mut Rng) -> (Vec<u8>, u32) {
     let high = *rng.pick(&[20, 40, 80, 160, 400, 1024]);
     let mut script = random_script(rng, 5, high);
-    if rng.once_in(10) {
+    if rng.once_in(20) {
         script = near_limit(rng, &script);
     }
     let runs = if rng.once_in(8) {
@@ -30,28 +32,6 @@ fn next_file(rng: &mut Rng) -> (Vec<u8>, u32) {
     }
 }
 
-fn send(seed: u64, count: u64, to: impl Write) -> io::Result<()> {
-    let mut rng = Rng::new(seed);
-    let mut to = BufWriter::new(to);
-    for _ in 0..count {
-        let (file, runs) = next_file(&mut rng);
-        writeln!(to, "{} {runs}", to_hex(&file))?;
-    }
-    to.flush()
-}
-
-/// An answer up to its blank line.
-fn receive(from: &mut impl BufRead) -> io::Result<String> {
-    let mut answer = String::new();
-    loop {
-        let start = answer.len();
-        if from.read_line(&mut answer)? == 0 || &answer[start..] == "\n" {
-            answer.truncate(start);
-            return Ok(answer);
-        }
-    }
-}
-
 /// The root lines in one order.
 fn sorted(answer: &str) -> String {
     let (mut roots, others): (Vec<&str>, Vec<&str>) =
@@ -60,46 +40,39 @@ fn sorted(answer: &str) -> String {
     [others, roots].concat().join("\n")
 }
 
-fn agrees(file: &[u8], runs: u32, found: &str) -> bool {
-    let expected = answer(file, runs).to_string();
-    let same = sorted(&expected) == sorted(found);
-    if !same {
-        let script = read(file).map_or_else(|row| format!("row {row}"), |script| print(&script));
-        println!("{} {runs}\n{script}", to_hex(file));
-        println!("the original:\n{expected}the other:\n{found}");
-    }
-    same
+fn agrees(other: &mut Other, file: &[u8], runs: u32) -> bool {
+    sorted(&answer(file, runs).to_string()) == sorted(&other.answer(file, runs))
 }
 
-fn compare(seed: u64, count: u64, command: &[String]) -> io::Result<(u64, u64)> {
-    let mut child = Command::new(&command[0])
-        .args(&command[1..])
-        .stdin(Stdio::piped())
-        .stdout(Stdio::piped())
-        .spawn()?;
-    let to = child.stdin.take().expect("a pipe");
-    let mut from = BufReader::new(child.stdout.take().expect("a pipe"));
-    let sender = std::thread::Builder::new()
-        .stack_size(256 << 20)
-        .spawn(move || send(seed, count, to))?;
+fn report(other: &mut Other, file: &[u8], runs: u32) {
+    let differs = &mut |script: &Script| !agrees(other, &write(script), runs);
+    let (file, text) = match read(file) {
+        Ok(script) => {
+            let small = shrink(&script, differs);
+            let plain = renamed(&small);
+            let small = if differs(&plain) { plain } else { small };
+            (write(&small), print(&small))
+        }
+        Err(row) => (file.to_vec(), format!("a file of row {row}")),
+    };
+    println!("{text}\n{} {runs}", to_hex(&file));
+    println!("the original:\n{}", answer(&file, runs));
+    println!("the other:\n{}", other.answer(&file, runs));
+}
+
+fn compare(seed: u64, count: u64, other: &mut Other) -> (u64, u64) {
     let mut rng = Rng::new(seed);
     let (mut passed, mut failed) = (0, 0);
-    for _ in 0..count {
+    while passed + failed < count && failed < ENOUGH {
         let (file, runs) = next_file(&mut rng);
-        let found = receive(&mut from)?;
-        *if agrees(&file, runs, &found) {
-            &mut passed
+        if agrees(other, &file, runs) {
+            passed += 1;
         } else {
-            &mut failed
-        } += 1;
-        if failed == 10 {
-            break;
+            failed += 1;
+            report(other, &file, runs);
         }
     }
-    drop(from);
-    let _ = sender.join();
-    child.wait()?;
-    Ok((passed, failed))
+    (passed, failed)
 }
 
 fn main() {
@@ -109,14 +82,12 @@ fn main() {
         eprintln!("usage: compare SEED COUNT COMMAND ARGUMENT..");
         std::process::exit(2);
     };
-    match on_deep_stack(|| compare(seed, count, &given[2..])) {
-        Ok((passed, failed)) => {
-            println!("{passed} passed, {failed} failed");
-            std::process::exit(i32::from(failed > 0));
-        }
-        Err(error) => {
-            eprintln!("compare: {error}");
-            std::process::exit(1);
-        }
-    }
+    let mut other = Other::start(&given[2..]).unwrap_or_else(|error| {
+        eprintln!("compare: {error}");
+        std::process::exit(1)
+    });
+    let (passed, failed) = on_deep_stack(|| compare(seed, count, &mut other));
+    println!("{passed} passed, {failed} failed");
+    drop(other);
+    std::process::exit(i32::from(failed > 0));
 }

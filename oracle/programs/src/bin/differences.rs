@@ -26,7 +26,7 @@ fn search(engine: &mut Engine, seed: u64, count: u64, throwing: bool) {
         }
         differ += 1;
         let small = shrink::shrink(&script, &mut |candidate| {
-            engine.judge(candidate).differs(throwing)
+            shrink::is_text(candidate) && engine.judge(candidate).differs(throwing)
         });
         let small = shrink::renamed(&small);
         let verdict = engine.judge(&small);

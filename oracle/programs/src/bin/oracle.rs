@@ -2,7 +2,7 @@
 //!
 //! Options: `--runs N` (16), `--words N` (16384), `--room N` (no limit), and `--batch`: lines of
 //! hex digits on standard input, each answered in turn with a blank line after it; a number after
-//! the digits is that file's run limit.
+//! the digits is that file's run limit. Each answer comes at once.
 
 use original::{entry, WORDS};
 use programs::on_deep_stack;
@@ -52,6 +52,8 @@ fn run(options: &Options) -> io::Result<()> {
             Some(file) => writeln!(out, "{}", answer(&file, runs))?,
             None => writeln!(out, "not hex\n")?,
         }
+        // Whoever asks may wait for this answer before asking on.
+        out.flush()?;
     }
     Ok(())
 }
