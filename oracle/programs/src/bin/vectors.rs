@@ -25,7 +25,7 @@ struct Plan {
 }
 
 const SAMPLE: Plan = Plan {
-    random: 420,
+    random: 390,
     high: 75,
     large: 8,
     damaged: 110,
