@@ -37,7 +37,6 @@ record Split (xs : List Core) (n i : ℕ) : Type 0 where
   size : lengthF ts ≡ n
 
 split : (xs : List Core) (n i : ℕ) → Whole xs → Room xs n i → Split xs n i
-unfolding Room
 split xs n i w r = record {
   pre = rev (take i xs) [];
   ts = takeF n (plant (drop i xs));
@@ -45,8 +44,8 @@ split xs n i w r = record {
   is = sym (onto-rev (take i xs) [] (flats (takeF n (plant (drop i xs))) (flats (dropF n (plant (drop i xs))) []))
       ∙ ap (λ (ys : List Core). take i xs ++ ys) (flats-take-drop n (plant (drop i xs)) [] ∙ unplant (drop i xs) (whole-drop i xs w))
       ∙ take-append-drop i xs);
-  far = length-rev (take i xs) [] ∙ omega (arith, length-take-le i xs (r .0));
-  size = length-takeF n (plant (drop i xs)) (r .1);
+  far = length-rev (take i xs) [] ∙ omega (arith, length-take-le i xs (r .low));
+  size = length-takeF n (plant (drop i xs)) (r .trees);
 }
 
 module _ {S : Type 0} where

@@ -7,8 +7,9 @@ use Rattle.tree.specs.Tree.{Core, lengthF, count, counts, plant}
 use Rattle.tree.specs.Combine.{Flat, treeAt, forestAt}
 
 -- n trees begin at i
-unfoldable pub Room : List Core → ℕ → ℕ → Type 0
-Room xs n i = (i ≤ length xs) × (n ≤ lengthF (plant (drop i xs)))
+pub record Room (xs : List Core) (n i : ℕ) : Type 0 where
+  pub low : i ≤ length xs
+  pub trees : n ≤ lengthF (plant (drop i xs))
 
 -- the nodes before i are as they were, and those from j on are those that stood behind the n trees from i on
 pub record Shape {S : Type 0} (st : Flat S) (n i : ℕ) (st′ : Flat S) (j : ℕ) : Type 0 where

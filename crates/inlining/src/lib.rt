@@ -1,0 +1,2 @@
+// mod.rs: the walks.
+pub mod walk;
