@@ -1,2 +1,0 @@
-// mod.rs: the walks.
-pub mod walk;
