@@ -4,3 +4,4 @@ pub mod Facts
 pub mod Fields
 pub mod Touch
 pub mod Limits
+pub mod Range

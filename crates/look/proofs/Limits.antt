@@ -152,7 +152,7 @@ becomes-then f a b = record {
   rest = b .rest ∙ a .rest;
 }
 
-still : {w w′ : List ℕ} {st : Stack} → Becomes w w′ st → Still w w′
+pub still : {w w′ : List ℕ} {st : Stack} → Becomes w w′ st → Still w w′
 still b = record { good = b .good; tree = b .tree; others = b .others; rest = b .rest }
 
 pub stepped : {w w′ : List ℕ} {st : Stack} (r : Step) → Becomes w w′ st → Ruled (stack w′) r → Stepped w w′ st r

@@ -1,15 +1,18 @@
 // Reads and writes of identifiers, with row 9.
 ghost use mathlib.Core.Path.{_≡_};
 ghost use mathlib.Core.Bool.{Bool, not, _||_};
-ghost use Prim.Native.Nat.{_≤_};
+ghost use mathlib.Core.Logic.{_⊎_};
+ghost use Prim.Native.Nat.{_-_, _≤_, _<_};
+ghost use lib.Dec.{eqb};
 ghost use lib.ListN.{getD};
 ghost use Rattle.tree.specs.Base.{pick};
 ghost use Rattle.definition.specs.Scope.{isSome, findBinding, change, readOnce, addUnresolved, preventInline, preventInlineOfParams, addRead, addWrite};
-ghost use Rattle.words.specs.Layout.{yes};
+ghost use Rattle.words.specs.Layout.{yes, nodeOf, tree};
 ghost use Rattle.scopes.specs.State.{Good, Becomes, stack, coff};
-ghost use Rattle.look.specs.Answers.{past, Ruled, Stepped, writeBound, writeFree, writeTo};
+ghost use Rattle.look.specs.Answers.{past, Ruled, Stepped, writeBound, writeFree, writeTo, namesAt, Wrote, WroteOne};
 use super::Step;
 use super::has_constant;
+use super::ident_at;
 use super::mark::add_unresolved;
 use super::mark::prevent_inline_of_params;
 use super::mark::read_once;
@@ -21,6 +24,8 @@ use scopes::find_binding;
 use scopes::offset;
 use scopes::prevent_inline;
 use scopes::push;
+use words::form_at;
+use words::kind_at;
 
 // How many nodes the values before constant k have.
 fn const_offset(w: &[u32], k: usize) -> usize
@@ -177,4 +182,49 @@ pub fn add_write(w: &mut [u32], x: u8, args: bool, force: bool) -> Step
     prevent_if(w, x, p);
     params_if(w, args);
     write_to(w, x, force)
+}
+
+// Node i, a binding or an identifier, is written.
+fn write_name(w: &mut [u32], i: usize, force: bool) -> Step
+    requires { ⌜ (Good (now w)) × (i < getD (now w) 0 0) × ((nodeOf (now w) i .kind ≡ 20) ⊎ (nodeOf (now w) i .kind ≡ 21)) ⌝ }
+    ensures { λ r. ⌜ Stepped (now (w .entry)) (now (w .exit)) (addWrite (nodeOf (now (w .entry)) i .num) (eqb (nodeOf (now (w .entry)) i .form) 1) force (stack (now (w .entry)))) r ⌝ }
+{
+    let x = ident_at(w, i);
+    let f = form_at(w, i);
+    add_write(w, x, f == 1, force)
+}
+
+// Node i is written if it is one.
+fn write_node(w: &mut [u32], i: usize, force: bool) -> Step
+    requires { ⌜ (Good (now w)) × (i < getD (now w) 0 0) ⌝ }
+    ensures { λ r. ⌜ WroteOne (now (w .entry)) (now (w .exit)) force i r ⌝ }
+{
+    let k = kind_at(w, i);
+    if k == 20 {
+        return write_name(w, i, force);
+    }
+    if k == 21 {
+        return write_name(w, i, force);
+    }
+    Step::Done
+}
+
+// IdentListVisitor (forced) and WriteVisitor (not): the names among the nodes from `from` up to `to` are written, in order.
+pub fn write_range(w: &mut [u32], from: usize, to: usize, force: bool) -> Step
+    requires { ⌜ (Good (now w)) × (to ≤ getD (now w) 0 0) ⌝ }
+    ensures { λ r. ⌜ Wrote (now (w .entry)) (now (w .exit)) force (namesAt (tree (now (w .entry))) from (to - from)) r ⌝ }
+{
+    let mut j = from;
+    while j < to {
+        let s = write_node(w, j, force);
+        match s {
+            Step::Refused(n) => {
+                return Step::Refused(n);
+            }
+            Step::Done => {
+                j += 1;
+            }
+        }
+    }
+    Step::Done
 }
