@@ -260,7 +260,7 @@ module _ (w : List ℕ) (g : Good w) (k : ℕ) (h : k < getD w 2 0) where
   apart : (i j : ℕ) → i ≤ j → j ≤ getD w 2 0 → first w i ≤ first w j
   apart i j l m = let e : i + (j - i) ≡ j = omega arith in rw e at (apart-from (j - i) i (omega arith))
 
-  size-is : length (scopeAt w k .bindings) ≡ first w (suc k) - first w k
+  pub size-is : length (scopeAt w k .bindings) ≡ first w (suc k) - first w k
   unfolding scopeAt
   size-is = length-drop (getD w (7184 + k * 4 + 1) 0) (tab (first w (suc k)) (λ j. bindAt w j)) ∙ rw (length-tab (first w (suc k)) (λ j. bindAt w j), out.first-in w k h) refl
 

@@ -4,7 +4,7 @@ use mathlib.Core.Option.{Option, none, some}
 use mathlib.Core.Path.{_≡_}
 use mathlib.Core.Bool.{Bool, true, false, _||_}
 use Prim.Native.Nat.{ℕ, zero, suc, _+_, _*_, _-_, _≤_, _<_}
-use lib.ListN.{getD, drop}
+use lib.ListN.{length, getD, drop}
 use lib.Dec.{ltb}
 use Rattle.tree.specs.Base.{pick}
 use Rattle.tree.specs.Tree.{Tree, kind, plant, firstT}
@@ -86,3 +86,8 @@ abbrev pub paramsFrom : ℕ → List VarInfo → List VarInfo
 paramsFrom zero bs = map preventParam bs
 paramsFrom (suc n) [] = []
 paramsFrom (suc n) (b ∷ bs) = b ∷ paramsFrom n bs
+
+-- how many bindings the current scope has
+abbrev pub boundHere : Stack → ℕ
+boundHere [] = 0
+boundHere (s ∷ st) = length (s .bindings)
