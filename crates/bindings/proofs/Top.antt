@@ -41,7 +41,7 @@ module _ (w : List ℕ) (g : Good w) (z : 0 < getD w 2 0) where
   abbrev a : ℕ
   a = getD w (7184 + d * 4 + 1) 0
 
-  heads-top : heads w ≡ headAt w d ∷ headsAt w d
+  pub heads-top : heads w ≡ headAt w d ∷ headsAt w d
   unfolding heads
   heads-top = some-head w (getD w 2 0) z
 

@@ -4,16 +4,56 @@ ghost use Prim.Native.Nat.{ℕ, _+_, _*_, _-_, _≤_, _<_};
 ghost use mathlib.Core.Bool.{Bool, _||_};
 ghost use mathlib.Core.List.{[], _∷_};
 ghost use lib.ListN.{getD, length, set};
-ghost use Rattle.definition.specs.Scope.{close};
-ghost use Rattle.words.specs.Layout.{yes, Agree};
-ghost use Rattle.scopes.specs.State.{Good, Becomes, stack, binds, consts, bindAt};
-ghost use Rattle.records.specs.Steps.{Listed, refill};
+ghost use Rattle.definition.specs.Scope.{close, change, defined, withValue, redeclare, fresh, append};
+ghost use Rattle.words.specs.Layout.{yes, Agree, run};
+ghost use Rattle.scopes.specs.State.{Good, Becomes, stack, binds, consts, bindAt, valueOf, runOf, varTypeOf, aliasAt};
+ghost use Rattle.records.specs.Steps.{Listed, refill, Grown, putAt};
 ghost use Rattle.bindings.specs.Hoist.{Own, recordAt, hoistOne, hoistUp};
+use records::Step;
 use records::first_at;
+use records::passes;
+use records::record_value;
 use records::set_run;
 use scopes::append_record;
 use scopes::drop_scope;
+use scopes::find_binding;
 use words::put5;
+
+pub enum ScopeKind {
+    // If / Switch
+    Cond,
+    Loop,
+    Block,
+    Fn { named: bool },
+}
+
+impl ScopeKind {
+    pub const DEFAULT: ScopeKind = ScopeKind::Fn { named: false };
+}
+
+pub enum VarDeclKind {
+    Var,
+    Let,
+    Const,
+}
+
+pub enum VarType {
+    Param,
+    Declared(VarDeclKind),
+}
+
+// The type of the binding that a value names, if it names one.
+pub enum Alias {
+    NoAlias,
+    AliasOf(VarType),
+}
+
+// What a declaration starts with: nothing, a value that is recorded, or one that is only seen.
+pub enum Init {
+    NoInit,
+    Recorded,
+    Seen,
+}
 
 // A mark that stands if one of two does.
 fn either(a: u32, b: u32) -> u32
@@ -126,4 +166,95 @@ pub fn close(w: &mut [u32])
     if kind < 3 {
         hoist_all(w, a, e);
     }
+}
+
+// The innermost binding of x, if there is one, is no longer undefined.
+pub fn define(w: &mut [u32], x: u8)
+    requires { ⌜ Good (now w) ⌝ }
+    ensures { λ _. ⌜ Becomes (now (w .entry)) (now (w .exit)) (change x defined (stack (now (w .entry)))) ⌝ }
+{
+    let k1 = find_binding(w, x);
+    if k1 == 0 {
+        return;
+    }
+    let k = k1 - 1;
+    let p = 4112 + k * 10;
+    let kind = w[p + 1];
+    let alias = w[p + 2];
+    let reads = w[p + 3];
+    let prevented = w[p + 4];
+    let sensitive = w[p + 6];
+    let hoisted = w[p + 7];
+    rewrite(w, k, kind, alias, reads, prevented, 0, sensitive, hoisted);
+}
+
+// The innermost binding of x gets its first value: the m nodes of the tree from node i on.
+pub fn first_value(w: &mut [u32], x: u8, i: usize, m: usize) -> Step
+    requires { ⌜ (Good (now w)) × (i + m ≤ getD (now w) 0 0) × (runOf (valueOf (run (now w) 16 i m)) ≡ run (now w) 16 i m) ⌝ }
+    ensures { λ r. ⌜ Grown (now (w .entry)) (now (w .exit)) (change x (λ c. defined (withValue (valueOf (run (now (w .entry)) 16 i m)) c)) (stack (now (w .entry)))) r ⌝ }
+{
+    define(w, x);
+    record_value(w, x, i, m)
+}
+
+// Binding k is declared again, with its value as it is.
+fn remark(w: &mut [u32], k: usize, prevented: u32, undef: u32)
+    requires { ⌜ (Good (now w)) × (k < getD (now w) 1 0) ⌝ }
+    ensures { λ _. ⌜ Listed (now (w .entry)) (now (w .exit)) (set (binds (now (w .entry))) k (redeclare (yes prevented) (yes undef) (bindAt (now (w .entry)) k .value) (bindAt (now (w .entry)) k))) (consts (now (w .entry))) ⌝ }
+{
+    let p = 4112 + k * 10;
+    let kind = w[p + 1];
+    let alias = w[p + 2];
+    let sensitive = w[p + 6];
+    let hoisted = w[p + 7];
+    rewrite(w, k, kind, alias, 0, prevented, undef, sensitive, hoisted);
+}
+
+// Binding k is declared again, with the m nodes of the tree from node i on as its value, none if m is 0.
+fn redeclare_as(w: &mut [u32], k: usize, i: usize, m: usize, prevented: u32, undef: u32) -> Step
+    requires { ⌜ (Good (now w)) × (k < getD (now w) 1 0) × (i + m ≤ getD (now w) 0 0) × (runOf (valueOf (run (now w) 16 i m)) ≡ run (now w) 16 i m) ⌝ }
+    ensures { λ r. ⌜ Grown (now (w .entry)) (now (w .exit)) (putAt (now (w .entry)) k (redeclare (yes prevented) (yes undef) (valueOf (run (now (w .entry)) 16 i m)) (bindAt (now (w .entry)) k))) r ⌝ }
+{
+    let old = w[4112 + k * 10 + 8] as usize;
+    if passes(w, old, m, 0) {
+        return Step::Refused(9);
+    }
+    set_run(w, k, i, m);
+    remark(w, k, prevented, undef);
+    Step::Done
+}
+
+// Binding k is declared again, and keeps its value.
+fn redeclare_seen(w: &mut [u32], k: usize, prevented: u32, undef: u32) -> Step
+    requires { ⌜ (Good (now w)) × (k < getD (now w) 1 0) ⌝ }
+    ensures { λ r. ⌜ Grown (now (w .entry)) (now (w .exit)) (putAt (now (w .entry)) k (redeclare (yes prevented) (yes undef) (bindAt (now (w .entry)) k .value) (bindAt (now (w .entry)) k))) r ⌝ }
+{
+    if passes(w, 0, 0, 0) {
+        return Step::Refused(9);
+    }
+    remark(w, k, prevented, undef);
+    Step::Done
+}
+
+// A binding of x is appended to the innermost scope, with the m nodes of the tree from node i on as its value, none if m is 0.
+fn declare_new(
+    w: &mut [u32],
+    x: u8,
+    i: usize,
+    m: usize,
+    prevented: u32,
+    undef: u32,
+    kind: u32,
+    alias: u32,
+) -> Step
+    requires { ⌜ (Good (now w)) × (0 < getD (now w) 2 0) × (i + m ≤ getD (now w) 0 0) × (runOf (valueOf (run (now w) 16 i m)) ≡ run (now w) 16 i m) ⌝ }
+    ensures { λ r. ⌜ Grown (now (w .entry)) (now (w .exit)) (append (fresh x (varTypeOf kind) (aliasAt alias) (yes prevented) (yes undef) (valueOf (run (now (w .entry)) 16 i m))) (stack (now (w .entry)))) r ⌝ }
+{
+    if passes(w, 0, m, 1) {
+        return Step::Refused(9);
+    }
+    let n = w[1] as usize;
+    append_record(w, x, kind, alias, 0, prevented, undef, 0, 0);
+    set_run(w, n, i, m);
+    Step::Done
 }
