@@ -1,7 +1,7 @@
 -- A binding declared: in place, or appended; and what row 9 counts of it. Assumes nothing.
 use mathlib.Core.Path.{_≡_, refl, sym, ap, _∙_}
 use mathlib.Core.List.{List, [], _∷_, _++_, map}
-use mathlib.Core.Bool.{Bool, true, false, _||_}
+use mathlib.Core.Bool.{Bool, true, false, _||_, _&&_, not}
 use mathlib.Core.Option.{Option, none, some}
 use Prim.Native.Nat.{ℕ, zero, suc, _+_, _-_, _*_, _≤_, _<_}
 use native.Mathlib.Omega.{arith}
@@ -9,18 +9,22 @@ use lib.ListN.{length, getD, set, take, drop, length-set, length-drop, length-ap
 use lib.Dec.{eqb, ltb}
 use lib.Seq.{getD-drop, getD-at, set-at, drop-set-add, take-set-le}
 use Rattle.tree.specs.Base.{pick}
-use Rattle.tree.specs.Tree.{Tree}
+use Rattle.tree.specs.Tree.{Tree, Core}
 use Rattle.definition.specs.Tree.{countO}
-use Rattle.definition.specs.Scope.{VarInfo, Scope, Stack, VarType, findIn, hasIn, isSome, changeIn, change, onBindings, append, fresh, redeclare, withValue, valueO, valuesIn, recordedNodes, live, prevent, preventOne, preventInline, findBindingFromCurrent, valueIs}
+use Rattle.definition.specs.Scope.{VarInfo, Scope, Stack, VarType, findIn, hasIn, isSome, changeIn, change, onBindings, append, fresh, redeclare, withValue, valueO, valuesIn, recordedNodes, live, prevent, preventOne, preventInline, preventInlineO, findBindingFromCurrent, valueIs, declare, kept, initOf, identOf, preventedO, shouldPreventInlineBecauseOfScope, aliasFrom, idxValO, idxVal, placeOr, inLoop, isParam, paramO, barred}
+use Rattle.definition.specs.Scope as def
 use Rattle.words.specs.Tab.{sum-part}
 use Rattle.words.specs.Layout.{run}
 use Rattle.scopes.specs.State.{Good, Becomes, split, headAt, headsAt, heads, flags, binds, consts, stack, bindAt, lenAt, off, valueOf, runOf, place}
 use Rattle.scopes.proofs.Split as laws
 use Rattle.records.specs.Steps.{over, putAt}
 use Rattle.records.proofs.Count.{depth-is, nodesB, total, total-append, length-binds, recorded-is, live-is, values-in, nodes-bind}
-use Rattle.records.proofs.Listed.{bind-there, over-put, change-at}
+use Rattle.records.proofs.Listed.{bind-there, over-put, change-at, becomes-then}
 use Rattle.bindings.specs.Hoist.{Own}
 use Rattle.bindings.specs.Declare.{putDeclared, declareWith}
+use Rattle.bindings.specs.Kinds.{initAt, isSeen, Sized}
+use Rattle.bindings.specs.declared.Init.{Init}
+use Rattle.bindings.specs.declared.Init.the-variants.{NoInit, Recorded, Seen}
 use Rattle.bindings.proofs.Top.{topScope, under, stack-top, top-fits, heads-top}
 
 -- two changes of one binding
@@ -174,3 +178,63 @@ over-kept w g k h c e =
     let p = sum-part (λ j. lenAt w j) k (getD w 1 0) h in
     let q : recordedNodes (stack w) - lenAt w k + lenAt w k ≡ recordedNodes (stack w) - 0 + 0 = omega (arith, recorded-is w g) in
     over-re w g k (lenAt w k) h c (ap countO e ∙ nodes-bind w g k h) ∙ ap (λ (m : ℕ). ltb 512 m || ltb 256 (live (stack w) + 0)) q
+
+-- the value after a declaration, by the run of its nodes
+kept-at : (v : Init) (xs : List Core) → Sized v (length xs) → (old : Option Tree) → kept (initAt v xs) old ≡ pick (isSeen v) old (valueOf xs)
+kept-at NoInit [] h old = refl
+kept-at NoInit (x ∷ xs) h old = absurd (omega arith)
+kept-at Recorded [] h old = absurd (omega arith)
+kept-at Recorded (x ∷ xs) h old = refl
+kept-at Seen xs h old = refl
+
+pub kept-is : (v : Init) (xs : List Core) → Sized v (length xs) → _≡_ {A = Option Tree → Option Tree} (kept (initAt v xs)) (λ old. pick (isSeen v) old (valueOf xs))
+kept-is v xs h = λ t old. kept-at v xs h old t
+
+-- `declare` is this, with its look-ups
+pub declare-is : (i : ℕ) (v : def.Init) (undefined : Bool) (k : VarType) (s : Scope) (st : Stack)
+    → declare i v undefined k (s ∷ st) ≡ declareWith i (kept v) (identOf (initOf v)) (shouldPreventInlineBecauseOfScope i (s ∷ st) || preventedO (initOf v) (s ∷ st)) undefined k (aliasFrom (idxValO (identOf (initOf v)) (s .bindings))) (inLoop (s ∷ st))
+    ((not (isParam k) && not (paramO (aliasFrom (idxValO (identOf (initOf v)) (s .bindings))))) && barred (idxValO (identOf (initOf v)) (s .bindings)) (placeOr (length (s .bindings)) (idxVal 0 i (s .bindings))) (s .inlineBarriers)) (s ∷ st)
+unfolding declare
+declare-is i v undefined k s st = refl
+
+-- marks after the first half
+pub marks-after : (i : ℕ) (e : Option ℕ) (x : ℕ) (looped barred : Bool) (st₁ : Stack) → e ≡ some x
+    → pick barred (preventInlineO e (preventInline i (pick looped (preventInline i st₁) st₁))) (pick looped (preventInline i st₁) st₁)
+    ≡ (let st₂ = pick looped (preventInline i st₁) st₁ in let st₃ = pick barred (preventInline i st₂) st₂ in pick barred (preventInline x st₃) st₃)
+marks-after i e x looped true st₁ h = rw h refl
+marks-after i e x looped false st₁ h = refl
+
+pub over-pick : (t : Bool) (i : ℕ) (st : Stack) → over (pick t (preventInline i st) st) ≡ over st
+over-pick true i st = over-marked i st
+over-pick false i st = refl
+
+-- the first half of `declare` in the words
+module _ (w : List ℕ) (x r : ℕ) (o : Own w x r) (seen : Bool) (v : Option Tree) (p u : Bool) (k : VarType) (al : Option VarType) where
+  pub put-there-is : r < getD w 1 0 → putDeclared x (λ old. pick seen old v) p u k al (stack w) ≡ putAt w r (redeclare p u (pick seen (bindAt w r .value) v) (bindAt w r))
+  put-there-is h =
+      declared-there x (λ old. pick seen old v) p u k al (stack w) (o .there h .1)
+      ∙ change-at w r h x (redeclare p u (pick seen (valueO (findBindingFromCurrent x (stack w))) v)) (o .there h .0)
+      ∙ ap (λ (old : Option VarInfo). putAt w r (redeclare p u (pick seen (valueO old) v) (bindAt w r))) (o .found h)
+
+  pub put-absent-is : getD w 1 0 ≤ r → putDeclared x (λ old. pick seen old v) p u k al (stack w) ≡ append (fresh x k al p u (pick seen none v)) (stack w)
+  put-absent-is h = declared-absent x (λ old. pick seen old v) p u k al (stack w) (o .absent h)
+
+pub same-declared : (x : ℕ) {f f′ : Option Tree → Option Tree} {p p′ u u′ : Bool} {k k′ : VarType} {al al′ : Option VarType} (st : Stack) → f ≡ f′ → p ≡ p′ → u ≡ u′ → k ≡ k′ → al ≡ al′ → putDeclared x f p u k al st ≡ putDeclared x f′ p′ u′ k′ al′ st
+same-declared x st a b c d e = rw (a, b, c, d, e) refl
+
+over-barred : (t : Bool) (e : Option ℕ) (i : ℕ) (st : Stack) → over (pick t (preventInlineO e (preventInline i st)) st) ≡ over st
+over-barred true none i st = over-marked i st
+over-barred true (some x) i st = over-marked x (preventInline i st) ∙ over-marked i st
+over-barred false e i st = refl
+
+-- no mark is counted
+pub over-with : (i : ℕ) (f : Option Tree → Option Tree) (e : Option ℕ) (p u : Bool) (k : VarType) (al : Option VarType) (looped barred : Bool) (st : Stack) → over (declareWith i f e p u k al looped barred st) ≡ over (putDeclared i f p u k al st)
+over-with i f e p u k al looped barred st = over-barred barred e i (pick looped (preventInline i (putDeclared i f p u k al st)) (putDeclared i f p u k al st)) ∙ over-pick looped i (putDeclared i f p u k al st)
+
+-- three marks after the first half
+module _ {w u₀ u₁ u₂ u₃ : List ℕ} (x t : ℕ) (looped barred : Bool) (st : Stack) (a : Becomes w u₀ st)
+    (b : Becomes u₀ u₁ (pick looped (preventInline x (stack u₀)) (stack u₀))) (c : Becomes u₁ u₂ (pick barred (preventInline x (stack u₁)) (stack u₁))) (d : Becomes u₂ u₃ (pick barred (preventInline t (stack u₂)) (stack u₂))) where
+  pub three-marks : Becomes w u₃ (pick barred (preventInlineO (some t) (preventInline x (pick looped (preventInline x st) st))) (pick looped (preventInline x st) st))
+  three-marks =
+      let s : pick barred (preventInline t (stack u₂)) (stack u₂) ≡ pick barred (preventInlineO (some t) (preventInline x (pick looped (preventInline x st) st))) (pick looped (preventInline x st) st) = rw (c .is, b .is, a .is) (sym (marks-after x (some t) t looped barred st refl)) in
+      becomes-then (becomes-then (becomes-then a b) c) (rw s at d)

@@ -2,6 +2,8 @@
 use mathlib.Core.Bool.{Bool, true, false}
 use mathlib.Core.Option.{Option, none, some}
 use mathlib.Core.List.{List}
+use mathlib.Core.Path.{_≡_}
+use Prim.Native.Nat.{ℕ, _<_}
 use Rattle.tree.specs.Tree.{Core, firstT, plant}
 use Rattle.definition.specs.Scope as def
 use Rattle.bindings.specs.declared.ScopeKind.{ScopeKind}
@@ -45,3 +47,9 @@ abbrev pub isSeen : Init → Bool
 isSeen NoInit = false
 isSeen Recorded = false
 isSeen Seen = true
+
+-- an init has nodes, and no init has none
+abbrev pub Sized : Init → ℕ → Type 0
+Sized NoInit m = m ≡ 0
+Sized Recorded m = 0 < m
+Sized Seen m = 0 < m
