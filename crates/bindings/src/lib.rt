@@ -38,6 +38,19 @@ impl ScopeKind {
     pub const DEFAULT: ScopeKind = ScopeKind::Fn { named: false };
 }
 
+// A scope that has no records yet.
+pub struct Scope {
+    pub kind: ScopeKind,
+}
+
+impl Scope {
+    pub fn new(kind: ScopeKind) -> Scope
+        ensures { λ r. ⌜ r .kind ≡ kind ⌝ }
+    {
+        Scope { kind }
+    }
+}
+
 pub enum VarDeclKind {
     Var,
     Let,
@@ -318,13 +331,14 @@ fn is_seen(v: Init) -> bool
 }
 
 // Opens a scope.
-pub fn open_scope(w: &mut [u32], kind: ScopeKind) -> Step
+pub fn open_scope(w: &mut [u32], scope: Scope) -> Step
     requires { ⌜ Good (now w) ⌝ }
-    ensures { λ r. ⌜ Limited 8 (leb 32 (length (stack (now (w .entry))))) (now (w .entry)) (now (w .exit)) (newScope (kindOf kind) ∷ stack (now (w .entry))) r ⌝ }
+    ensures { λ r. ⌜ Limited 8 (leb 32 (length (stack (now (w .entry))))) (now (w .entry)) (now (w .exit)) (newScope (kindOf (scope .kind)) ∷ stack (now (w .entry))) r ⌝ }
 {
     if 32 <= w[2] {
         return Step::Refused(8);
     }
+    let kind = scope.kind;
     let k = scope_code(kind);
     open(w, k);
     Step::Done
