@@ -3,9 +3,9 @@ use mathlib.Core.Path.{_≡_, refl, sym, ap, _∙_}
 use mathlib.Core.List.{List, [], _∷_, _++_, map}
 use mathlib.Core.Bool.{Bool, true, false, _||_, _&&_, not}
 use mathlib.Core.Option.{Option, none, some}
-use Prim.Native.Nat.{ℕ, zero, suc, _+_, _-_, _*_, _≤_, _<_}
+use Prim.Native.Nat.{ℕ, suc, _+_, _-_, _*_, _≤_, _<_}
 use native.Mathlib.Omega.{arith}
-use lib.ListN.{length, getD, set, take, drop, length-set, length-drop, length-append}
+use lib.ListN.{length, getD, set, drop, length-drop, length-append}
 use lib.Dec.{eqb, ltb}
 use lib.Seq.{getD-drop, getD-at, set-at, drop-set-add, take-set-le}
 use Rattle.tree.specs.Base.{pick}
@@ -14,18 +14,17 @@ use Rattle.definition.specs.Tree.{countO}
 use Rattle.definition.specs.Scope.{VarInfo, Scope, Stack, VarType, findIn, hasIn, isSome, changeIn, change, onBindings, append, fresh, redeclare, withValue, valueO, valuesIn, recordedNodes, live, prevent, preventOne, preventInline, preventInlineO, findBindingFromCurrent, valueIs, declare, kept, initOf, identOf, preventedO, shouldPreventInlineBecauseOfScope, aliasFrom, idxValO, idxVal, placeOr, inLoop, isParam, paramO, barred}
 use Rattle.definition.specs.Scope as def
 use Rattle.words.specs.Tab.{sum-part}
-use Rattle.words.specs.Layout.{run}
-use Rattle.scopes.specs.State.{Good, Becomes, split, headAt, headsAt, heads, flags, binds, consts, stack, bindAt, lenAt, off, valueOf, runOf, place}
+use Rattle.scopes.specs.State.{Good, Becomes, binds, stack, bindAt, lenAt, off, valueOf}
 use Rattle.scopes.proofs.Split as laws
 use Rattle.records.specs.Steps.{over, putAt}
-use Rattle.records.proofs.Count.{depth-is, nodesB, total, total-append, length-binds, recorded-is, live-is, values-in, nodes-bind}
+use Rattle.records.proofs.Count.{depth-is, nodesB, total-append, length-binds, recorded-is, values-in, nodes-bind}
 use Rattle.records.proofs.Listed.{bind-there, over-put, change-at, becomes-then}
 use Rattle.bindings.specs.Hoist.{Own}
 use Rattle.bindings.specs.Declare.{putDeclared, declareWith}
 use Rattle.bindings.specs.Kinds.{initAt, isSeen, Sized}
 use Rattle.bindings.specs.declared.Init.{Init}
 use Rattle.bindings.specs.declared.Init.the-variants.{NoInit, Recorded, Seen}
-use Rattle.bindings.proofs.Top.{topScope, under, stack-top, top-fits, heads-top}
+use Rattle.bindings.proofs.Top.{stack-top, heads-top}
 
 -- two changes of one binding
 module _ (x : ℕ) (f g : VarInfo → VarInfo) (same : (b : VarInfo) → f b .id ≡ b .id) where

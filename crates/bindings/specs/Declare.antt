@@ -1,13 +1,11 @@
 -- `declare` of the definition, with what it looks up given. Assumes nothing: these are definitions.
-use mathlib.Core.Path.{_≡_}
-use mathlib.Core.List.{List, [], _∷_, _++_}
-use mathlib.Core.Bool.{Bool, true, false, _||_, _&&_, not}
-use mathlib.Core.Option.{Option, none, some}
+use mathlib.Core.List.{[], _∷_, _++_}
+use mathlib.Core.Bool.{Bool}
+use mathlib.Core.Option.{Option, none}
 use Prim.Native.Nat.{ℕ}
-use lib.ListN.{length}
 use Rattle.tree.specs.Base.{pick}
 use Rattle.tree.specs.Tree.{Tree}
-use Rattle.definition.specs.Scope.{VarInfo, Scope, Stack, VarType, findIn, isSome, changeIn, redeclare, fresh, valueO, onBindings, preventInline, preventInlineO}
+use Rattle.definition.specs.Scope.{Stack, VarType, findIn, isSome, changeIn, redeclare, fresh, valueO, onBindings, preventInline, preventInlineO}
 
 -- its first half: v gives the value from the one before
 abbrev pub putDeclared : ℕ → (Option Tree → Option Tree) → Bool → Bool → VarType → Option VarType → Stack → Stack

@@ -4,7 +4,7 @@ use mathlib.Core.List.{List, [], _∷_}
 use mathlib.Core.Bool.{Bool, true, false, _||_}
 use mathlib.Core.Option.{Option}
 use mathlib.Core.Logic.{_⊎_, inl, inr, ⊎-elim}
-use Prim.Native.Nat.{ℕ, zero, suc, _+_, _-_, _*_, _≤_, _<_}
+use Prim.Native.Nat.{ℕ, suc, _+_, _-_, _*_, _≤_, _<_}
 use native.Mathlib.Omega.{arith}
 use lib.ListN.{length, getD, set, length-set}
 use lib.Dec.{ltb}
@@ -19,7 +19,7 @@ use Rattle.scopes.specs.State.{Good, Others, Becomes, split, heads, flags, bind
 use Rattle.scopes.proofs.Split as laws
 use Rattle.scopes.proofs.Words.{Kept, kept-heads, kept-flags, kept-consts, kept-tree, kept-good, bind-eq}
 use Rattle.records.specs.Steps.{Listed, Still, Spliced, over, putAt, Grown}
-use Rattle.records.proofs.Count.{depth-is, count-whole, nodesB, nodesC, total, total-set, recorded-split, live-split, recorded-is, live-is, total-binds, total-consts, length-binds, length-consts, fits-binds, fits-consts, nodes-bind}
+use Rattle.records.proofs.Count.{depth-is, count-whole, nodesB, total-set, recorded-split, live-split, recorded-is, live-is, total-binds, total-consts, length-binds, length-consts, fits-binds, fits-consts, nodes-bind}
 use Rattle.records.proofs.Store as store
 use Rattle.records.specs.declared.Step.{Step}
 use Rattle.records.specs.declared.Step.the-variants.{Done, Refused}

@@ -1,8 +1,5 @@
 -- Case by case. Assumes nothing.
-use Prim.Native.Nat.{ℕ, suc, _+_, _*_, _-_, _≤_, _<_}
-use mathlib.Core.Path.{_≡_, refl, sym, ap, _∙_}
-use native.Mathlib.Omega.{arith}
-use lib.ListN.{length, getD, length-set}
+use mathlib.Core.Path.{sym, ap, _∙_}
 use mathlib.Core.Option.{some}
 use native.Mathlib.Numerals.{add-one}
 use Rattle.scopes.specs.State.{aliasAt}
@@ -10,9 +7,6 @@ use Rattle.bindings.specs.Kinds.{aliasOf}
 use borrow.Author.Needs.{needs}
 use Rattle.bindings.proofs.alias_code.Statement.{statement}
 use Rattle.bindings.proofs.alias_code.Tie as tie
-use Rattle.bindings.proofs.alias_code.Reads as reads
-use Rattle.bindings.proofs.alias_code.Lts as lts
-use Rattle.bindings.proofs.type_code.Reads as type-code-reads
 
 enum-told : tie.Need-enum-told
 enum-told c = search needs

@@ -1,8 +1,8 @@
 -- Appended without a value, which is then overwritten. Assumes nothing.
-use Prim.Native.Nat.{ℕ, suc, _+_, _*_, _-_, _≤_, _<_}
+use Prim.Native.Nat.{ℕ, _+_, _-_}
 use mathlib.Core.Path.{_≡_, refl, sym, ap, _∙_}
 use native.Mathlib.Omega.{arith}
-use lib.ListN.{length, getD, length-set}
+use lib.ListN.{getD}
 use mathlib.Core.Option.{Option}
 use mathlib.Core.Bool.{_||_}
 use lib.Dec.{ltb}
@@ -18,11 +18,6 @@ use Rattle.bindings.proofs.Declares as declares
 use borrow.Author.Needs.{needs}
 use Rattle.bindings.proofs.declare_new.Statement.{statement}
 use Rattle.bindings.proofs.declare_new.Tie as tie
-use Rattle.bindings.proofs.declare_new.Reads as reads
-use Rattle.bindings.proofs.declare_new.Lts as lts
-use Rattle.records.proofs.passes.Reads as passes-reads
-use Rattle.records.proofs.set_run.Reads as set-run-reads
-use Rattle.scopes.proofs.append_record.Reads as append-record-reads
 
 passes-requires : tie.Need-passes-requires
 passes-requires c κs = search needs

@@ -9,23 +9,12 @@ use Rattle.words.proofs.Nodes.{run-length}
 use Rattle.scopes.specs.State.{stack, valueOf}
 use Rattle.bindings.specs.Kinds.{typeOf, aliasOf, initAt, Sized}
 use Rattle.bindings.specs.Declare.{putDeclared}
-use Prim.Native.Nat.{ℕ, suc, _+_, _*_, _-_, _≤_, _<_}
-use mathlib.Core.Path.{_≡_, refl, sym, ap, _∙_}
-use native.Mathlib.Omega.{arith}
-use lib.ListN.{length, getD, length-set}
-use Rattle.records.proofs.Listed as listed
+use mathlib.Core.Path.{sym, ap, _∙_}
+use lib.ListN.{length}
 use Rattle.bindings.proofs.Declares as declares
 use borrow.Author.Needs.{needs}
 use Rattle.bindings.proofs.declare_with.Statement.{statement}
 use Rattle.bindings.proofs.declare_with.Tie as tie
-use Rattle.bindings.proofs.declare_with.Reads as reads
-use Rattle.bindings.proofs.declare_with.Lts as lts
-use Rattle.bindings.proofs.alias_code.Reads as alias-code-reads
-use Rattle.bindings.proofs.is_seen.Reads as is-seen-reads
-use Rattle.bindings.proofs.mark.Reads as mark-reads
-use Rattle.bindings.proofs.prevent_if.Reads as prevent-if-reads
-use Rattle.bindings.proofs.put_declared.Reads as put-declared-reads
-use Rattle.bindings.proofs.type_code.Reads as type-code-reads
 
 is-seen-requires : tie.Need-is-seen-requires
 is-seen-requires c κs = search needs

@@ -1,8 +1,8 @@
 -- One word. Assumes nothing.
-use Prim.Native.Nat.{ℕ, suc, _+_, _*_, _-_, _≤_, _<_}
-use mathlib.Core.Path.{_≡_, refl, sym, ap, _∙_}
+use Prim.Native.Nat.{suc, _-_, _<_}
+use mathlib.Core.Path.{_≡_, sym, _∙_}
 use native.Mathlib.Omega.{arith}
-use lib.ListN.{length, getD, length-set}
+use lib.ListN.{getD}
 use native.Mathlib.Nat.{pos-of-ne-zero}
 use Rattle.definition.specs.Scope.{change, defined}
 use Rattle.scopes.specs.State.{place, heads, binds, stack}
@@ -11,10 +11,6 @@ use Rattle.records.proofs.Listed as listed
 use borrow.Author.Needs.{needs}
 use Rattle.bindings.proofs.define.Statement.{statement}
 use Rattle.bindings.proofs.define.Tie as tie
-use Rattle.bindings.proofs.define.Reads as reads
-use Rattle.bindings.proofs.define.Lts as lts
-use Rattle.bindings.proofs.rewrite.Reads as rewrite-reads
-use Rattle.scopes.proofs.find_binding.Reads as find-binding-reads
 
 find-binding-requires : tie.Need-find-binding-requires
 find-binding-requires c κs = search needs

@@ -1,8 +1,6 @@
 -- Defined, and then recorded. Assumes nothing.
-use Prim.Native.Nat.{ℕ, suc, _+_, _*_, _-_, _≤_, _<_}
-use mathlib.Core.Path.{_≡_, refl, sym, ap, _∙_}
+use mathlib.Core.Path.{_≡_, refl}
 use native.Mathlib.Omega.{arith}
-use lib.ListN.{length, getD, length-set}
 use mathlib.Core.Option.{Option}
 use Rattle.tree.specs.Tree.{Tree}
 use Rattle.definition.specs.Scope.{change, defined, withValue}
@@ -13,10 +11,6 @@ use Rattle.bindings.proofs.Declares as declares
 use borrow.Author.Needs.{needs}
 use Rattle.bindings.proofs.first_value.Statement.{statement}
 use Rattle.bindings.proofs.first_value.Tie as tie
-use Rattle.bindings.proofs.first_value.Reads as reads
-use Rattle.bindings.proofs.first_value.Lts as lts
-use Rattle.bindings.proofs.define.Reads as define-reads
-use Rattle.records.proofs.record_value.Reads as record-value-reads
 
 define-requires : tie.Need-define-requires
 define-requires c κs = search needs

@@ -1,8 +1,7 @@
 -- Refused before the words change. Assumes nothing.
-use Prim.Native.Nat.{ℕ, suc, _+_, _*_, _-_, _≤_, _<_}
-use mathlib.Core.Path.{_≡_, refl, sym, ap, _∙_}
+use mathlib.Core.Path.{refl}
 use native.Mathlib.Omega.{arith}
-use lib.ListN.{length, getD, length-set}
+use lib.ListN.{length}
 use borrow.Author.Tests.{le-leb, lt-leb}
 use Rattle.scopes.specs.State.{stack}
 use Rattle.records.proofs.Listed as listed
@@ -10,10 +9,6 @@ use Rattle.records.proofs.Count as count
 use borrow.Author.Needs.{needs}
 use Rattle.bindings.proofs.open_scope.Statement.{statement}
 use Rattle.bindings.proofs.open_scope.Tie as tie
-use Rattle.bindings.proofs.open_scope.Reads as reads
-use Rattle.bindings.proofs.open_scope.Lts as lts
-use Rattle.bindings.proofs.scope_code.Reads as scope-code-reads
-use Rattle.scopes.proofs.open.Reads as open-reads
 
 slice-read-if1 : tie.Need-slice-read-if1
 slice-read-if1 c = search needs

@@ -1,16 +1,10 @@
 -- By the test. Assumes nothing.
-use Prim.Native.Nat.{ℕ, suc, _+_, _*_, _-_, _≤_, _<_}
-use mathlib.Core.Path.{_≡_, refl, sym, ap, _∙_}
-use native.Mathlib.Omega.{arith}
-use lib.ListN.{length, getD, length-set}
+use mathlib.Core.Path.{refl}
 use Rattle.scopes.specs.State.{stack}
 use Rattle.records.proofs.Listed as listed
 use borrow.Author.Needs.{needs}
 use Rattle.bindings.proofs.prevent_if.Statement.{statement}
 use Rattle.bindings.proofs.prevent_if.Tie as tie
-use Rattle.bindings.proofs.prevent_if.Reads as reads
-use Rattle.bindings.proofs.prevent_if.Lts as lts
-use Rattle.scopes.proofs.prevent_inline.Reads as prevent-inline-reads
 
 prevent-inline-requires : tie.Need-prevent-inline-requires
 prevent-inline-requires c κs = search needs

@@ -1,8 +1,6 @@
 -- In place, or appended. Assumes nothing.
-use Prim.Native.Nat.{ℕ, suc, _+_, _*_, _-_, _≤_, _<_}
-use mathlib.Core.Path.{_≡_, refl, sym, ap, _∙_}
+use mathlib.Core.Path.{refl}
 use native.Mathlib.Omega.{arith}
-use lib.ListN.{length, getD, length-set}
 use mathlib.Core.Option.{Option}
 use mathlib.Core.List.{[]}
 use Rattle.tree.specs.Tree.{Tree}
@@ -14,12 +12,6 @@ use Rattle.bindings.proofs.Hoist.{run-none}
 use borrow.Author.Needs.{needs}
 use Rattle.bindings.proofs.put_declared.Statement.{statement}
 use Rattle.bindings.proofs.put_declared.Tie as tie
-use Rattle.bindings.proofs.put_declared.Reads as reads
-use Rattle.bindings.proofs.put_declared.Lts as lts
-use Rattle.bindings.proofs.declare_new.Reads as declare-new-reads
-use Rattle.bindings.proofs.own_binding.Reads as own-binding-reads
-use Rattle.bindings.proofs.redeclare_as.Reads as redeclare-as-reads
-use Rattle.bindings.proofs.redeclare_seen.Reads as redeclare-seen-reads
 
 slice-read-if1 : tie.Need-slice-read-if1
 slice-read-if1 c = search needs

@@ -1,14 +1,14 @@
 -- Its value first, then its marks. Assumes nothing.
-use Prim.Native.Nat.{ℕ, suc, _+_, _*_, _-_, _≤_, _<_}
-use mathlib.Core.Path.{_≡_, refl, sym, ap, _∙_}
+use Prim.Native.Nat.{_+_, _-_}
+use mathlib.Core.Path.{refl, sym, _∙_}
 use native.Mathlib.Omega.{arith}
-use lib.ListN.{length, getD, length-set}
+use lib.ListN.{getD}
 use mathlib.Core.Option.{Option}
 use Rattle.tree.specs.Tree.{Tree}
 use Rattle.definition.specs.Scope.{VarInfo, redeclare, recordedNodes, live, withValue}
 use Rattle.words.specs.Tab as sums
 use Rattle.words.specs.Layout.{yes, run}
-use Rattle.scopes.specs.State.{lenAt, bindAt, binds, stack, valueOf}
+use Rattle.scopes.specs.State.{lenAt, bindAt, stack, valueOf}
 use Rattle.records.specs.Steps.{putAt}
 use Rattle.records.proofs.Listed as listed
 use Rattle.records.proofs.Count as count
@@ -17,11 +17,6 @@ use Rattle.bindings.proofs.Hoist.{twice, listed-count}
 use borrow.Author.Needs.{needs}
 use Rattle.bindings.proofs.redeclare_as.Statement.{statement}
 use Rattle.bindings.proofs.redeclare_as.Tie as tie
-use Rattle.bindings.proofs.redeclare_as.Reads as reads
-use Rattle.bindings.proofs.redeclare_as.Lts as lts
-use Rattle.bindings.proofs.remark.Reads as remark-reads
-use Rattle.records.proofs.passes.Reads as passes-reads
-use Rattle.records.proofs.set_run.Reads as set-run-reads
 
 mul-old : tie.Need-mul-old
 mul-old c = search needs

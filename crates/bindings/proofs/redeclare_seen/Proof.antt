@@ -1,24 +1,14 @@
 -- Only its marks. Assumes nothing.
-use Prim.Native.Nat.{ℕ, suc, _+_, _*_, _-_, _≤_, _<_}
-use mathlib.Core.Path.{_≡_, refl, sym, ap, _∙_}
-use native.Mathlib.Omega.{arith}
-use lib.ListN.{length, getD, length-set}
-use mathlib.Core.Option.{Option}
-use Rattle.tree.specs.Tree.{Tree}
-use Rattle.definition.specs.Scope.{VarInfo, redeclare, recordedNodes, live, withValue}
-use Rattle.words.specs.Tab as sums
-use Rattle.words.specs.Layout.{yes, run}
-use Rattle.scopes.specs.State.{lenAt, bindAt, binds, stack, valueOf}
+use mathlib.Core.Path.{refl, sym, _∙_}
+use Rattle.definition.specs.Scope.{redeclare}
+use Rattle.words.specs.Layout.{yes}
+use Rattle.scopes.specs.State.{bindAt}
 use Rattle.records.specs.Steps.{putAt}
 use Rattle.records.proofs.Listed as listed
 use Rattle.bindings.proofs.Declares as declares
 use borrow.Author.Needs.{needs}
 use Rattle.bindings.proofs.redeclare_seen.Statement.{statement}
 use Rattle.bindings.proofs.redeclare_seen.Tie as tie
-use Rattle.bindings.proofs.redeclare_seen.Reads as reads
-use Rattle.bindings.proofs.redeclare_seen.Lts as lts
-use Rattle.bindings.proofs.remark.Reads as remark-reads
-use Rattle.records.proofs.passes.Reads as passes-reads
 
 passes-requires : tie.Need-passes-requires
 passes-requires c κs = search needs
