@@ -60,28 +60,44 @@ fn check(engine: &mut Engine, text: &str) -> bool {
     failed == 0
 }
 
+/// What the arguments ask for.
+enum Task {
+    Check(String),
+    Search(u64, u64, bool),
+}
+
+fn task(given: &[&str]) -> Option<Task> {
+    match given {
+        ["check", path] => Some(Task::Check(std::fs::read_to_string(path).ok()?)),
+        [seed, count] => Some(Task::Search(seed.parse().ok()?, count.parse().ok()?, false)),
+        [seed, count, "throwing"] => {
+            Some(Task::Search(seed.parse().ok()?, count.parse().ok()?, true))
+        }
+        _ => None,
+    }
+}
+
+fn stop(message: &str) -> ! {
+    eprintln!("{message}");
+    std::process::exit(2)
+}
+
 fn main() {
     let given: Vec<String> = std::env::args().skip(1).collect();
-    if let [word, path] = &given[..] {
-        if word == "check" {
-            let text = std::fs::read_to_string(path).expect("the file of scripts");
-            let mut engine = Engine::start("differences").expect("node starts");
-            let good = on_deep_stack(|| check(&mut engine, &text));
-            drop(engine);
-            std::process::exit(i32::from(!good));
-        }
-    }
-    let number = |at: usize| given.get(at).and_then(|n| n.parse().ok());
-    let (Some(seed), Some(count)) = (number(0), number(1)) else {
-        eprintln!("usage: differences SEED COUNT [throwing] | check FILE");
-        std::process::exit(2);
+    let given: Vec<&str> = given.iter().map(|word| &word[..]).collect();
+    let Some(task) = task(&given) else {
+        stop("usage: differences SEED COUNT [throwing] | check FILE");
     };
-    let throwing = given.get(2).is_some_and(|word| word == "throwing");
-    on_deep_stack(|| match Engine::start("differences") {
-        Ok(mut engine) => search(&mut engine, seed, count, throwing),
-        Err(error) => {
-            eprintln!("differences: node does not start: {error}");
-            std::process::exit(1);
+    let Ok(mut engine) = Engine::start("differences") else {
+        stop("differences: node does not start");
+    };
+    let good = on_deep_stack(|| match task {
+        Task::Check(text) => check(&mut engine, &text),
+        Task::Search(seed, count, throwing) => {
+            search(&mut engine, seed, count, throwing);
+            true
         }
     });
+    drop(engine);
+    std::process::exit(i32::from(!good));
 }
