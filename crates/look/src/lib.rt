@@ -10,9 +10,13 @@ ghost use Rattle.definition.specs.Scope.{isSome, constIn, findBinding, findBind
 ghost use Rattle.tree.specs.Tree.{kids};
 ghost use Rattle.definition.specs.Tree.{headT};
 ghost use Rattle.words.specs.Layout.{nodeOf};
-ghost use Rattle.scopes.specs.State.{Good, stack, bindAt, varTypeOf};
-ghost use Rattle.look.specs.Look.{first, cfirst, scopeAt, below, atPlace, FoundIn, idxHere, idxAt, readsO, kindO, nodeTree, held, barsHere};
+ghost use Rattle.scopes.specs.State.{Good, stack, bindAt, varTypeOf, lenAt, off};
+ghost use Rattle.look.specs.Look.{first, cfirst, scopeAt, below, atPlace, FoundIn, idxHere, idxAt, readsO, kindO, nodeTree, held, barsHere, boundHere};
 ghost use Rattle.look.specs.Answers.{countOf};
+
+pub mod mark;
+pub mod usage;
+
 use scopes::find_binding;
 use scopes::find_in;
 use scopes::offset;
@@ -24,6 +28,12 @@ use words::num_at;
 pub enum Count {
     Nothing,
     Reads(u32),
+}
+
+// A step that may pass a limit: made, or refused with document 01's number.
+pub enum Step {
+    Done,
+    Refused(u32),
 }
 
 // scope_for: is the identifier bound in the scope found, and is that the current one.
@@ -174,6 +184,19 @@ pub fn idx_val(w: &[u32], x: u8) -> usize
     r - a
 }
 
+// How many bindings the current scope has.
+pub fn bound_here(w: &[u32]) -> usize
+    requires { ⌜ Good (now w) ⌝ }
+    ensures { λ r. ⌜ r ≡ boundHere (stack (now (w .entry))) ⌝ }
+{
+    let d = w[2] as usize;
+    if d == 0 {
+        return 0;
+    }
+    let a = first_of(w, d - 1);
+    w[1] as usize - a
+}
+
 // Is binding k prevented: its own mark.
 pub fn inline_prevented(w: &[u32], k: usize) -> bool
     requires { ⌜ (Good (now w)) × (k < getD (now w) 1 0) ⌝ }
@@ -221,6 +244,14 @@ pub fn value_kind(w: &[u32], k: usize) -> u32
     }
     let at = offset(w, k);
     w[2064 + at * 2] % 64
+}
+
+// How many nodes it has; they stand from offset(w, k) on.
+pub fn value_len(w: &[u32], k: usize) -> usize
+    requires { ⌜ (Good (now w)) × (k < getD (now w) 1 0) ⌝ }
+    ensures { λ r. ⌜ (r ≡ lenAt (now (w .entry)) k) × (off (now (w .entry)) k + r ≤ 512) ⌝ }
+{
+    w[4112 + k * 10 + 8] as usize
 }
 
 // VarInfo::is_inline_prevented: the mark, or a member where `this` matters.

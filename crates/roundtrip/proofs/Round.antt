@@ -18,15 +18,22 @@ use Rattle.roundtrip.proofs.Nodes.{nodes-bytes, bytes-nodes, node-bytes
 use Rattle.roundtrip.proofs.Texts.{both, endsOf, end-bytes-length, ends-bytes, texts-bytes, ends-rise, bytes-ends, bytes-texts, texts-length, texts-narrow}
 use Rattle.roundtrip.proofs.Header.{passed, met, and-true, Headed, header-passed, passes, head-bytes, head-written}
 
+-- what stands behind n nodes, and behind the ends of t texts
+abbrev pub endsPart : ℕ → List ℕ → List ℕ
+endsPart n bs = drop (32 + 16 * n) bs
+
+abbrev pub textsPart : ℕ → ℕ → List ℕ → List ℕ
+textsPart n t bs = drop (32 + 16 * n + 4 * t) bs
+
 -- a script of n nodes and t texts, as it stands in the bytes
 abbrev pub scriptIn : ℕ → ℕ → List ℕ → Script
-scriptIn n t bs = record { nodes = nodesFrom n (drop 32 bs); texts = textsFrom 0 (endsFrom t (drop (32 + 16 * n) bs)) (drop (32 + 16 * n + 4 * t) bs) }
+scriptIn n t bs = record { nodes = nodesFrom n (drop 32 bs); texts = textsFrom 0 (endsFrom t (endsPart n bs)) (textsPart n t bs) }
 
 -- what reading found
 pub record Found (bs : List ℕ) (s : Script) (n t b : ℕ) : Type 0 where
   pub head : Headed bs n t b
   pub is : scriptIn n t bs ≡ s
-  pub rises : rising 0 (endsFrom t (drop (32 + 16 * n) bs)) b ≡ true
+  pub rises : rising 0 (endsFrom t (endsPart n bs)) b ≡ true
   pub apart : distinct (s .texts) ≡ true
   pub shape : nodesOk s ≡ true
   pub names : length (idents s) ≤ 256
@@ -37,7 +44,7 @@ found bs s h =
     let n = u32 bs 8 in
     let t = u32 bs 16 in
     let b = u32 bs 28 in
-    let ends = endsFrom t (drop (32 + 16 * n) bs) in
+    let ends = endsFrom t (endsPart n bs) in
     let (head, h1) = header-passed bs (parts n t b bs) s h in
     let x = scriptIn n t bs in
     let (h2, h3) = passed (rising 0 ends b && distinct (x .texts)) 5 (checked x) s h1 in
@@ -58,38 +65,29 @@ four : (a b c d : List ℕ) → a ++ b ++ c ++ d ≡ a ++ (b ++ (c ++ d))
 four a b c d = simp append-assoc
 
 module _ {bs : List ℕ} {s : Script} {n t b : ℕ} (y : Bytes bs) (f : Found bs s n t b) where
-  abbrev pub xs : List ℕ
-  xs = drop (32 + 16 * n) bs
-
-  abbrev pub body : List ℕ
-  body = drop (32 + 16 * n + 4 * t) bs
-
-  abbrev pub texts : List (List ℕ)
-  texts = textsFrom 0 (endsFrom t xs) body
-
-  body-length : length body ≡ b
+  pub body-length : length (textsPart n t bs) ≡ b
   body-length = length-drop (32 + 16 * n + 4 * t) bs ∙ omega (arith, f .head .long)
 
   -- the texts' bytes are the last part of the file, and the ends the part before it
-  pub texts-written : textBytes texts ≡ body
-  texts-written = bytes-texts b 0 (endsFrom t xs) body (omega (arith, body-length)) (f .rises) ∙ take-all (b - 0) body (omega (arith, body-length))
+  pub texts-written : textBytes (scriptIn n t bs .texts) ≡ textsPart n t bs
+  texts-written = bytes-texts b 0 (endsFrom t (endsPart n bs)) (textsPart n t bs) (omega (arith, body-length)) (f .rises) ∙ take-all (b - 0) (textsPart n t bs) (omega (arith, body-length))
 
-  pub ends-written : endBytes 0 texts ++ body ≡ xs
+  pub ends-written : endBytes 0 (scriptIn n t bs .texts) ++ textsPart n t bs ≡ endsPart n bs
   ends-written =
-      let l : 4 * t ≤ length xs = simp length-drop (omega (arith, f .head .long)) in
-      rw (drop-drop (4 * t) (32 + 16 * n) bs) at (bytes-ends b t 0 xs body (bytes-drop (32 + 16 * n) bs y) l (omega (arith, body-length)) (f .rises))
+      let l : 4 * t ≤ length (endsPart n bs) = simp length-drop (omega (arith, f .head .long)) in
+      rw (drop-drop (4 * t) (32 + 16 * n) bs) at (bytes-ends b t 0 (endsPart n bs) (textsPart n t bs) (bytes-drop (32 + 16 * n) bs y) l (omega (arith, body-length)) (f .rises))
 
-  pub nodes-written : nodeBytes (nodesFrom n (drop 32 bs)) ++ xs ≡ drop 32 bs
+  nodes-written : nodeBytes (nodesFrom n (drop 32 bs)) ++ endsPart n bs ≡ drop 32 bs
   nodes-written =
       let l : 16 * n ≤ length (drop 32 bs) = simp length-drop (omega (arith, f .head .long)) in
       rw (drop-drop (16 * n) 32 bs) at (bytes-nodes n (drop 32 bs) (bytes-drop 32 bs y) l)
 
-  pub file-is : file (scriptIn n t bs) ≡ bs
+  file-is : file (scriptIn n t bs) ≡ bs
   unfolding file
   file-is =
       let ns = nodeBytes (nodesFrom n (drop 32 bs)) in
-      rw (nodes-length n (drop 32 bs), texts-length t 0 xs body, texts-written, body-length)
-      (four (headBytes n t b) ns (endBytes 0 texts) body
+      rw (nodes-length n (drop 32 bs), texts-length t 0 (endsPart n bs) (textsPart n t bs), texts-written, body-length)
+      (four (headBytes n t b) ns (endBytes 0 (scriptIn n t bs .texts)) (textsPart n t bs)
       ∙ ap (λ (r : List ℕ). headBytes n t b ++ r) (ap (λ (r : List ℕ). ns ++ r) ends-written ∙ nodes-written)
       ∙ head-bytes (f .head) y)
 
@@ -103,14 +101,13 @@ fits-read bs s y h =
     let f = found bs s h in
     let n = u32 bs 8 in
     let t = u32 bs 16 in
-    let b = u32 bs 28 in
     let e = sym (f .is) in
     record {
       narrow = rw e (narrow-nodes n (drop 32 bs) (bytes-drop 32 bs y));
-      bytes = rw e (texts-narrow 0 (endsFrom t (drop (32 + 16 * n) bs)) (drop (32 + 16 * n + 4 * t) bs) (bytes-drop (32 + 16 * n + 4 * t) bs y));
+      bytes = rw e (texts-narrow 0 (endsFrom t (endsPart n bs)) (textsPart n t bs) (bytes-drop (32 + 16 * n + 4 * t) bs y));
       some = rw (e, nodes-length n (drop 32 bs)) (f .head .some);
       few = rw (e, nodes-length n (drop 32 bs)) (f .head .few);
-      texts = rw (e, texts-length t 0 (drop (32 + 16 * n) bs) (drop (32 + 16 * n + 4 * t) bs)) (f .head .named);
+      texts = rw (e, texts-length t 0 (endsPart n bs) (textsPart n t bs)) (f .head .named);
       size = rw (e, texts-written y f, body-length y f) (f .head .small);
       apart = f .apart;
       shape = f .shape;
@@ -119,13 +116,13 @@ fits-read bs s y h =
 
 -- reading what was written gives the script
 module _ (s : Script) (h : Fits s) where
-  abbrev pub n′ : ℕ
+  abbrev n′ : ℕ
   n′ = length (s .nodes)
 
-  abbrev pub t′ : ℕ
+  abbrev t′ : ℕ
   t′ = length (s .texts)
 
-  abbrev pub b′ : ℕ
+  abbrev b′ : ℕ
   b′ = length (textBytes (s .texts))
 
   rest-length : length (nodeBytes (s .nodes) ++ (endBytes 0 (s .texts) ++ textBytes (s .texts))) ≡ 16 * n′ + 4 * t′ + b′
@@ -135,7 +132,7 @@ module _ (s : Script) (h : Fits s) where
   unfolding file
   file-parts = four (headBytes n′ t′ b′) (nodeBytes (s .nodes)) (endBytes 0 (s .texts)) (textBytes (s .texts))
 
-  pub file-headed : Headed (file s) n′ t′ b′
+  file-headed : Headed (file s) n′ t′ b′
   file-headed = rw file-parts (head-written n′ t′ b′ (nodeBytes (s .nodes) ++ (endBytes 0 (s .texts) ++ textBytes (s .texts))) rest-length (h .some) (h .few) (h .texts) (h .size))
 
   ends-there : drop (32 + 16 * n′) (file s) ≡ endBytes 0 (s .texts) ++ textBytes (s .texts)

@@ -17,6 +17,10 @@ use Rattle.scopes.specs.State.{valueOf, varTypeOf, aliasAt, scopeKindOf,
 use Rattle.scopes.proofs.Split as laws
 use Rattle.scopes.proofs.Words.{bind-eq, bind-same, heads-part, part-coff, part-crun, part-consts, part-tree, whole-none}
 
+-- the scopes begin before a longer list too
+fits-more : (h : Head) (hs : List Head) (n : ℕ) → Fits (h ∷ hs) n → Fits (h ∷ hs) (n + 1)
+fits-more h hs n f = (omega (arith, f .0), f .1)
+
 -- the first scope of one or more
 pub some-head : (w : List ℕ) (d : ℕ) → 0 < d → headsAt w d ≡ headAt w (d - 1) ∷ headsAt w (d - 1)
 unfolding headsAt
@@ -98,10 +102,7 @@ module _ (w u v : List ℕ) (g : Good w) (h : getD w 1 0 < 256) (z : 0 < getD w 
 
   push-fits : Fits (heads w) (n + 1)
   unfolding heads
-  push-fits =
-      let e = some-head w (getD w 2 0) z in
-      let f : Fits (headAt w (getD w 2 0 - 1) ∷ headsAt w (getD w 2 0 - 1)) n = rw e at (g .fits) in
-      rw e (omega (arith, f .0), f .1)
+  push-fits = let e = some-head w (getD w 2 0) z in rw e (fits-more (headAt w (getD w 2 0 - 1)) (headsAt w (getD w 2 0 - 1)) n (rw e at (g .fits)))
 
   push-good : Good w′
   push-good = record {

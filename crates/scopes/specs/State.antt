@@ -136,7 +136,7 @@ consts w = tab (getD w 3 0) (λ k. constAt w k)
 unfoldable pub stack : List ℕ → Stack
 stack w = split (heads w) (flags w) (binds w) (consts w)
 
--- scopes begin one after the other, the outermost with the first record, and none behind the last
+-- scopes begin one after the other, none behind the last record, and no record stands before the root's
 abbrev pub Fits : List Head → ℕ → Type 0
 Fits [] n = n ≡ 0
 Fits (h ∷ hs) n = (h .start ≤ n) × Fits hs (h .start)

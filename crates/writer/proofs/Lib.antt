@@ -1,3 +1,4 @@
 pub mod Stores
 pub mod Backs
 pub mod Laid
+pub mod Tied

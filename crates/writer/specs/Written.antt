@@ -9,33 +9,45 @@ use Rattle.format.specs.Read.{Read, bad, script, u32, header}
 use Rattle.format.specs.Write.{headBytes, nodeBytes}
 use Rattle.words.specs.Layout.{tree}
 use Rattle.writer.specs.declared.Written.{Written}
-use Rattle.writer.specs.declared.Written.the-variants.{Done, Refused}
+use Rattle.writer.specs.declared.Written.the-variants as Written
 use Rattle.writer.specs.Back.{backIn, Source}
+
+-- document 01's number of a refusal, or the result's length
+pub data Answer : Type 0 where
+  refused : ℕ → Answer
+  wrote : ℕ → Answer
+
+abbrev pub says : Written → Answer
+says (Written.Done n) = wrote n
+says (Written.Refused k) = refused k
 
 -- the length of the result: its nodes, and the file's texts
 abbrev pub total : List ℕ → List ℕ → ℕ
 total bs w = 32 + 16 * getD w 0 0 + 4 * u32 bs 16 + u32 bs 28
 
--- behind the header: 9, which no count of a tree that was read and run gives, then 10
-unfoldable pub fitted : List ℕ → List ℕ → ℕ → Written
-fitted bs w room =
-    elim (leb 1 (getD w 0 0) && leb (getD w 0 0) 1024) [
-      | false ↦ Refused 9
-      | true ↦ elim (leb (total bs w) room) [ false ↦ Refused 10 | true ↦ Done (total bs w) ]
-    ]
+-- a result of n bytes
+abbrev pub inRoom : ℕ → ℕ → Answer
+inRoom n room = elim (leb n room) [ false ↦ refused 10 | true ↦ wrote n ]
+
+-- behind the header: 9 where word 0 is no count from 1 to 1,024, which it always is after reading; then 10
+unfoldable pub fitted : List ℕ → List ℕ → ℕ → Answer
+fitted bs w room = elim (leb 1 (getD w 0 0) && leb (getD w 0 0) 1024) [ false ↦ refused 9 | true ↦ inRoom (total bs w) room ]
 
 -- rows 2 to 4 alone: a refusal, or what stands behind them
-abbrev pub behind : Read → Written → Written
-behind (bad k) x = Refused k
+abbrev pub none : Read
+none = script (record { nodes = []; texts = [] })
+
+abbrev pub behind : Read → Answer → Answer
+behind (bad k) x = refused k
 behind (script s) x = x
 
--- document 01's number of a refusal, or the length, by file, words and room
-unfoldable pub written : List ℕ → List ℕ → ℕ → Written
+-- what writing answers, by file, words and room
+unfoldable pub written : List ℕ → List ℕ → ℕ → Answer
 unfolding fitted
 written bs w room =
     elim (leb 16384 (length w)) [
-      | false ↦ Refused 1
-      | true ↦ behind (header bs (script (record { nodes = []; texts = [] }))) (fitted bs w room)
+      | false ↦ refused 1
+      | true ↦ behind (header bs none) (fitted bs w room)
     ]
 
 -- the result: header, nodes, and the file's own text ends and text bytes
@@ -45,13 +57,13 @@ resultBytes bs w =
     headBytes (getD w 0 0) (u32 bs 16) (u32 bs 28) ++ nodeBytes (map (backIn bs w) (tree w)) ++ drop (32 + 16 * u32 bs 8) bs
 
 -- the buffer r after an answer: a refusal leaves it as it was, and the bytes behind the result stay
-abbrev pub left : List ℕ → List ℕ → List ℕ → Written → List ℕ
-left bs w r (Done n) = resultBytes bs w ++ drop n r
-left bs w r (Refused k) = r
+abbrev pub left : List ℕ → List ℕ → Answer → List ℕ
+left out r (wrote n) = out ++ drop n r
+left out r (refused k) = r
 
-pub record Wrote (bs w r r′ : List ℕ) (a answer : Written) : Type 0 where
-  pub is : answer ≡ a
-  pub leaves : r′ ≡ left bs w r a
+pub record Wrote (out r r′ : List ℕ) (a : Answer) (x : Written) : Type 0 where
+  pub is : says x ≡ a
+  pub leaves : r′ ≡ left out r a
 
 -- a file's counts, and words enough
 pub record Counted (bs w : List ℕ) (n t b : ℕ) : Type 0 where

@@ -2,11 +2,8 @@
 mod nodes;
 mod put;
 
-ghost use mathlib.Core.Path.{_≡_};
-ghost use Prim.Native.Nat.{_≤_};
 ghost use lib.ListN.{length};
-ghost use Rattle.writer.specs.Back.{Source};
-ghost use Rattle.writer.specs.Written.{Counted, Wrote, fitted, written};
+ghost use Rattle.writer.specs.Written.{Counted, Wrote, fitted, written, resultBytes};
 use crate::nodes::put_nodes;
 use crate::put::copy;
 use crate::put::put_head;
@@ -29,7 +26,7 @@ fn write_counted(
     b: usize,
 ) -> Written
     requires { ⌜ Counted (now file) (now words) n t b ⌝ }
-    ensures { λ r. ⌜ Wrote (now (file .entry)) (now (words .entry)) (now (result .entry)) (now (result .exit)) (fitted (now (file .entry)) (now (words .entry)) (length (now (result .entry)))) r ⌝ }
+    ensures { λ r. ⌜ Wrote (resultBytes (now (file .entry)) (now (words .entry))) (now (result .entry)) (now (result .exit)) (fitted (now (file .entry)) (now (words .entry)) (length (now (result .entry)))) r ⌝ }
 {
     let m = words[0] as usize;
     if m == 0 {
@@ -50,7 +47,7 @@ fn write_counted(
 
 // Writes the result, and refuses where the words, the file's header, the node count or the room will not do.
 pub fn write(file: &[u8], words: &[u32], result: &mut [u8]) -> Written
-    ensures { λ r. ⌜ Wrote (now (file .entry)) (now (words .entry)) (now (result .entry)) (now (result .exit)) (written (now (file .entry)) (now (words .entry)) (length (now (result .entry)))) r ⌝ }
+    ensures { λ r. ⌜ Wrote (resultBytes (now (file .entry)) (now (words .entry))) (now (result .entry)) (now (result .exit)) (written (now (file .entry)) (now (words .entry)) (length (now (result .entry)))) r ⌝ }
 {
     if words.len() < 16384 {
         return Written::Refused(1);

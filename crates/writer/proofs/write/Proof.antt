@@ -1,18 +1,10 @@
 -- Words and header first. Assumes nothing.
-use native.Mathlib.Omega.{arith}
-use mathlib.Core.Path.{sym, _∙_}
-use Prim.Native.Nat.{_≤_}
 use lib.ListN.{length}
-use Rattle.writer.specs.declared.Written.{Written}
-use Rattle.writer.specs.Written.{written, Wrote}
+use Rattle.writer.specs.Written.{written, resultBytes}
 use Rattle.writer.proofs.Laid as laid
 use borrow.Author.Needs.{needs}
 use Rattle.writer.proofs.write.Statement.{statement}
 use Rattle.writer.proofs.write.Tie as tie
-use Rattle.writer.proofs.write.Reads as reads
-use Rattle.writer.proofs.write.Lts as lts
-use Rattle.treefile.proofs.header.read_header.Reads as read-header-reads
-use Rattle.writer.proofs.write_counted.Reads as write-counted-reads
 
 returns : tie.Need-returns
 returns c =
@@ -20,7 +12,7 @@ returns c =
     let bs = a .file .now in
     let w = a .words .now in
     let r = a .result .now in
-    laid.refused bs w r (written bs w (length r)) 1 (laid.short bs w (length r) (c .if1 .taken))
+    laid.left-so (resultBytes bs w) r (written bs w (length r)) 1 (laid.short bs w (length r) (c .if1 .taken))
 
 read-header-requires : tie.Need-read-header-requires
 read-header-requires c κs = search needs
@@ -59,7 +51,7 @@ returns-3 c =
     let w = a .words .now in
     let r = a .result .now in
     let g = c .before .head2 .given in
-    laid.refused bs w r (written bs w (length r)) (g .0 .0) (laid.head-refused bs w (length r) (c .before .before .before .before .if1 .left) (c .before .before .before .read-header .ensures) (g .0 .0) (g .1))
+    laid.left-so (resultBytes bs w) r (written bs w (length r)) (g .0 .0) (laid.head-refused bs w (length r) (c .before .before .before .before .if1 .left) (c .before .before .before .read-header .ensures) (g .0 .0) (g .1))
 
 pub write-spec : {M : Type 1} → statement M
 write-spec =

@@ -1,18 +1,13 @@
 -- Header, nodes and texts, one behind the other. Assumes nothing.
-use mathlib.Core.Path.{_≡_, refl, sym, _∙_}
-use Prim.Native.Nat.{ℕ, _≤_, _<_}
+use mathlib.Core.Path.{_∙_}
+use Prim.Native.Nat.{_≤_, _<_}
 use native.Mathlib.Omega.{arith}
 use lib.ListN.{length, getD}
-use Rattle.writer.specs.Written.{fitted, total}
+use Rattle.writer.specs.Written.{fitted, total, resultBytes}
 use Rattle.writer.proofs.Laid as laid
 use borrow.Author.Needs.{needs}
 use Rattle.writer.proofs.write_counted.Statement.{statement}
 use Rattle.writer.proofs.write_counted.Tie as tie
-use Rattle.writer.proofs.write_counted.Reads as reads
-use Rattle.writer.proofs.write_counted.Lts as lts
-use Rattle.writer.proofs.nodes.put_nodes.Reads as put-nodes-reads
-use Rattle.writer.proofs.put.copy.Reads as copy-reads
-use Rattle.writer.proofs.put.put_head.Reads as put-head-reads
 
 shared-slice-read-m : tie.Need-shared-slice-read-m
 shared-slice-read-m c = search needs
@@ -26,8 +21,7 @@ returns c =
     let bs = a .file .now in
     let w = a .words .now in
     let r = a .result .now in
-    let K = c .before .before .before .before .before .pre in
-    laid.refused bs w r (fitted bs w (length r)) 9 (laid.fit-none bs w (length r) (c .if1 .taken))
+    laid.left-so (resultBytes bs w) r (fitted bs w (length r)) 9 (laid.fit-none bs w (length r) (c .if1 .taken))
 
 returns-2 : tie.Need-returns-2
 returns-2 c =
@@ -35,9 +29,8 @@ returns-2 c =
     let bs = a .file .now in
     let w = a .words .now in
     let r = a .result .now in
-    let K = c .before .before .before .before .before .before .pre in
     let l : 1 ≤ getD w 0 0 = omega arith in
-    laid.refused bs w r (fitted bs w (length r)) 9 (laid.fit-many bs w (length r) l (c .if2 .taken))
+    laid.left-so (resultBytes bs w) r (fitted bs w (length r)) 9 (laid.fit-many bs w (length r) l (c .if2 .taken))
 
 mul-total : tie.Need-mul-total
 mul-total c = search needs
@@ -64,7 +57,7 @@ returns-3 c =
     let l : 1 ≤ getD w 0 0 = omega arith in
     let h : getD w 0 0 ≤ 1024 = omega arith in
     let q : length r < total bs w = omega (arith, K .texts, K .bytes) in
-    laid.refused bs w r (fitted bs w (length r)) 10 (laid.fit-full bs w (length r) l h q)
+    laid.left-so (resultBytes bs w) r (fitted bs w (length r)) 10 (laid.fit-room bs w (length r) l h ∙ laid.too-short (total bs w) (length r) q)
 
 cast-put-head : tie.Need-cast-put-head
 cast-put-head c = search needs
@@ -116,15 +109,20 @@ same-length c = search needs
 
 returns-4 : tie.Need-returns-4
 returns-4 c =
-    let a = c .before .before .before .before .before .before .before .before .before .before .before .before .before .before .before .before .before .before .before .args in
-    let bs = a .file .now in
+    let at-copy = c .before .before in
+    let at-nodes = at-copy .before .before .before .before in
+    let at-head = at-nodes .before .before .before .before in
+    let at-room = at-head .before .before in
+    let at-many = at-room .before in
+    let at-none = at-many .before in
+    let at-entry = at-none .before .before .before .before .before in
+    let a = at-entry .args in
     let w = a .words .now in
-    let r = a .result .now in
-    let K = c .before .before .before .before .before .before .before .before .before .before .before .before .before .before .before .before .before .before .before .pre in
-    let l : 1 ≤ getD w 0 0 = omega (arith, c .before .before .before .before .before .before .before .before .before .before .before .before .before .before .if1) in
-    let h : getD w 0 0 ≤ 1024 = omega (arith, c .before .before .before .before .before .before .before .before .before .before .before .before .before .if2) in
-    let q = c .before .before .before .before .before .before .before .before .before .before .before .before .if3 .left in
-    laid.wrote bs w r (a .n) (a .t) (a .b) K l h q (c .before .before .before .before .before .before .before .before .before .before .put-head .last .0) (c .before .before .before .before .before .before .put-nodes .last .1 .1 .1 .0) (c .before .before .copy .last .1 .1 .0) (length (c .before .before .before .before .before .before .before .before .before .before .put-head .last .0)) (c .before .before .before .before .before .before .before .before .before .before .put-head .kept .0) (c .before .before .before .before .before .before .before .before .before .before .put-head .ensures) (c .before .before .before .before .before .before .put-nodes .ensures) (c .before .before .copy .ensures)
+    let some : 1 ≤ getD w 0 0 = omega (arith, at-none .if1) in
+    let few : getD w 0 0 ≤ 1024 = omega (arith, at-many .if2) in
+    let r₁ = at-head .put-head .last .0 in
+    laid.all-wrote (a .file .now) w (a .result .now) (a .n) (a .t) (a .b) (at-entry .pre) some few (at-room .if3 .left) r₁ (at-nodes .put-nodes .last .1 .1 .1 .0) (at-copy .copy .last .1 .1 .0) (length r₁)
+    (at-head .put-head .kept .0) (at-head .put-head .ensures) (at-nodes .put-nodes .ensures) (at-copy .copy .ensures)
 
 pub write-counted-spec : {M : Type 1} → statement M
 write-counted-spec =

@@ -1,19 +1,9 @@
 -- A node turned back, by its kind. Assumes nothing.
-use native.Mathlib.Omega.{arith}
 use Rattle.writer.proofs.Backs as backs
 use Rattle.words.specs.Layout.{nodeOf}
 use borrow.Author.Needs.{needs}
 use Rattle.writer.proofs.nodes.back.Statement.{statement}
 use Rattle.writer.proofs.nodes.back.Tie as tie
-use Rattle.writer.proofs.nodes.back.Reads as reads
-use Rattle.writer.proofs.nodes.back.Lts as lts
-use Rattle.words.proofs.arity_at.Reads as arity-at-reads
-use Rattle.words.proofs.form_at.Reads as form-at-reads
-use Rattle.words.proofs.kind_at.Reads as kind-at-reads
-use Rattle.words.proofs.num_at.Reads as num-at-reads
-use Rattle.writer.proofs.nodes.ident_in.Reads as ident-in-reads
-use Rattle.writer.proofs.nodes.node_in.Reads as node-in-reads
-use Rattle.writer.proofs.nodes.text_in.Reads as text-in-reads
 
 kind-at-requires : tie.Need-kind-at-requires
 kind-at-requires c κs = search needs
@@ -32,8 +22,11 @@ node-in-requires c κs = search needs
 
 returns : tie.Need-returns
 returns c =
-    let a = c .before .before .before .before .before .before .before .args in
-    backs.back-literal (a .file .now) (a .words .now) (nodeOf (a .words .now) (a .k)) (c .before .before .before .before .kind-at .result) (c .before .before .before .before .kind-at .ensures) (c .before .if1 .taken) (c .before .before .num-at .result) (c .before .before .num-at .ensures) (c .node-in .result) (c .node-in .ensures)
+    let at-num = c .before .before in
+    let at-kind = at-num .before .before in
+    let a = at-kind .before .before .before .args in
+    let w = a .words .now in
+    backs.back-literal (a .file .now) w (nodeOf w (a .k)) (at-kind .kind-at .result) (at-kind .kind-at .ensures) (c .before .if1 .taken) (at-num .num-at .result) (at-num .num-at .ensures) (c .node-in .result) (c .node-in .ensures)
 
 ident-in-requires : tie.Need-ident-in-requires
 ident-in-requires c κs = search needs
@@ -46,8 +39,14 @@ cast-t15 c = search needs
 
 returns-2 : tie.Need-returns-2
 returns-2 c =
-    let a = c .before .before .before .before .before .before .before .before .args in
-    backs.back-named (a .file .now) (a .words .now) (nodeOf (a .words .now) (a .k)) (c .before .before .before .before .before .kind-at .result) (c .before .before .before .before .before .kind-at .ensures) (c .before .before .if1 .left) (c .before .before .before .before .arity-at .result) (c .before .before .before .num-at .result) (c .before .before .before .before .arity-at .ensures) (c .before .before .before .num-at .ensures) (c .before .if2 .taken) (c .ident-in .result) (c .ident-in .ensures)
+    let at-literal = c .before .before in
+    let at-num = at-literal .before in
+    let at-arity = at-num .before in
+    let at-kind = at-arity .before in
+    let a = at-kind .before .before .before .args in
+    let w = a .words .now in
+    backs.back-named (a .file .now) w (nodeOf w (a .k)) (at-kind .kind-at .result) (at-kind .kind-at .ensures) (at-literal .if1 .left) (at-arity .arity-at .result) (at-num .num-at .result) (at-arity .arity-at .ensures) (at-num .num-at .ensures)
+    (c .before .if2 .taken) (c .ident-in .result) (c .ident-in .ensures)
 
 cast-t16 : tie.Need-cast-t16
 cast-t16 c = search needs
@@ -69,8 +68,16 @@ text-in-requires c κs = search needs
 
 returns-3 : tie.Need-returns-3
 returns-3 c =
-    let a = c .before .before .before .before .before .before .before .before .before .args in
-    backs.back-plain (a .file .now) (a .words .now) (nodeOf (a .words .now) (a .k)) (c .before .before .before .before .before .before .kind-at .result) (c .before .before .before .before .before .before .kind-at .ensures) (c .before .before .before .if1 .left) (c .before .before .before .before .before .arity-at .result) (c .before .before .before .before .num-at .result) (c .before .before .before .before .before .arity-at .ensures) (c .before .before .before .before .num-at .ensures) (c .before .before .if2 .left) (c .before .form-at .result) (c .text-in .result) (c .before .form-at .ensures) (c .text-in .ensures)
+    let at-form = c .before in
+    let at-name = at-form .before in
+    let at-literal = at-name .before in
+    let at-num = at-literal .before in
+    let at-arity = at-num .before in
+    let at-kind = at-arity .before in
+    let a = at-kind .before .before .before .args in
+    let w = a .words .now in
+    backs.back-plain (a .file .now) w (nodeOf w (a .k)) (at-kind .kind-at .result) (at-kind .kind-at .ensures) (at-literal .if1 .left) (at-arity .arity-at .result) (at-num .num-at .result) (at-arity .arity-at .ensures) (at-num .num-at .ensures)
+    (at-name .if2 .left) (at-form .form-at .result) (c .text-in .result) (at-form .form-at .ensures) (c .text-in .ensures)
 
 pub back-spec : {M : Type 1} → statement M
 back-spec =

@@ -6,10 +6,6 @@ use Rattle.writer.proofs.Backs as backs
 use borrow.Author.Needs.{needs}
 use Rattle.writer.proofs.nodes.ident_in.Statement.{statement}
 use Rattle.writer.proofs.nodes.ident_in.Tie as tie
-use Rattle.writer.proofs.nodes.ident_in.Reads as reads
-use Rattle.writer.proofs.nodes.ident_in.Lts as lts
-use Rattle.writer.proofs.nodes.node_in.Reads as node-in-reads
-use Rattle.writer.proofs.nodes.zero_node.Reads as zero-node-reads
 
 shared-slice-read-if1 : tie.Need-shared-slice-read-if1
 shared-slice-read-if1 c = search needs

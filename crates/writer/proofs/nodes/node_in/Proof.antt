@@ -5,10 +5,6 @@ use Rattle.writer.proofs.Backs as backs
 use borrow.Author.Needs.{needs}
 use Rattle.writer.proofs.nodes.node_in.Statement.{statement}
 use Rattle.writer.proofs.nodes.node_in.Tie as tie
-use Rattle.writer.proofs.nodes.node_in.Reads as reads
-use Rattle.writer.proofs.nodes.node_in.Lts as lts
-use Rattle.treefile.proofs.fields.raw_at.Reads as raw-at-reads
-use Rattle.writer.proofs.nodes.zero_node.Reads as zero-node-reads
 
 sub-raw-at : tie.Need-sub-raw-at
 sub-raw-at c = let a = c .before .before .before .args in omega (arith, backs.within (a .m) (a .n) (c .if1 .taken))

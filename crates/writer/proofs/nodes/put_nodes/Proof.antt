@@ -1,10 +1,10 @@
 -- Node by node. Assumes nothing.
 use mathlib.Core.Path.{_≡_, refl, sym, ap, _∙_}
-use Prim.Native.Nat.{ℕ, _+_, _-_, _*_, _≤_}
+use Prim.Native.Nat.{ℕ, _-_, _≤_}
 use mathlib.Core.List.{List}
 use native.Mathlib.Omega.{arith}
 use lib.ListN.{length, getD}
-use lib.Seq.{sets, length-sets}
+use lib.Seq.{sets}
 use Rattle.format.specs.declared.Raw.{Raw}
 use Rattle.format.specs.Write.{nodeBytes}
 use Rattle.words.specs.Tab.{tab}
@@ -14,10 +14,6 @@ use Rattle.writer.proofs.Backs as backs
 use borrow.Author.Needs.{needs}
 use Rattle.writer.proofs.nodes.put_nodes.Statement.{statement}
 use Rattle.writer.proofs.nodes.put_nodes.Tie as tie
-use Rattle.writer.proofs.nodes.put_nodes.Reads as reads
-use Rattle.writer.proofs.nodes.put_nodes.Lts as lts
-use Rattle.writer.proofs.nodes.back.Reads as back-reads
-use Rattle.writer.proofs.put.put_raw.Reads as put-raw-reads
 
 abbrev Inv-loop : tie.InvT-loop
 Inv-loop file n words out₀ count k₀ out k = (k ≤ count) × (length out ≡ length out₀) × (out ≡ sets out₀ 0 (nodeBytes (tab k (λ j. backIn file words (nodeOf words j)))))
@@ -51,9 +47,13 @@ loop-less c = search needs
 
 loop-again : tie.Need-loop-again Inv-loop μ-loop
 loop-again c =
-    let l = c .before .before .before .before .before .before .loop in
-    let a = c .before .before .before .before .before .before .before .before .before .before .before .args in
-    (omega arith, c .before .before .put-raw .kept .0 ∙ l .inv .1, backs.nodes-more (λ j. backIn (a .file .now) (a .words .now) (nodeOf (a .words .now) j)) (l .k) (a .out .now) (c .before .before .before .before .back .result) (l .inv .2) (c .before .before .before .before .back .ensures) (c .before .before .put-raw .ensures))
+    let at-put = c .before .before in
+    let at-back = at-put .before .before in
+    let at-loop = at-back .before .before in
+    let l = at-loop .loop in
+    let a = at-loop .before .before .before .before .before .args in
+    let f : ℕ → Raw = λ j. backIn (a .file .now) (a .words .now) (nodeOf (a .words .now) j) in
+    (omega arith, at-put .put-raw .kept .0 ∙ l .inv .1, backs.nodes-more f (l .k) (a .out .now) (at-back .back .result) (l .inv .2) (at-back .back .ensures) (at-put .put-raw .ensures))
 
 same-length : tie.Need-same-length Inv-loop μ-loop
 same-length c = search needs

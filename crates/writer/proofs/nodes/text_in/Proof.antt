@@ -5,9 +5,6 @@ use Rattle.writer.proofs.Backs as backs
 use borrow.Author.Needs.{needs}
 use Rattle.writer.proofs.nodes.text_in.Statement.{statement}
 use Rattle.writer.proofs.nodes.text_in.Tie as tie
-use Rattle.writer.proofs.nodes.text_in.Reads as reads
-use Rattle.writer.proofs.nodes.text_in.Lts as lts
-use Rattle.writer.proofs.nodes.node_in.Reads as node-in-reads
 
 node-in-requires : tie.Need-node-in-requires
 node-in-requires c κs = search needs

@@ -1,15 +1,13 @@
 -- A copy, byte by byte. Assumes nothing.
 use mathlib.Core.Path.{_≡_, refl}
 use native.Mathlib.Omega.{arith}
-use Prim.Native.Nat.{_+_, _-_, _≤_}
+use Prim.Native.Nat.{_-_, _≤_}
 use lib.ListN.{length, drop, length-set}
 use lib.Seq.{paste, paste-zero}
 use Rattle.writer.proofs.Stores as stores
 use borrow.Author.Needs.{needs}
 use Rattle.writer.proofs.put.copy.Statement.{statement}
 use Rattle.writer.proofs.put.copy.Tie as tie
-use Rattle.writer.proofs.put.copy.Reads as reads
-use Rattle.writer.proofs.put.copy.Lts as lts
 
 abbrev Inv-loop : tie.InvT-loop
 Inv-loop src from dst₀ at n j₀ dst j = (j ≤ n) × (length dst ≡ length dst₀) × (dst ≡ paste dst₀ at (drop from src) j)

@@ -1,12 +1,8 @@
 -- Two halves. Assumes nothing.
-use native.Mathlib.Omega.{arith}
 use Rattle.writer.proofs.Stores as stores
 use borrow.Author.Needs.{needs}
 use Rattle.writer.proofs.put.put16.Statement.{statement}
 use Rattle.writer.proofs.put.put16.Tie as tie
-use Rattle.writer.proofs.put.put16.Reads as reads
-use Rattle.writer.proofs.put.put16.Lts as lts
-use Rattle.writer.proofs.put.put8.Reads as put8-reads
 
 cast-put8 : tie.Need-cast-put8
 cast-put8 c = search needs
@@ -27,7 +23,11 @@ same-length : tie.Need-same-length
 same-length c = search needs
 
 returns : tie.Need-returns
-returns c = let a = c .before .before .before .before .before .before .before .before .before .args in stores.two (a .b .now) (a .i) 1 1 (a .x) (c .before .before .before .before .before .before .put8 .ensures) (c .before .before .put82 .ensures)
+returns c =
+    let at-high = c .before .before in
+    let at-low = at-high .before .before .before .before in
+    let a = at-low .before .before .before .args in
+    stores.two (a .b .now) (a .i) 1 1 (a .x) (at-low .put8 .ensures) (at-high .put82 .ensures)
 
 pub put16-spec : {M : Type 1} → statement M
 put16-spec =

@@ -1,12 +1,8 @@
 -- Two halves. Assumes nothing.
-use native.Mathlib.Omega.{arith}
 use Rattle.writer.proofs.Stores as stores
 use borrow.Author.Needs.{needs}
 use Rattle.writer.proofs.put.put32.Statement.{statement}
 use Rattle.writer.proofs.put.put32.Tie as tie
-use Rattle.writer.proofs.put.put32.Reads as reads
-use Rattle.writer.proofs.put.put32.Lts as lts
-use Rattle.writer.proofs.put.put16.Reads as put16-reads
 
 cast-put16 : tie.Need-cast-put16
 cast-put16 c = search needs
@@ -27,7 +23,11 @@ same-length : tie.Need-same-length
 same-length c = search needs
 
 returns : tie.Need-returns
-returns c = let a = c .before .before .before .before .before .before .before .before .before .args in stores.two (a .b .now) (a .i) 2 2 (a .x) (c .before .before .before .before .before .before .put16 .ensures) (c .before .before .put162 .ensures)
+returns c =
+    let at-high = c .before .before in
+    let at-low = at-high .before .before .before .before in
+    let a = at-low .before .before .before .args in
+    stores.two (a .b .now) (a .i) 2 2 (a .x) (at-low .put16 .ensures) (at-high .put162 .ensures)
 
 pub put32-spec : {M : Type 1} → statement M
 put32-spec =

@@ -1,12 +1,8 @@
 -- Two halves. Assumes nothing.
-use native.Mathlib.Omega.{arith}
 use Rattle.writer.proofs.Stores as stores
 use borrow.Author.Needs.{needs}
 use Rattle.writer.proofs.put.put64.Statement.{statement}
 use Rattle.writer.proofs.put.put64.Tie as tie
-use Rattle.writer.proofs.put.put64.Reads as reads
-use Rattle.writer.proofs.put.put64.Lts as lts
-use Rattle.writer.proofs.put.put32.Reads as put32-reads
 
 cast-put32 : tie.Need-cast-put32
 cast-put32 c = search needs
@@ -27,7 +23,11 @@ same-length : tie.Need-same-length
 same-length c = search needs
 
 returns : tie.Need-returns
-returns c = let a = c .before .before .before .before .before .before .before .before .before .args in stores.two (a .b .now) (a .i) 4 4 (a .x) (c .before .before .before .before .before .before .put32 .ensures) (c .before .before .put322 .ensures)
+returns c =
+    let at-high = c .before .before in
+    let at-low = at-high .before .before .before .before in
+    let a = at-low .before .before .before .args in
+    stores.two (a .b .now) (a .i) 4 4 (a .x) (at-low .put32 .ensures) (at-high .put322 .ensures)
 
 pub put64-spec : {M : Type 1} → statement M
 put64-spec =

@@ -4,8 +4,6 @@ use Rattle.writer.proofs.Stores as stores
 use borrow.Author.Needs.{needs}
 use Rattle.writer.proofs.put.put8.Statement.{statement}
 use Rattle.writer.proofs.put.put8.Tie as tie
-use Rattle.writer.proofs.put.put8.Reads as reads
-use Rattle.writer.proofs.put.put8.Lts as lts
 
 slice-write-b : tie.Need-slice-write-b
 slice-write-b c = search needs

@@ -1,15 +1,11 @@
 -- Eight numbers, one behind the other. Assumes nothing.
 use mathlib.Core.Path.{refl}
-use native.Mathlib.Omega.{arith}
 use Prim.Native.Nat.{_+_, _*_}
 use Rattle.format.specs.Write.{bytes}
 use Rattle.writer.proofs.Stores as stores
 use borrow.Author.Needs.{needs}
 use Rattle.writer.proofs.put.put_head.Statement.{statement}
 use Rattle.writer.proofs.put.put_head.Tie as tie
-use Rattle.writer.proofs.put.put_head.Reads as reads
-use Rattle.writer.proofs.put.put_head.Lts as lts
-use Rattle.writer.proofs.put.put32.Reads as put32-reads
 
 put32-requires : tie.Need-put32-requires
 put32-requires c κs = search needs
@@ -73,19 +69,26 @@ same-length c = search needs
 
 returns : tie.Need-returns
 returns c =
-    let a = c .before .before .before .before .before .before .before .before .before .before .before .before .before .before .before .before .before .before .before .before .before .before .before .before .before .before .before .before .before .before .before .before .before .args in
+    let at-7 = c .before .before in
+    let at-6 = at-7 .before .before .before .before in
+    let at-5 = at-6 .before .before .before .before in
+    let at-4 = at-5 .before .before .before .before in
+    let at-3 = at-4 .before .before .before .before in
+    let at-2 = at-3 .before .before .before .before in
+    let at-1 = at-2 .before .before .before .before in
+    let at-0 = at-1 .before .before .before .before in
+    let a = at-0 .before .before .before .args in
     let n = a .n in
     let t = a .t in
     let s = a .s in
-    let s0 = stores.first (a .b .now) 0 (bytes 4 1) (c .before .before .before .before .before .before .before .before .before .before .before .before .before .before .before .before .before .before .before .before .before .before .before .before .before .before .before .before .before .before .put32 .ensures) in
-    let s1 = stores.then s0 4 (bytes 4 (32 + 16 * n + 4 * t + s)) (c .before .before .before .before .before .before .before .before .before .before .before .before .before .before .before .before .before .before .before .before .before .before .before .before .before .before .put322 .ensures) refl in
-    let s2 = stores.then s1 8 (bytes 4 n) (c .before .before .before .before .before .before .before .before .before .before .before .before .before .before .before .before .before .before .before .before .before .before .put323 .ensures) refl in
-    let s3 = stores.then s2 12 (bytes 4 32) (c .before .before .before .before .before .before .before .before .before .before .before .before .before .before .before .before .before .before .put324 .ensures) refl in
-    let s4 = stores.then s3 16 (bytes 4 t) (c .before .before .before .before .before .before .before .before .before .before .before .before .before .before .put325 .ensures) refl in
-    let s5 = stores.then s4 20 (bytes 4 (32 + 16 * n)) (c .before .before .before .before .before .before .before .before .before .before .put326 .ensures) refl in
-    let s6 = stores.then s5 24 (bytes 4 (32 + 16 * n + 4 * t)) (c .before .before .before .before .before .before .put327 .ensures) refl in
-    let s7 = stores.then s6 28 (bytes 4 s) (c .before .before .put328 .ensures) refl in
-    s7 .is
+    let s0 = stores.first (a .b .now) 0 (bytes 4 1) (at-0 .put32 .ensures) in
+    let s1 = stores.then s0 4 (bytes 4 (32 + 16 * n + 4 * t + s)) (at-1 .put322 .ensures) refl in
+    let s2 = stores.then s1 8 (bytes 4 n) (at-2 .put323 .ensures) refl in
+    let s3 = stores.then s2 12 (bytes 4 32) (at-3 .put324 .ensures) refl in
+    let s4 = stores.then s3 16 (bytes 4 t) (at-4 .put325 .ensures) refl in
+    let s5 = stores.then s4 20 (bytes 4 (32 + 16 * n)) (at-5 .put326 .ensures) refl in
+    let s6 = stores.then s5 24 (bytes 4 (32 + 16 * n + 4 * t)) (at-6 .put327 .ensures) refl in
+    stores.then s6 28 (bytes 4 s) (at-7 .put328 .ensures) refl .is
 
 pub put-head-spec : {M : Type 1} → statement M
 put-head-spec =

@@ -1,18 +1,11 @@
 -- The fields of a node, one behind the other. Assumes nothing.
 use mathlib.Core.Path.{refl}
-use native.Mathlib.Omega.{arith}
 use Rattle.format.specs.Write.{bytes}
 use Rattle.writer.proofs.Stores as stores
 use Prim.Native.Nat.{_+_}
 use borrow.Author.Needs.{needs}
 use Rattle.writer.proofs.put.put_raw.Statement.{statement}
 use Rattle.writer.proofs.put.put_raw.Tie as tie
-use Rattle.writer.proofs.put.put_raw.Reads as reads
-use Rattle.writer.proofs.put.put_raw.Lts as lts
-use Rattle.writer.proofs.put.put16.Reads as put16-reads
-use Rattle.writer.proofs.put.put32.Reads as put32-reads
-use Rattle.writer.proofs.put.put64.Reads as put64-reads
-use Rattle.writer.proofs.put.put8.Reads as put8-reads
 
 put8-requires : tie.Need-put8-requires
 put8-requires c κs = search needs
@@ -46,14 +39,19 @@ same-length c = search needs
 
 returns : tie.Need-returns
 returns c =
-    let a = c .before .before .before .before .before .before .before .before .before .before .before .before .before .before .before .before .before .before .before .before .before .args in
+    let at-bits = c .before .before in
+    let at-text = at-bits .before .before .before .before in
+    let at-arity = at-text .before .before .before .before in
+    let at-form = at-arity .before .before .before .before in
+    let at-kind = at-form .before .before .before .before in
+    let a = at-kind .before .before .before .args in
     let x = a .x in
     let i = a .i in
-    let s8 = stores.first (a .b .now) i (bytes 1 (x .kind)) (c .before .before .before .before .before .before .before .before .before .before .before .before .before .before .before .before .before .before .put8 .ensures) in
-    let s9 = stores.then s8 (i + 1) (bytes 1 (x .form)) (c .before .before .before .before .before .before .before .before .before .before .before .before .before .before .put82 .ensures) refl in
-    let s16 = stores.then s9 (i + 2) (bytes 2 (x .arity)) (c .before .before .before .before .before .before .before .before .before .before .put16 .ensures) refl in
-    let s32 = stores.then s16 (i + 4) (bytes 4 (x .text)) (c .before .before .before .before .before .before .put32 .ensures) refl in
-    stores.then s32 (i + 8) (bytes 8 (x .bits)) (c .before .before .put64 .ensures) refl .is
+    let s1 = stores.first (a .b .now) i (bytes 1 (x .kind)) (at-kind .put8 .ensures) in
+    let s2 = stores.then s1 (i + 1) (bytes 1 (x .form)) (at-form .put82 .ensures) refl in
+    let s4 = stores.then s2 (i + 2) (bytes 2 (x .arity)) (at-arity .put16 .ensures) refl in
+    let s8 = stores.then s4 (i + 4) (bytes 4 (x .text)) (at-text .put32 .ensures) refl in
+    stores.then s8 (i + 8) (bytes 8 (x .bits)) (at-bits .put64 .ensures) refl .is
 
 pub put-raw-spec : {M : Type 1} → statement M
 put-raw-spec =

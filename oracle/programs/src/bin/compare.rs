@@ -1,0 +1,93 @@
+//! The original beside another program: `compare SEED COUNT COMMAND ARGUMENT..`.
+//!
+//! The command reads lines `HEX RUNS` and answers each at once as `oracle --batch` does. It gets
+//! random scripts, scripts near a limit and damaged copies; every answer is compared, the order of
+//! the root lines aside. A script that is answered otherwise is made as small as it will go.
+
+use generator::{damage::damage, near::near_limit, random_script, rng::Rng};
+use original::answer;
+use programs::other::Other;
+use programs::shrink::{renamed, shrink};
+use tree_file::javascript::print;
+use tree_file::{on_deep_stack, read, to_hex, write, Script};
+
+/// After so many differences there is nothing more to learn.
+const ENOUGH: u64 = 10;
+
+fn next_file(rng: &mut Rng) -> (Vec<u8>, u32) {
+    let high = *rng.pick(&[20, 40, 80, 160, 400, 1024]);
+    let mut script = random_script(rng, 5, high);
+    if rng.once_in(20) {
+        script = near_limit(rng, &script);
+    }
+    let runs = if rng.once_in(8) {
+        rng.from(1, 15) as u32
+    } else {
+        16
+    };
+    let file = write(&script);
+    match rng.once_in(3) {
+        true => (damage(rng, &file), runs),
+        false => (file, runs),
+    }
+}
+
+/// The root lines in one order.
+fn sorted(answer: &str) -> String {
+    let (mut roots, others): (Vec<&str>, Vec<&str>) =
+        answer.lines().partition(|line| line.starts_with("root "));
+    roots.sort_unstable();
+    [others, roots].concat().join("\n")
+}
+
+fn agrees(other: &mut Other, file: &[u8], runs: u32) -> bool {
+    sorted(&answer(file, runs).to_string()) == sorted(&other.answer(file, runs))
+}
+
+fn report(other: &mut Other, file: &[u8], runs: u32) {
+    let differs = &mut |script: &Script| !agrees(other, &write(script), runs);
+    let (file, text) = match read(file) {
+        Ok(script) => {
+            let small = shrink(&script, differs);
+            let plain = renamed(&small);
+            let small = if differs(&plain) { plain } else { small };
+            (write(&small), print(&small))
+        }
+        Err(row) => (file.to_vec(), format!("a file of row {row}")),
+    };
+    println!("{text}\n{} {runs}", to_hex(&file));
+    println!("the original:\n{}", answer(&file, runs));
+    println!("the other:\n{}", other.answer(&file, runs));
+}
+
+fn compare(seed: u64, count: u64, other: &mut Other) -> (u64, u64) {
+    let mut rng = Rng::new(seed);
+    let (mut passed, mut failed) = (0, 0);
+    while passed + failed < count && failed < ENOUGH {
+        let (file, runs) = next_file(&mut rng);
+        if agrees(other, &file, runs) {
+            passed += 1;
+        } else {
+            failed += 1;
+            report(other, &file, runs);
+        }
+    }
+    (passed, failed)
+}
+
+fn main() {
+    let given: Vec<String> = std::env::args().skip(1).collect();
+    let number = |at: usize| given.get(at).and_then(|n| n.parse().ok());
+    let (Some(seed), Some(count), true) = (number(0), number(1), given.len() > 2) else {
+        eprintln!("usage: compare SEED COUNT COMMAND ARGUMENT..");
+        std::process::exit(2);
+    };
+    let mut other = Other::start(&given[2..]).unwrap_or_else(|error| {
+        eprintln!("compare: {error}");
+        std::process::exit(1)
+    });
+    let (passed, failed) = on_deep_stack(|| compare(seed, count, &mut other));
+    println!("{passed} passed, {failed} failed");
+    drop(other);
+    std::process::exit(i32::from(failed > 0));
+}
