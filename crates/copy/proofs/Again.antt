@@ -1,35 +1,30 @@
--- The words that hold a script turned back into its nodes, and these into its file. Assumes nothing.
+-- A script's core turned back is the script, and its file the file that was read. Assumes nothing.
 use mathlib.Core.Path.{_≡_, refl, sym, ap, ap₂, _∙_, subst}
-use mathlib.Core.Bool.{Bool, true, false, _&&_, _||_}
-use mathlib.Core.List.{List, [], _∷_, _++_, map, append-assoc}
-use Prim.Native.Nat.{ℕ, zero, suc, _+_, _-_, _*_, _≤_, _<_}
+use mathlib.Core.Bool.{Bool, true, false, _||_}
+use mathlib.Core.List.{List, [], _∷_, map}
+use Prim.Native.Nat.{ℕ, suc, _+_, _<_}
 use native.Mathlib.Nat.{le-of-suc-le-suc, not-suc-le-zero}
+use native.Mathlib.Numerals.{add-one}
 use native.Mathlib.Omega.{arith}
-use borrow.Author.Tests.{eqb-true, le-leb}
-use lib.Dec.{eqb, leb}
-use lib.ListN.{length, getD, take, drop, length-append}
-use Rattle.tree.specs.Tree.{Core, core}
-use Rattle.tree.specs.Base.{toNat}
+use borrow.Author.Tests.{eqb-true}
+use lib.Dec.{eqb}
+use lib.ListN.{length, getD, take, length-append}
+use Rattle.tree.specs.Base.{pick}
+use Rattle.tree.specs.Tree.{Core}
 use Rattle.words.specs.Layout.{tree}
 use Rattle.format.specs.declared.Raw.{Raw}
-use Rattle.format.specs.Script.{Script, isLit, hasId, sameId, known, enter, enterAll, idents, placeOf, zeroNode, isArguments}
-use Rattle.format.specs.Core.{coreNode, coreFrom, coreNodes}
-use Rattle.format.specs.Read.{script, read, u32, rawOf, nodesFrom}
-use Rattle.format.specs.Write.{headBytes, nodeBytes}
+use Rattle.format.specs.Script.{Script, isLit, hasId, sameId, known, enter, enterAll, idents, placeOf, zeroNode, nodeAt}
+use Rattle.format.specs.Core.{hasText, coreNode, coreFrom, coreNodes, back}
+use Rattle.format.specs.Read.{script, read, nodesOk}
+use Rattle.format.specs.Write.{file}
 use Rattle.roundtrip.specs.Fits.{Bytes}
 use Rattle.roundtrip.proofs.Texts.{both}
-use Rattle.roundtrip.proofs.Nodes.{nodes-length}
-use Rattle.roundtrip.proofs.Header.{and-true, head-bytes}
-use Rattle.roundtrip.proofs.Round.{Found, found, nodes-written}
-use Rattle.treefile.specs.Idents.{numbered, idsOf}
+use Rattle.roundtrip.proofs.Round.{found, back as file-back}
 use Rattle.treefile.specs.Reading.{Held}
 use Rattle.treefile.proofs.Fill.{is-T}
-use Rattle.treefile.proofs.Raws.{node-raw}
-use Rattle.treefile.proofs.Names.{enter-old, enter-new, place-new, ids-length, ids-at}
+use Rattle.treefile.proofs.Names.{enter-old, enter-new, place-new}
 use Rattle.treefile.proofs.Cores.{core-lit, core-id, core-plain, place-final, ids-more}
-use Rattle.writer.specs.Back.{nodeIn, identIn, textIn, named, plain, backIn}
-use Rattle.writer.specs.Written.{resultBytes}
-use Rattle.writer.proofs.Backs.{node-there, text-kept, text-none, ident-there, back-literal, back-named, back-plain}
+use Rattle.writer.proofs.Tied.{resultScript}
 use Rattle.copy.proofs.Zeros.{Zeros, node-zeros, no-text, no-bits}
 
 -- a known identifier has a place, and one of its own stands there
@@ -66,94 +61,59 @@ all-back : (g : Core → Raw) (s : Script) (xs : List Raw) (m : ℕ) → ((k j :
 all-back g s [] m h = refl
 all-back g s (x ∷ xs) m h = ap₂ {C = List Raw} (λ y ys. y ∷ ys) (h 0 m (omega arith) (omega arith)) (all-back g s xs (suc m) (λ k j e l. h (suc k) j (omega arith) (omega arith)))
 
-module _ {bs w : List ℕ} {s : Script} (e : read bs ≡ script s) (H : Held bs w s) where
-  abbrev pub n : ℕ
-  n = u32 bs 8
+-- a node of a script that passed row 6, by its place
+module _ (s : Script) (ok : nodesOk s ≡ true) (k : ℕ) (l : k < length (s .nodes)) where
+  abbrev x : Raw
+  x = getD (s .nodes) k zeroNode
 
-  abbrev pub t : ℕ
-  t = u32 bs 16
+  zs : Zeros x
+  zs = node-zeros s ok k l
 
-  abbrev pub b : ℕ
-  b = u32 bs 28
+  node-at : nodeAt s (k + 1) ≡ x
+  node-at = ap (nodeAt s) (add-one k)
 
-  pub was : Found bs s n t b
-  was = found bs s e
+  literal : isLit x ≡ true → back s (coreNode s (k + 1) x) .raw ≡ x
+  unfolding back
+  literal h = ap (λ (c : Core). back s c .raw) (core-lit s (k + 1) x h) ∙ node-at
 
-  nodes-are : s .nodes ≡ nodesFrom n (drop 32 bs)
-  nodes-are = ap (λ (x : Script). x .nodes) (sym (was .is))
+  module _ (nl : isLit x ≡ false) where
+    -- the identifier at a node's place is the node's own
+    at : hasId x ≡ true → placeOf x (idents s) < length (idents s)
+    at h = omega (arith, place-final s k l h, ids-more s k l, place-enter (enterAll [] (take k (s .nodes))) x h)
 
-  pub count : length (s .nodes) ≡ n
-  count = ap length nodes-are ∙ nodes-length n (drop 32 bs)
+    name : hasId x ≡ true → back s (coreNode s (k + 1) x) .raw ≡ x
+    unfolding back
+    name h =
+        let y = getD (idents s) (placeOf x (idents s)) zeroNode in
+        let same = both (eqb (x .text) (y .text)) (eqb (x .bits) (y .bits)) (place-same x (idents s) (at h)) in
+        ap (λ (c : Core). back s c .raw) (core-id s (k + 1) x nl h)
+        ∙ rw (nl, h) (same-fields refl (sym (zs .form h)) refl (sym (eqb-true (x .text) (y .text) (same .0))) (sym (eqb-true (x .bits) (y .bits) (same .1))))
 
-  -- node number m
-  numbered-is : (m : ℕ) → 1 ≤ m → m ≤ n → nodeIn bs m ≡ numbered bs m
-  numbered-is m l h = node-there bs n m refl (and-true (le-leb 1 m l) (le-leb m n h))
+    -- the text of a property or member is its node's own, and no other has one
+    text-is : hasId x ≡ false → (q : Bool) → hasText (x .kind) ≡ q → pick q (nodeAt s (k + 1) .text) 0 ≡ x .text
+    text-is h true z = ap (λ (y : Raw). y .text) node-at
+    text-is h false z = sym (zs .text (no-text (x .kind) h nl z))
 
-  module _ (k : ℕ) (l : k < length (s .nodes)) where
-    abbrev x : Raw
-    x = getD (s .nodes) k zeroNode
+    other : hasId x ≡ false → back s (coreNode s (k + 1) x) .raw ≡ x
+    unfolding back
+    other h =
+        ap (λ (c : Core). back s c .raw) (core-plain s (k + 1) x nl h)
+        ∙ rw (nl, h) (same-fields refl refl refl (text-is h (hasText (x .kind)) refl) (sym (zs .bits (no-bits (x .kind) h nl))))
 
-    zs : Zeros x
-    zs = node-zeros s (was .shape) k l
+  node-back : back s (coreNode s (k + 1) x) .raw ≡ x
+  node-back = go (isLit x) (hasId x) refl refl
+    where
+      go : (p q : Bool) → isLit x ≡ p → hasId x ≡ q → back s (coreNode s (k + 1) x) .raw ≡ x
+      go true q u v = literal u
+      go false true u v = name u v
+      go false false u v = other u v
 
-    node-is : nodeIn bs (k + 1) ≡ x
-    node-is =
-        let h : k < n = omega (arith, count) in
-        let less : k + 1 - 1 ≡ k = omega arith in
-        numbered-is (k + 1) (omega arith) (omega arith)
-        ∙ ap (λ (j : ℕ). rawOf (drop (32 + 16 * j) bs)) less
-        ∙ sym (node-raw n k bs h) ∙ ap (λ (xs : List Raw). getD xs k zeroNode) (sym nodes-are)
+nodes-back : (s : Script) → nodesOk s ≡ true → map (λ (c : Core). back s c .raw) (coreNodes s) ≡ s .nodes
+unfolding coreNodes
+nodes-back s ok = all-back (λ (c : Core). back s c .raw) s (s .nodes) 1 (λ k j q l. let z : j ≡ k + 1 = omega arith in rw z (node-back s ok k l))
 
-    literal : isLit x ≡ true → backIn bs w (coreNode s (k + 1) x) ≡ x
-    literal h = ap (backIn bs w) (core-lit s (k + 1) x h) ∙ sym (back-literal bs w (core 22 0 0 (k + 1)) 22 refl refl (k + 1) refl x (sym node-is))
-
-    module _ (nl : isLit x ≡ false) where
-      name : hasId x ≡ true → backIn bs w (coreNode s (k + 1) x) ≡ x
-      name h =
-          let i = placeOf x (idents s) in
-          let at : i < length (idents s) = omega (arith, place-final s k l h, ids-more s k l, place-enter (enterAll [] (take k (s .nodes))) x h) in
-          let here : i < getD w 4 0 = omega (arith, ids-length bs w, ap length (H .ids)) in
-          let y = getD (idents s) i zeroNode in
-          let m = getD w (15504 + i) 0 in
-          let is : identIn bs w i ≡ y = ident-there bs w i here ∙ numbered-is m (H .listed .low i here) (omega (arith, H .listed .high i here, count)) ∙ sym (ids-at bs w i here) ∙ ap (λ (ids : List Raw). getD ids i zeroNode) (H .ids) in
-          let same = both (eqb (x .text) (y .text)) (eqb (x .bits) (y .bits)) (place-same x (idents s) at) in
-          ap (backIn bs w) (core-id s (k + 1) x nl h)
-          ∙ sym (back-named bs w (core (x .kind) (toNat (isArguments s x)) (x .arity) i) (x .kind) refl nl (x .arity) i refl refl h (identIn bs w i) refl)
-          ∙ ap (named (x .kind) (x .arity)) is
-          ∙ same-fields refl (sym (zs .form h)) refl (sym (eqb-true (x .text) (y .text) (same .0))) (sym (eqb-true (x .bits) (y .bits) (same .1)))
-
-      -- the text of a property or member is its node's own, and no other has one
-      text-is : hasId x ≡ false → (q : Bool) → (eqb (x .kind) 29 || eqb (x .kind) 37) ≡ q → textIn bs (x .kind) (k + 1) ≡ x .text
-      text-is h true z = text-kept bs (x .kind) (k + 1) z ∙ ap (λ (y : Raw). y .text) node-is
-      text-is h false z = text-none bs (x .kind) (k + 1) z ∙ sym (zs .text (no-text (x .kind) h nl z))
-
-      other : hasId x ≡ false → backIn bs w (coreNode s (k + 1) x) ≡ x
-      other h =
-          let u = textIn bs (x .kind) (k + 1) in
-          ap (backIn bs w) (core-plain s (k + 1) x nl h)
-          ∙ sym (back-plain bs w (core (x .kind) (x .form) (x .arity) (k + 1)) (x .kind) refl nl (x .arity) (k + 1) refl refl h (x .form) u refl refl)
-          ∙ same-fields refl refl refl (text-is h (eqb (x .kind) 29 || eqb (x .kind) 37) refl) (sym (zs .bits (no-bits (x .kind) h nl)))
-
-    node-back : backIn bs w (coreNode s (k + 1) x) ≡ x
-    node-back = go (isLit x) (hasId x) refl refl
-      where
-        go : (p q : Bool) → isLit x ≡ p → hasId x ≡ q → backIn bs w (coreNode s (k + 1) x) ≡ x
-        go true q u v = literal u
-        go false true u v = name u v
-        go false false u v = other u v
-
-  nodes-back : map (backIn bs w) (tree w) ≡ s .nodes
-  unfolding coreNodes
-  nodes-back =
-      ap (map (backIn bs w)) (H .tree)
-      ∙ all-back (backIn bs w) s (s .nodes) 1 (λ k j q l. let z : j ≡ k + 1 = omega arith in rw z (node-back k l))
-
-  -- writing what was read gives the file
-  pub same-file : Bytes bs → resultBytes bs w ≡ bs
-  unfolding resultBytes
-  same-file y =
-      let rest = drop (32 + 16 * n) bs in
-      rw (H .count, count, nodes-back, nodes-are)
-      (append-assoc (headBytes n t b) (nodeBytes (nodesFrom n (drop 32 bs))) rest
-      ∙ ap (λ (r : List ℕ). headBytes n t b ++ r) (nodes-written y was)
-      ∙ head-bytes (was .head) y)
+-- writing what was read gives the file
+pub same-file : {bs w : List ℕ} {s : Script} → Bytes bs → read bs ≡ script s → Held bs w s → file (resultScript s w) ≡ bs
+same-file {bs} {w} {s} y e H =
+    ap (λ (ns : List Raw). file (record { nodes = ns; texts = s .texts })) (ap (map (λ (c : Core). back s c .raw)) (H .tree) ∙ nodes-back s (found bs s e .shape))
+    ∙ file-back bs s y e

@@ -1,29 +1,31 @@
 -- The ends of copying: not read, no room, and the whole file. Assumes nothing.
 use mathlib.Core.Path.{_≡_, refl, sym, ap, ap₂, _∙_, subst}
 use mathlib.Core.Bool.{Bool, true, false}
-use mathlib.Core.List.{List, []}
-use Prim.Native.Nat.{ℕ, _+_, _*_, _≤_, _<_}
+use mathlib.Core.List.{List}
+use Prim.Native.Nat.{ℕ, _+_, _*_, _≤_}
 use native.Mathlib.Omega.{arith}
-use borrow.Author.Tests.{leb-true, leb-false, le-leb}
 use lib.Dec.{leb}
-use lib.ListN.{length, getD, drop}
+use lib.ListN.{length, drop}
 use Rattle.words.specs.Moved.{Cleared}
 use Rattle.format.specs.Script.{Script}
-use Rattle.format.specs.Read.{Read, bad, script, read, u32, header}
+use Rattle.format.specs.Read.{Read, bad, script, read, u32}
+use Rattle.format.specs.Write.{file}
 use Rattle.roundtrip.specs.Fits.{Bytes}
-use Rattle.roundtrip.proofs.Header.{passes}
+use Rattle.roundtrip.proofs.Nodes.{nodes-length}
+use Rattle.roundtrip.proofs.Round.{Found, found}
 use Rattle.treefile.specs.declared.header.Header.{Header}
 use Rattle.treefile.specs.declared.read.Answer.{Answer}
 use Rattle.treefile.specs.declared.read.Answer.the-variants as Answer
+use Rattle.treefile.specs.Idents.{Listed}
 use Rattle.treefile.specs.Load.{Kept}
 use Rattle.treefile.specs.Reading.{Held, told, After, WordsAre as ReadWords, ReadIs}
 use Rattle.writer.specs.declared.Written.{Written}
 use Rattle.writer.specs.declared.Written.the-variants as Written
-use Rattle.writer.specs.Written.{total, fitted, written, left, resultBytes, behind, Wrote}
-use Rattle.writer.proofs.Laid.{fit-full, fit-done}
+use Rattle.writer.specs.Written.{Answer as Said, refused, wrote, says, inRoom, written, left, resultBytes, Wrote}
+use Rattle.writer.proofs.Tied.{resultScript, wrote-file}
 use Rattle.copy.specs.declared.Copied.{Copied}
-use Rattle.copy.specs.Copy.{Ending, refused, whole, roomed, ending, answered, leaves, WordsAre, CopyIs}
-use Rattle.copy.proofs.Again.{was, count, same-file}
+use Rattle.copy.specs.Copy.{roomed, ending, numbers, WordsAre, CopyIs}
+use Rattle.copy.proofs.Again.{same-file}
 
 not-both : (m : ℕ) (h : Header) → Answer.Refused m ≡ Answer.Script h → ⊥
 not-both m h z = let y : _≡_ {A = ℕ} 0 1 = cc in omega arith
@@ -34,10 +36,10 @@ same-number m k z = cc
 -- how it ends, by what is read
 module _ (bs r w : List ℕ) where
   ends : (p : Bool) (x : Read) → leb 16384 (length w) ≡ p → read bs ≡ x → ending bs (length r) (length w) ≡ elim p [ false ↦ refused 1 | true ↦ roomed bs (length r) x ]
-  ends p x e q = ap₂ {C = Ending} (λ (p : Bool) (x : Read). elim p [ false ↦ refused 1 | true ↦ roomed bs (length r) x ]) e q
+  ends p x e q = ap₂ {C = Said} (λ (p : Bool) (x : Read). elim p [ false ↦ refused 1 | true ↦ roomed bs (length r) x ]) e q
 
-  copy-is : {r′ w′ : List ℕ} {c : Copied} (z : Ending) (p : Bool) → ending bs (length r) (length w) ≡ z → leb 16384 (length w) ≡ p → c ≡ answered bs z → r′ ≡ leaves bs r z → WordsAre w w′ p → CopyIs bs r r′ w w′ c
-  copy-is {r′} {w′} z p e q a l h = record { answer = a ∙ ap (answered bs) (sym e); result = l ∙ ap (leaves bs r) (sym e); words = subst (WordsAre w w′) (sym q) h }
+  copy-is : {r′ w′ : List ℕ} {c : Copied} (z : Said) (p : Bool) → ending bs (length r) (length w) ≡ z → leb 16384 (length w) ≡ p → c ≡ numbers z → r′ ≡ left bs r z → WordsAre w w′ p → CopyIs bs r r′ w w′ c
+  copy-is {r′} {w′} z p e q a l h = record { answer = a ∙ ap numbers (sym e); result = l ∙ ap (left bs r) (sym e); words = subst (WordsAre w w′) (sym q) h }
 
 -- what reading answered, by the two tests of row 1 and of the others
 module _ {bs w w₁ : List ℕ} {a : Answer} (R : ReadIs bs w w₁ a) where
@@ -74,81 +76,43 @@ was-read {bs} {w} {w₁} {a} h R z = go (leb 16384 (length w)) (read bs) refl re
     go true (bad k) e q = absurd (not-both k h (sym (by R true (bad k) e q) ∙ z))
     go true (script s) e q = record { script = s; is = q; long = e; held = after R (script s) e q .0; kept = after R (script s) e q .1 }
 
--- the counts of its answer are within the file
-pub within : {bs w w₁ : List ℕ} {a : Answer} (h : Header) → ReadIs bs w w₁ a → a ≡ Answer.Script h → (h .nodes ≤ 1024) × (32 + 16 * h .nodes ≤ length bs)
-within {bs} {w} {w₁} h R z =
-    let W = was-read h R z in
-    let same : h .nodes ≡ length (W .script .nodes) = as-told h _ (sym z ∙ by R true (script (W .script)) (W .long) (W .is)) in
-    let n = count (W .is) (W .held) in
-    let H = was (W .is) (W .held) .head in
-    (omega (arith, same, n, H .few), omega (arith, same, n, H .long))
-  where
-    as-told : (h k : Header) → Answer.Script h ≡ Answer.Script k → h .nodes ≡ k .nodes
-    as-told h k y = let q : h ≡ k = cc in ap (λ (i : Header). i .nodes) q
-
 module _ {bs w w₁ : List ℕ} (W : WasRead bs w w₁) where
-  abbrev f : ℕ
-  f = length bs
+  was : Found bs (W .script) (u32 bs 8) (u32 bs 16) (u32 bs 28)
+  was = found bs (W .script) (W .is)
 
-  size : total bs w₁ ≡ length bs
-  size = omega (arith, W .held .count, count (W .is) (W .held), was (W .is) (W .held) .head .long)
-
-  -- the header passes again
-  abbrev enough : ℕ → Bool → Read → Written
-  enough room p x = elim p [ false ↦ Written.Refused 1 | true ↦ behind x (fitted bs w₁ room) ]
-
-  to-fitted : (room : ℕ) → written bs w₁ room ≡ fitted bs w₁ room
-  unfolding written
-  to-fitted room =
-      ap₂ {C = Written} (enough room) (le-leb 16384 (length w₁) (W .held .listed .long)) (passes (was (W .is) (W .held) .head) (script (record { nodes = []; texts = [] })))
-
-  some : 1 ≤ getD w₁ 0 0
-  some = omega (arith, W .held .count, count (W .is) (W .held), was (W .is) (W .held) .head .some)
-
-  few : getD w₁ 0 0 ≤ 1024
-  few = omega (arith, W .held .count, count (W .is) (W .held), was (W .is) (W .held) .head .few)
-
-  by-room : (room : ℕ) (p : Bool) → leb (length bs) room ≡ p → written bs w₁ room ≡ elim p [ false ↦ Written.Refused 10 | true ↦ Written.Done (length bs) ]
-  by-room room true q = to-fitted room ∙ fit-done bs w₁ room some few (omega (arith, size, leb-true (length bs) room q)) ∙ ap Written.Done size
-  by-room room false q = to-fitted room ∙ fit-full bs w₁ room some few (omega (arith, size, leb-false (length bs) room q))
+  count : length (W .script .nodes) ≡ u32 bs 8
+  count = ap (λ (s : Script). length (s .nodes)) (sym (was .is)) ∙ nodes-length (u32 bs 8) (drop 32 bs)
 
   pub long-words : 16384 ≤ length w₁
   long-words = W .held .listed .long
 
-  module _ {r r′ w₂ : List ℕ} {a : Written} (O : Wrote bs w₁ r r′ (written bs w₁ (length r)) a) (C : Cleared w₁ w₂) where
-    cleared : Cleared w w₂
-    cleared = record { size = C .size ∙ W .kept .size; here = C .here; rest = C .rest ∙ W .kept .rest }
+  module _ (y : Bytes bs) {r r′ w₂ : List ℕ} {x : Written} (O : Wrote (resultBytes bs w₁) r r′ (written bs w₁ (length r)) x) (C : Cleared w₁ w₂) where
+    same : file (resultScript (W .script) w₁) ≡ bs
+    same = same-file y (W .is) (W .held)
 
-    is-ending : (p : Bool) → leb (length bs) (length r) ≡ p → ending bs (length r) (length w) ≡ elim p [ false ↦ refused 10 | true ↦ whole ]
-    is-ending p q = ends bs r w true (script (W .script)) (W .long) (W .is) ∙ ap {B = Ending} (λ (p : Bool). elim p [ false ↦ refused 10 | true ↦ whole ]) q
+    -- the file itself was written, or did not fit
+    wrote-same : Wrote bs r r′ (inRoom (length bs) (length r)) x
+    wrote-same =
+        subst (λ (out : List ℕ). Wrote out r r′ (inRoom (length out) (length r)) x) same
+        (wrote-file bs w₁ (W .script) (W .is) (subst (λ (n : ℕ). Listed w₁ n) count (W .held .listed)) (W .held .ids) y long-words
+        (omega (arith, W .held .count, count, was .head .some)) (omega (arith, W .held .count, count, was .head .few)) r r′ x O)
 
-    leaves-so : (x : Written) → written bs w₁ (length r) ≡ x → r′ ≡ left bs w₁ r x
-    leaves-so x q = O .leaves ∙ ap (left bs w₁ r) q
+    ends-so : ending bs (length r) (length w) ≡ inRoom (length bs) (length r)
+    ends-so = ends bs r w true (script (W .script)) (W .long) (W .is)
 
-    pub no-room : (m : ℕ) → a ≡ Written.Refused m → CopyIs bs r r′ w w₂ (record { refused = m; length = 0 })
-    no-room m z = go (leb (length bs) (length r)) refl
-      where
-        number : (m k : ℕ) → Written.Refused m ≡ Written.Refused k → _≡_ {A = Copied} (record { refused = m; length = 0 }) (record { refused = k; length = 0 })
-        number m k y = cc
+    -- and the answer says so
+    pub written-back : (z : Written) → x ≡ z → CopyIs bs r r′ w w₂ (numbers (says z))
+    written-back z e =
+        copy-is bs r w (inRoom (length bs) (length r)) true ends-so (W .long) (ap numbers (ap says (sym e) ∙ wrote-same .is)) (wrote-same .leaves)
+        (record { size = C .size ∙ W .kept .size; here = C .here; rest = C .rest ∙ W .kept .rest })
 
-        done : (m k : ℕ) → Written.Refused m ≡ Written.Done k → ⊥
-        done m k y = let o : _≡_ {A = ℕ} 0 1 = cc in omega arith
-
-        go : (p : Bool) → leb (length bs) (length r) ≡ p → CopyIs bs r r′ w w₂ (record { refused = m; length = 0 })
-        go false q = copy-is bs r w (refused 10) true (is-ending false q) (W .long) (number m 10 (sym z ∙ O .is ∙ by-room (length r) false q)) (leaves-so (Written.Refused 10) (by-room (length r) false q)) cleared
-        go true q = absurd (done m (length bs) (sym z ∙ O .is ∙ by-room (length r) true q))
-
-    pub all-there : Bytes bs → (k : ℕ) → a ≡ Written.Done k → CopyIs bs r r′ w w₂ (record { refused = 0; length = k })
-    all-there y k z = go (leb (length bs) (length r)) refl
-      where
-        number : (m k : ℕ) → Written.Done m ≡ Written.Done k → _≡_ {A = Copied} (record { refused = 0; length = m }) (record { refused = 0; length = k })
-        number m k y = cc
-
-        not : (m k : ℕ) → Written.Done m ≡ Written.Refused k → ⊥
-        not m k y = let o : _≡_ {A = ℕ} 0 1 = cc in omega arith
-
-        go : (p : Bool) → leb (length bs) (length r) ≡ p → CopyIs bs r r′ w w₂ (record { refused = 0; length = k })
-        go true q =
-            copy-is bs r w whole true (is-ending true q) (W .long) (number k (length bs) (sym z ∙ O .is ∙ by-room (length r) true q))
-            (leaves-so (Written.Done (length bs)) (by-room (length r) true q) ∙ rw (same-file (W .is) (W .held) y) refl) cleared
-        go false q = absurd (not k 10 (sym z ∙ O .is ∙ by-room (length r) false q))
+-- the counts of a script that was read are within the file
+pub within : {bs w w₁ : List ℕ} {a : Answer} (h : Header) → ReadIs bs w w₁ a → a ≡ Answer.Script h → (h .nodes ≤ 1024) × (32 + 16 * h .nodes ≤ length bs)
+within {bs} {w} {w₁} h R z =
+    let W = was-read h R z in
+    let same : h .nodes ≡ length (W .script .nodes) = as-told h _ (sym z ∙ by R true (script (W .script)) (W .long) (W .is)) in
+    let n = count W in
+    (omega (arith, same, n, was W .head .few), omega (arith, same, n, was W .head .long))
+  where
+    as-told : (h k : Header) → Answer.Script h ≡ Answer.Script k → h .nodes ≡ k .nodes
+    as-told h k y = let q : h ≡ k = cc in ap (λ (i : Header). i .nodes) q

@@ -39,7 +39,7 @@ same-length-2 c = search needs
 returns : tie.Need-returns
 returns c =
     let W = ends.was-read _ (c .before .before .before .before .before .before .before .before .before .before .before .before .before .before .before .before .read .ensures) (c .before .before .before .before .before .before .before .before .before .before .before .before .enum-told .given .1) in
-    ends.all-there W (c .before .before .before .before .before .before .before .before .before .write .ensures) (c .before .before .before .before .before .clear .ensures) (λ i. c .before .before .before .before .before .before .before .before .before .before .before .before .before .before .before .before .before .before .before .before .shared-slice-known .given i .fits) _ (c .before .written .given .1)
+    ends.written-back W (λ i. c .before .before .before .before .before .before .before .before .before .before .before .before .before .before .before .before .before .before .before .before .shared-slice-known .given i .fits) (c .before .before .before .before .before .before .before .before .before .write .ensures) (c .before .before .before .before .before .clear .ensures) _ (c .before .written .given .1)
 
 same-length-3 : tie.Need-same-length-3
 same-length-3 c = search needs
@@ -50,7 +50,7 @@ same-length-4 c = search needs
 returns-2 : tie.Need-returns-2
 returns-2 c =
     let W = ends.was-read _ (c .before .before .before .before .before .before .before .before .before .before .before .before .before .before .before .before .read .ensures) (c .before .before .before .before .before .before .before .before .before .before .before .before .enum-told .given .1) in
-    ends.no-room W (c .before .before .before .before .before .before .before .before .before .write .ensures) (c .before .before .before .before .before .clear .ensures) _ (c .before .written2 .given .1)
+    ends.written-back W (λ i. c .before .before .before .before .before .before .before .before .before .before .before .before .before .before .before .before .before .before .before .before .shared-slice-known .given i .fits) (c .before .before .before .before .before .before .before .before .before .write .ensures) (c .before .before .before .before .before .clear .ensures) _ (c .before .written2 .given .1)
 
 same-length-5 : tie.Need-same-length-5
 same-length-5 c = search needs
