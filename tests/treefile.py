@@ -1,7 +1,7 @@
 #!/usr/bin/env python3
-"""Tree files through the C entry of crates/copy, against a reader written from document 01 alone.
+"""Tree files through the C entry of crates/copy and through the program show, against a reader written from document 01 alone.
 
-  tests/treefile.py DRIVER
+  tests/treefile.py DRIVER SHOW
 
 The driver is tests/treefile.c, linked with the library. The last line is `N passed, M failed`.
 """
@@ -311,15 +311,14 @@ def expected(file, room, words):
     return 0, "0 %d %s 1 %s" % (len(file), file.hex(), state)
 
 
-def main(driver):
+def through_driver(driver):
+    """How many files were answered as expected, and how many were not; each row must be met."""
     cases = Cases()
     for add in (examples, limits, texts, headers, fields, places, damaged):
         add(cases)
     lines = "".join("%s %d %d\n" % (f.hex() or "-", room, words) for _, f, room, words, _ in cases.all)
     out = subprocess.run([driver], input=lines, capture_output=True, text=True, check=True).stdout.splitlines()
-    failed, rows = 0, collections.Counter()
-    if len(out) != len(cases.all):
-        sys.exit("%d answers to %d files" % (len(out), len(cases.all)))
+    failed, rows = abs(len(out) - len(cases.all)), collections.Counter()
     for (name, file, room, words, want), got in zip(cases.all, out):
         row, line = expected(file, room, words)
         rows[row] += 1
@@ -328,11 +327,47 @@ def main(driver):
             print("%s: got %.60s, reader %.60s, case %s" % (name, got, line, want))
     for row in (0, 1, 2, 3, 4, 5, 6, 7, 10):
         print("%s: %d" % ("read and written" if row == 0 else "refused %d" % row, rows[row]))
-    print("%d passed, %d failed" % (len(out) - failed, failed))
-    return failed == 0 and all(rows[r] for r in (0, 1, 2, 3, 4, 5, 6, 7, 10))
+        failed += rows[row] == 0
+    return len(cases.all) - failed, failed
+
+
+def longer(cases):
+    """Inputs longer than any readable file: cut or whole, the same row refuses them."""
+    for extra in (1, 2, 50000):
+        for head, want in ((header(1024, 256, 4096 + extra), 3), (header(1024, 256, 4096), 4), ([2] + header(1, 0, 0)[1:], 2)):
+            cases.add("%d bytes too long, row %d" % (extra, want), struct.pack("<8I", *head) + bytes(21504 + extra), want)
+
+
+def shown(file):
+    row = refusal(file)
+    if row:
+        return "refused %d\n" % row
+    _, _, n, _, t, _, _, _ = struct.unpack_from("<8I", file)
+    nodes = (struct.unpack_from("<BBHIQ", file, 32 + 16 * i) for i in range(n))
+    return "nodes %d texts %d\n" % (n, t) + "".join("%d %d %d %d %016x\n" % x for x in nodes)
+
+
+def through_program(show):
+    """The same for the program, which takes one file."""
+    cases, failed = Cases(), 0
+    for add in (examples, limits, texts, longer):
+        add(cases)
+    for name, file, _, _, want in cases.all:
+        got = subprocess.run([show], input=file, capture_output=True, check=True).stdout.decode()
+        if got != shown(file) or (want in range(2, 8) and got != "refused %d\n" % want):
+            failed += 1
+            print("show, %s: %.60r, not %.60r" % (name, got, shown(file)))
+    print("shown: %d" % len(cases.all))
+    return len(cases.all) - failed, failed
+
+
+def main(driver, show):
+    passed, failed = map(sum, zip(through_driver(driver), through_program(show)))
+    print("%d passed, %d failed" % (passed, failed))
+    return failed == 0
 
 
 if __name__ == "__main__":
-    if len(sys.argv) != 2:
+    if len(sys.argv) != 3:
         sys.exit(__doc__)
-    sys.exit(0 if main(sys.argv[1]) else 1)
+    sys.exit(0 if main(sys.argv[1], sys.argv[2]) else 1)

@@ -20,7 +20,6 @@ use Rattle.treefile.specs.Idents.{Listed}
 use Rattle.treefile.specs.Load.{Kept}
 use Rattle.treefile.specs.Reading.{Held, told, After, WordsAre as ReadWords, ReadIs}
 use Rattle.writer.specs.declared.Written.{Written}
-use Rattle.writer.specs.declared.Written.the-variants as Written
 use Rattle.writer.specs.Written.{Answer as Said, refused, wrote, says, inRoom, written, left, resultBytes, Wrote}
 use Rattle.writer.proofs.Tied.{resultScript, wrote-file}
 use Rattle.copy.specs.declared.Copied.{Copied}

@@ -3,11 +3,6 @@ use Rattle.copy.proofs.Ends as ends
 use borrow.Author.Needs.{needs}
 use Rattle.copy.proofs.negbosun_copy.Statement.{statement}
 use Rattle.copy.proofs.negbosun_copy.Tie as tie
-use Rattle.copy.proofs.negbosun_copy.Reads as reads
-use Rattle.copy.proofs.negbosun_copy.Lts as lts
-use Rattle.treefile.proofs.read.read.Reads as read-reads
-use Rattle.words.proofs.clear.Reads as clear-reads
-use Rattle.writer.proofs.write.Reads as write-reads
 
 read-requires : tie.Need-read-requires
 read-requires c κs = search needs

@@ -3,10 +3,6 @@ use Prim.Native.Nat.{_≤_, _-_}
 use borrow.Author.Needs.{needs}
 use Rattle.show.proofs.print_nodes.Statement.{statement}
 use Rattle.show.proofs.print_nodes.Tie as tie
-use Rattle.show.proofs.print_nodes.Reads as reads
-use Rattle.show.proofs.print_nodes.Lts as lts
-use Rattle.show.proofs.print_node.Reads as print-node-reads
-use Rattle.treefile.proofs.fields.raw_at.Reads as raw-at-reads
 
 abbrev Inv-loop : tie.InvT-loop
 Inv-loop file n k₀ k = k ≤ n

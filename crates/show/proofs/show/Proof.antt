@@ -3,14 +3,6 @@ use Rattle.copy.proofs.Ends.{within}
 use borrow.Author.Needs.{needs}
 use Rattle.show.proofs.show.Statement.{statement}
 use Rattle.show.proofs.show.Tie as tie
-use Rattle.show.proofs.show.Reads as reads
-use Rattle.show.proofs.show.Lts as lts
-use Rattle.io.proofs.write_all.Reads as write-all-reads
-use Rattle.show.proofs.count.Reads as count-reads
-use Rattle.show.proofs.print.Reads as print-reads
-use Rattle.show.proofs.print_nodes.Reads as print-nodes-reads
-use Rattle.show.proofs.word.Reads as word-reads
-use Rattle.treefile.proofs.read.read.Reads as read-reads
 
 read-requires : tie.Need-read-requires
 read-requires c κs = search needs
