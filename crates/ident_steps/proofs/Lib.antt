@@ -1,0 +1,4 @@
+pub mod Laws
+pub mod Idents
+pub mod Fates
+pub mod Scopes
