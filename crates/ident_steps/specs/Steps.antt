@@ -8,8 +8,8 @@ use lib.Dec.{eqb}
 use Rattle.tree.specs.Base.{pick}
 use Rattle.tree.specs.Tree.{Tree, form, num}
 use Rattle.tree.specs.Combine.{Res, stop, done, M as MS, Nothing, _>>_, Flat, nodeAt, act, onRest, put, Walk as One}
-use Rattle.definition.specs.Scope.{VarInfo, Stack, varInlinePrevented, findBinding, findConstant, preventInline, addRead}
-use Rattle.definition.specs.Walk.{St, when, modify, mark, replace, restore, setChanged, sameIdent, cheapO}
+use Rattle.definition.specs.Scope.{VarInfo, Stack, varInlinePrevented, findBinding, findConstant, preventInline, addRead, change, defined, withValue}
+use Rattle.definition.specs.Walk.{St, when, modify, mark, grow, replace, restore, setChanged, sameIdent, cheapO}
 use Rattle.flat.specs.WalkF.{testRead}
 use Rattle.words.specs.Layout.{yes, run}
 use Rattle.scopes.specs.State.{varTypeOf, Whole}
@@ -88,6 +88,14 @@ valueF p e i = act (λ t. when (not (sameIdent t e)) (modify (setChanged true)))
 
 abbrev pub constF : ℕ → Tree → One St
 constF p e i = onRest (modify (setChanged true)) >> swapF p e i
+
+-- `=` in Inlining: is it the first value of the binding found, and what is done then
+abbrev pub firstTest : Option VarInfo → Bool → Bool
+firstTest none q = false
+firstTest (some b) q = b .isUndefined && not (varInlinePrevented b) && not q
+
+abbrev pub firstF : ℕ → ℕ → Tree → One St
+firstF p x r i = onRest (grow (change x (λ c. defined (withValue (some r) c)))) >> swapF p r i
 
 -- the end of a replacement, marked as a change or not
 abbrev pub markIf : Bool → St → St

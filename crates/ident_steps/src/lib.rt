@@ -8,11 +8,14 @@ ghost use Rattle.tree.specs.Combine.{onRest};
 ghost use Rattle.definition.specs.Tree.{voidZero};
 ghost use Rattle.definition.specs.Scope.{findBinding};
 ghost use Rattle.definition.specs.Walk.{opening, deeper};
-ghost use Rattle.words.specs.Layout.{nodeOf, coreFrom, yes};
+ghost use Rattle.words.specs.Layout.{nodeOf, coreFrom, yes, tree};
 ghost use Rattle.scopes.specs.State.{Good, Becomes, stack, scopeKindOf};
-ghost use Rattle.nodes.specs.Nodes.{Planted, valueFrom};
+ghost use Rattle.nodes.specs.Nodes.{Planted, Child, treeFrom, valueFrom};
 ghost use Rattle.state.specs.State.{abs, Act};
 ghost use Rattle.ident_steps.specs.Steps.{Goes, analysisF, costly, testStack, Fated, Named, Held, Landed, swapF, valueF, constF, Restored};
+
+pub mod assign;
+
 use bindings::close;
 use look::ident_at;
 use look::is_undefined;
@@ -22,6 +25,8 @@ use look::var_inline_prevented;
 use nodes::Step;
 use nodes::put_void;
 use nodes::replace_at;
+use nodes::skip;
+use nodes::unwrap;
 use records::Constant;
 use records::find_constant;
 use scopes::find_binding;
@@ -177,6 +182,18 @@ pub fn inline_constant(w: &mut [u32], i: usize, p: u32, at: usize, m: usize) -> 
     match replace_at(w, i, p, 3088, at, m) {
         Step::Refused(n) => Next::Refused(n),
         Step::Done => landed(w, i + m, true),
+    }
+}
+
+// The second child of node i, at node j, takes its place.
+fn lift_value(w: &mut [u32], i: usize, j: usize, p: u32) -> Next
+    requires { ⌜ (Planted (now w)) × (Child (tree (now w)) i 1 j) × (p ≤ 201) ⌝ }
+    ensures { λ r. ⌜ Goes (now (w .entry)) (now (w .exit)) r (swapF p (treeFrom (tree (now (w .entry))) j) i (abs (now (w .entry)))) ⌝ }
+{
+    let m = skip(w, j) - j;
+    match unwrap(w, i, j, p) {
+        Step::Refused(n) => Next::Refused(n),
+        Step::Done => Next::At(i + m),
     }
 }
 
