@@ -1,22 +1,21 @@
 -- `=` in Inlining by the words: its parts, its test, and the first value recorded. Assumes nothing.
 use mathlib.Core.Path.{_≡_, refl, sym, ap, _∙_}
 use mathlib.Core.List.{List}
-use mathlib.Core.Bool.{Bool, true, false, _&&_, _||_, not}
+use mathlib.Core.Bool.{Bool, true, false, not}
 use mathlib.Core.Option.{Option, none, some}
 use Prim.Native.Nat.{ℕ, zero, suc, _+_, _≤_, _<_}
 use native.Mathlib.Numerals.{add-one}
 use native.Mathlib.Omega.{arith}
 use borrow.Author.Tests.{eq-eqb, ne-eqb}
-use lib.Dec.{eqb, ltb}
 use lib.ListN.{length, getD, drop}
 use lib.Seq.{drop-cons}
 use Rattle.tree.specs.Tree.{Tree, Forest, node, nil, cons, kind, num, kids, tailF, Core, noCore, count, takeF, plant}
-use Rattle.tree.specs.Combine.{Res, stop, done, Nothing, andThen, iff, Flat, treeAt, skip, onRest, carry}
+use Rattle.tree.specs.Combine.{Res, stop, done, Nothing, andThen, iff, Flat, treeAt, skip, carry}
 use Rattle.tree.proofs.Whole as whole
 use Rattle.tree.proofs.Place.{appendF}
 use Rattle.definition.specs.Tree.{headT}
-use Rattle.definition.specs.Scope.{VarInfo, Stack, findBindingFromCurrent, isInlinePrevented, varInlinePrevented, change, defined, withValue, recordedNodes, live}
-use Rattle.definition.specs.Walk.{St, isBind, grow, setStack}
+use Rattle.definition.specs.Scope.{VarInfo, Stack, findBindingFromCurrent, isInlinePrevented, varInlinePrevented, change, defined, withValue}
+use Rattle.definition.specs.Walk.{St, setStack}
 use Rattle.flat.specs.WalkF.{afterAssignF, afterSidesF, firstTo}
 use Rattle.words.specs.Layout.{nodeOf, tree}
 use Rattle.words.proofs.Nodes.{tree-length, tree-at}

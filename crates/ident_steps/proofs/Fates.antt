@@ -1,11 +1,10 @@
 -- What becomes of an identifier, from the words of its binding; the constant that it names. Assumes nothing.
 use mathlib.Core.Path.{_≡_, refl, sym, ap, _∙_}
 use mathlib.Core.List.{List, [], _∷_}
-use mathlib.Core.Bool.{Bool, true, false, _&&_}
+use mathlib.Core.Bool.{true, false, _&&_}
 use mathlib.Core.Option.{Option, none, some}
-use Prim.Native.Nat.{ℕ, zero, suc, _+_, _*_, _≤_, _<_}
+use Prim.Native.Nat.{ℕ, zero, suc, _+_, _*_, _<_}
 use native.Mathlib.Omega.{arith}
-use borrow.Author.Tests.{eq-eqb}
 use lib.Dec.{eqb}
 use lib.ListN.{length, getD}
 use Rattle.tree.specs.Base.{pick}
@@ -22,7 +21,7 @@ use Rattle.records.specs.declared.Constant.{Constant}
 use Rattle.records.specs.declared.Constant.the-variants as constant
 use Rattle.nodes.specs.Nodes.{treeFrom, valueFrom}
 use Rattle.state.specs.State.{rest, abs}
-use Rattle.ident_steps.specs.Steps.{Fate, stays, undefined, inlined, fateBy, fateOf, fateAt, constantAt, Held, Named}
+use Rattle.ident_steps.specs.Steps.{stays, undefined, inlined, fateOf, fateAt, constantAt, Held, Named}
 use Rattle.ident_steps.proofs.Laws.{tree-num}
 
 -- a value that has nodes

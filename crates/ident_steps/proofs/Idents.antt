@@ -1,16 +1,16 @@
 -- The walk's own steps by those of the functions here: an identifier in Analysis, and in Inlining by its fate. Assumes nothing.
-use mathlib.Core.Path.{_≡_, refl, sym, ap, _∙_}
+use mathlib.Core.Path.{_≡_, refl}
 use mathlib.Core.List.{List}
 use mathlib.Core.Bool.{Bool, true, false, not, _&&_}
 use mathlib.Core.Option.{Option, none, some}
-use Prim.Native.Nat.{ℕ, zero, suc, _+_, _<_}
+use Prim.Native.Nat.{ℕ, zero, suc, _<_}
 use native.Mathlib.Omega.{arith}
-use borrow.Author.Tests.{eq-eqb, ne-eqb}
+use borrow.Author.Tests.{ne-eqb}
 use lib.Dec.{eqb}
 use lib.ListN.{length, getD}
 use Rattle.tree.specs.Base.{pick}
 use Rattle.tree.specs.Tree.{Tree, kind, form, num}
-use Rattle.tree.specs.Combine.{Res, stop, done, M, Nothing, andThen, ret, iff, Flat, nodeAt, treeAt, act, onRest, skip, put}
+use Rattle.tree.specs.Combine.{Res, stop, done, M, Nothing, andThen, iff, Flat, nodeAt, treeAt, act, onRest, skip, put}
 use Rattle.definition.specs.Tree.{voidZero}
 use Rattle.definition.specs.Scope.{VarInfo, Stack, findBinding, preventInline, addRead, varInlinePrevented}
 use Rattle.definition.specs.Walk.{St, when, modify, mark, replace, setStack, setChanged, sameIdent, cheapO}
@@ -19,7 +19,7 @@ use Rattle.look.specs.Look.{kindO}
 use Rattle.words.specs.Layout.{yes, nodeOf, tree}
 use Rattle.scopes.specs.State.{Becomes, stack}
 use Rattle.records.proofs.Listed.{becomes-then}
-use Rattle.nodes.specs.Nodes.{Planted, treeFrom}
+use Rattle.nodes.specs.Nodes.{Planted}
 use Rattle.nodes.proofs.Trees.{tree-at-is}
 use Rattle.state.specs.State.{rest, abs, Act}
 use Rattle.state.proofs.Fields.{becomes-ok}

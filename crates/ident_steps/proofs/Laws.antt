@@ -1,25 +1,25 @@
 -- Contracts in the terms of the walk on the list: what the words stand for after a step, and a replacement with its rows. Assumes nothing.
 use mathlib.Core.Path.{_≡_, refl, sym, ap, _∙_}
-use mathlib.Core.List.{List, [], _∷_, _++_}
+use mathlib.Core.List.{List}
 use mathlib.Core.Bool.{Bool, true, false, not}
-use Prim.Native.Nat.{ℕ, zero, suc, _+_, _-_, _*_, _≤_, _<_}
+use Prim.Native.Nat.{ℕ, _+_, _-_, _≤_, _<_}
 use native.Mathlib.Omega.{arith}
 use lib.ListN.{length, getD, take, drop, length-append, length-drop}
 use lib.Seq.{length-take-le}
-use Rattle.tree.specs.Tree.{Tree, kind, form, num, Core, noCore, count, flat, plant, firstT}
-use Rattle.tree.specs.Combine.{Res, stop, done, Nothing, andThen, _>>_, Flat, nodeAt, treeAt, act, onRest}
+use Rattle.tree.specs.Tree.{Tree, kind, form, num, Core, count, flat}
+use Rattle.tree.specs.Combine.{Res, stop, done, Nothing, andThen, Flat, onRest}
 use Rattle.tree.proofs.Whole as whole
 use Rattle.definition.specs.Scope.{Stack}
 use Rattle.definition.specs.Walk.{St, when, modify, setStack, setNodes, setChanged, sameIdent}
 use Rattle.words.specs.Layout.{nodeOf, tree}
 use Rattle.words.proofs.Nodes.{tree-length, tree-at}
 use Rattle.scopes.specs.State.{Becomes}
-use Rattle.nodes.specs.Nodes.{Planted, treeFrom, putAt, Replants, Swapped}
+use Rattle.nodes.specs.Nodes.{Planted, treeFrom, putAt, Swapped}
 use Rattle.nodes.specs.declared.Step.the-variants as step
 use Rattle.nodes.proofs.Trees.{tree-at-is, behind-le, length-flat}
 use Rattle.nodes.proofs.Words.{tree-whole}
 use Rattle.nodes.proofs.Walks.{swap-stop, swap-done}
-use Rattle.state.specs.State.{rest, abs, Acts, Act, Turns, Ok}
+use Rattle.state.specs.State.{rest, abs, Acts, Turns}
 use Rattle.state.proofs.Fields.{becomes-rest, count-kept, ok-self, ok-then, replants-ok, replants-rest}
 use Rattle.ident_steps.specs.Steps.{Lands, Goes, Landed, markIf, swapF, valueF}
 use Rattle.ident_steps.specs.declared.Next.{Next}

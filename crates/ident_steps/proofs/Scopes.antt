@@ -1,5 +1,5 @@
 -- A scope entered and left, and a right side in its Cond scope, as the walk does it. Assumes nothing.
-use mathlib.Core.Path.{_≡_, refl, sym, ap, _∙_}
+use mathlib.Core.Path.{_≡_, refl, ap, _∙_}
 use mathlib.Core.List.{List, _∷_}
 use mathlib.Core.Bool.{Bool, true, false}
 use Prim.Native.Nat.{ℕ, suc, _+_, _≤_, _<_}
@@ -9,7 +9,7 @@ use borrow.Author.Tests.{le-leb, lt-leb}
 use lib.Dec.{leb}
 use lib.ListN.{length, getD}
 use Rattle.tree.specs.Combine.{Res, stop, done, Nothing, carry, Flat, onRest}
-use Rattle.definition.specs.Scope.{ScopeKind, Stack, vVar, newScope, close}
+use Rattle.definition.specs.Scope.{ScopeKind, vVar, newScope, close}
 use Rattle.definition.specs.Walk.{St, opening, deeper, restore, shallower, setStack, setVarDeclKind, setPatMode, setInTest, setInlining, setConds}
 use Rattle.words.specs.Layout.{yes, tree}
 use Rattle.scopes.specs.State.{stack, varTypeOf}

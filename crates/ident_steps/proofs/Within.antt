@@ -1,9 +1,8 @@
 -- The steps here in the terms of the laws on a function of the port (Port of the crate `tree`): an answer, and a walk between `enter` and
 -- `leave`, or between `deeper` and a store of the count before. Assumes nothing.
-use mathlib.Core.Path.{_≡_, refl, ap, _∙_}
+use mathlib.Core.Path.{_≡_, refl, ap}
 use mathlib.Core.List.{List}
 use Prim.Native.Nat.{ℕ, _<_}
-use native.Mathlib.Omega.{arith}
 use lib.ListN.{getD}
 use Rattle.tree.specs.Combine.{Res, stop, done, M, Flat, onRest}
 use Rattle.tree.proofs.Port as port

@@ -9,7 +9,7 @@ ghost use Rattle.scopes.specs.State.{Good, stack};
 ghost use Rattle.look.specs.Look.{nodeTree};
 ghost use Rattle.nodes.specs.Nodes.{Planted, Child, treeFrom};
 ghost use Rattle.state.specs.State.{abs};
-ghost use Rattle.ident_steps.specs.Steps.{Goes, firstTest, firstF, swapF};
+ghost use Rattle.ident_steps.specs.Steps.{Goes, firstTest, firstF};
 use super::Next;
 use super::lift_value;
 use bindings::first_value;

@@ -1,7 +1,5 @@
 -- In a later run there is none. Assumes nothing.
-use mathlib.Core.Path.{_≡_, refl, sym, ap, _∙_}
-use native.Mathlib.Omega.{arith}
-use mathlib.Core.Logic.{_⊎_, inr}
+use mathlib.Core.Logic.{inr}
 use Rattle.ident_steps.proofs.Fates as fates
 use borrow.Author.Needs.{needs}
 use Rattle.ident_steps.proofs.constant.Statement.{statement}

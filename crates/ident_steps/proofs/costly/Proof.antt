@@ -1,7 +1,6 @@
 -- The binding found, and the kind of its value. Assumes nothing.
 use mathlib.Core.Path.{_≡_, refl, sym, ap, _∙_}
-use native.Mathlib.Omega.{arith}
-use Prim.Native.Nat.{ℕ, _+_, _*_, _-_, _≤_, _<_}
+use Prim.Native.Nat.{_-_}
 use Rattle.look.specs.Look.{atPlace}
 use Rattle.look.proofs.Facts.{found-at, found-is}
 use Rattle.ident_steps.proofs.Idents as idents

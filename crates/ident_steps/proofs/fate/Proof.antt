@@ -1,8 +1,8 @@
 -- The binding found: prevented, with a value, undefined, or neither. Assumes nothing.
-use mathlib.Core.Path.{_≡_, refl, sym, ap, _∙_}
+use mathlib.Core.Path.{refl, sym, ap, _∙_}
 use native.Mathlib.Omega.{arith}
-use Prim.Native.Nat.{ℕ, _+_, _*_, _-_, _≤_, _<_}
-use mathlib.Core.Logic.{_⊎_, inr}
+use Prim.Native.Nat.{_+_, _*_, _-_, _<_}
+use mathlib.Core.Logic.{inr}
 use Rattle.look.specs.Look.{atPlace}
 use Rattle.look.proofs.Facts.{found-at, found-is}
 use Rattle.ident_steps.proofs.Fates as fates

@@ -1,7 +1,7 @@
 -- Two changes of the scopes in a row. Assumes nothing.
-use mathlib.Core.Path.{_≡_, refl, sym, ap, _∙_}
+use mathlib.Core.Path.{_∙_}
 use native.Mathlib.Omega.{arith}
-use mathlib.Core.Logic.{_⊎_, inr}
+use mathlib.Core.Logic.{inr}
 use Rattle.ident_steps.proofs.Idents as idents
 use borrow.Author.Needs.{needs}
 use Rattle.ident_steps.proofs.ident_analysis.Statement.{statement}

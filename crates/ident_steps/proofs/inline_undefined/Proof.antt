@@ -1,5 +1,5 @@
 -- The replacement, with no mark. Assumes nothing.
-use mathlib.Core.Path.{_≡_, refl, sym, ap, _∙_}
+use mathlib.Core.Path.{refl}
 use native.Mathlib.Omega.{arith}
 use Rattle.ident_steps.proofs.Laws as laws
 use mathlib.Core.Bool.{false}

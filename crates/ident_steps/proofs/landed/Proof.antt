@@ -1,6 +1,5 @@
 -- Marked, or as it was. Assumes nothing.
-use mathlib.Core.Path.{_≡_, refl, sym, ap, _∙_}
-use native.Mathlib.Omega.{arith}
+use mathlib.Core.Path.{refl}
 use Rattle.ident_steps.proofs.Laws as laws
 use borrow.Author.Needs.{needs}
 use Rattle.ident_steps.proofs.landed.Statement.{statement}

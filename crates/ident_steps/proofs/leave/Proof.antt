@@ -1,6 +1,5 @@
 -- Closed, and four fields stored. Assumes nothing.
-use mathlib.Core.Path.{_≡_, refl, sym, ap, _∙_}
-use native.Mathlib.Omega.{arith}
+use mathlib.Core.Path.{_∙_}
 use Rattle.ident_steps.proofs.Laws as laws
 use Rattle.ident_steps.proofs.Scopes as scopes
 use Rattle.definition.specs.Walk.{setInlining, setVarDeclKind, setPatMode, setInTest}
@@ -9,7 +8,6 @@ use Rattle.scopes.specs.State.{varTypeOf}
 use Rattle.nodes.proofs.Apart.{becomes-planted}
 use Rattle.state.specs.State.{modeOf}
 use Rattle.state.proofs.Fields.{becomes-turns}
-use borrow.Author.Needs.{needs}
 use Rattle.ident_steps.proofs.leave.Statement.{statement}
 use Rattle.ident_steps.proofs.leave.Tie as tie
 

@@ -1,9 +1,9 @@
 -- The second child in the place of its parent. Assumes nothing.
-use mathlib.Core.Path.{_≡_, refl, sym, ap, _∙_}
+use mathlib.Core.Path.{_≡_, refl, ap}
 use native.Mathlib.Omega.{arith}
-use Prim.Native.Nat.{ℕ, _+_, _*_, _-_, _≤_, _<_}
+use Prim.Native.Nat.{ℕ, _+_, _-_}
 use Rattle.ident_steps.proofs.Laws as laws
-use Rattle.nodes.proofs.Splice.{outer-in, inner-in, subtree-value, subtree-one}
+use Rattle.nodes.proofs.Splice.{outer-in, inner-in}
 use mathlib.Core.Bool.{false}
 use Rattle.tree.specs.Tree.{Tree, count}
 use Rattle.words.specs.Layout.{tree}

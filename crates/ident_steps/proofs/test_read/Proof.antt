@@ -1,6 +1,5 @@
 -- By the word of the test, and whether the value is costly. Assumes nothing.
-use mathlib.Core.Path.{_≡_, refl, sym, ap, _∙_}
-use native.Mathlib.Omega.{arith}
+use mathlib.Core.Path.{sym, _∙_}
 use Rattle.ident_steps.proofs.Idents as idents
 use lib.ListN.{getD}
 use Rattle.scopes.specs.State.{stack}

@@ -1,9 +1,9 @@
 -- By the parts of the node and its test. Assumes nothing.
-use mathlib.Core.Path.{_≡_, refl, sym, ap, _∙_}
+use mathlib.Core.Path.{sym, _∙_}
 use native.Mathlib.Omega.{arith}
-use Prim.Native.Nat.{ℕ, _+_, _*_, _-_, _≤_, _<_}
+use Prim.Native.Nat.{_-_, _<_}
 use Rattle.ident_steps.proofs.Assigns as assigns
-use mathlib.Core.Logic.{_⊎_, inl}
+use mathlib.Core.Logic.{inl}
 use Rattle.words.specs.Layout.{nodeOf}
 use borrow.Author.Needs.{needs}
 use Rattle.ident_steps.proofs.assign.after_assign.Statement.{statement}

@@ -1,9 +1,9 @@
 -- Recorded, and then lifted. Assumes nothing.
-use mathlib.Core.Path.{_≡_, refl, sym, ap, _∙_}
+use mathlib.Core.Path.{_≡_, ap}
 use native.Mathlib.Omega.{arith}
-use Prim.Native.Nat.{ℕ, _+_, _*_, _-_, _≤_, _<_}
+use Prim.Native.Nat.{_-_}
 use Rattle.ident_steps.proofs.Assigns as assigns
-use Rattle.nodes.proofs.Splice.{outer-in, inner-in, subtree-value, subtree-one}
+use Rattle.nodes.proofs.Splice.{inner-in, subtree-value, subtree-one}
 use mathlib.Core.List.{List}
 use mathlib.Core.Option.{some}
 use Rattle.tree.specs.Tree.{Tree, Core, count}

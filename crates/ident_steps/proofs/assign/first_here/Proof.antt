@@ -1,7 +1,7 @@
 -- The binding in the current scope, field by field. Assumes nothing.
 use mathlib.Core.Path.{_≡_, refl, sym, ap, _∙_}
 use native.Mathlib.Omega.{arith}
-use Prim.Native.Nat.{ℕ, _+_, _*_, _-_, _≤_, _<_}
+use Prim.Native.Nat.{_-_}
 use Rattle.ident_steps.proofs.Assigns as assigns
 use mathlib.Core.Bool.{not}
 use mathlib.Core.Option.{none, some}
