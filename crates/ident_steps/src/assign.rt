@@ -1,0 +1,73 @@
+// `=` in Inlining: the first value of what was undefined.
+ghost use mathlib.Core.Path.{_≡_};
+ghost use Prim.Native.Nat.{_≤_, _<_};
+ghost use lib.ListN.{getD};
+ghost use Rattle.definition.specs.Scope.{findBindingFromCurrent, isInlinePrevented};
+ghost use Rattle.flat.specs.WalkF.{afterAssignF};
+ghost use Rattle.words.specs.Layout.{tree};
+ghost use Rattle.scopes.specs.State.{Good, stack};
+ghost use Rattle.look.specs.Look.{nodeTree};
+ghost use Rattle.nodes.specs.Nodes.{Planted, Child, treeFrom};
+ghost use Rattle.state.specs.State.{abs};
+ghost use Rattle.ident_steps.specs.Steps.{Goes, firstTest, firstF};
+use super::Next;
+use super::lift_value;
+use bindings::first_value;
+use look::find_binding_from_current;
+use look::ident_at;
+use look::is_inline_prevented;
+use look::is_undefined;
+use look::var_inline_prevented;
+use nodes::skip;
+use records::Step;
+use words::arity_at;
+use words::kind_at;
+
+// Is x bound here and undefined, and neither it nor the value at node j prevented.
+fn first_here(w: &[u32], x: u8, j: usize) -> bool
+    requires { ⌜ (Good (now w)) × (j < getD (now w) 0 0) ⌝ }
+    ensures { λ r. ⌜ r ≡ firstTest (findBindingFromCurrent x (stack (now (w .entry)))) (isInlinePrevented (nodeTree (now (w .entry)) j) (stack (now (w .entry)))) ⌝ }
+{
+    let k = find_binding_from_current(w, x);
+    if k == 0 {
+        return false;
+    }
+    if is_undefined(w, k - 1) {
+        if var_inline_prevented(w, k - 1) {
+            return false;
+        }
+        return !is_inline_prevented(w, j);
+    }
+    false
+}
+
+// x gets its first value, the second child of node i, at node j, which then takes that node's place.
+fn first_assigned(w: &mut [u32], i: usize, j: usize, p: u32, x: u8) -> Next
+    requires { ⌜ (Planted (now w)) × (Child (tree (now w)) i 1 j) × (p ≤ 201) ⌝ }
+    ensures { λ r. ⌜ Goes (now (w .entry)) (now (w .exit)) r (firstF p x (treeFrom (tree (now (w .entry))) j) i (abs (now (w .entry)))) ⌝ }
+{
+    let m = skip(w, j) - j;
+    match first_value(w, x, j, m) {
+        Step::Refused(n) => Next::Refused(n),
+        Step::Done => lift_value(w, i, j, p),
+    }
+}
+
+// The assignment at node i, at depth p, after its parts.
+pub fn after_assign(w: &mut [u32], i: usize, p: u32) -> Next
+    requires { ⌜ (Planted (now w)) × (i < getD (now w) 0 0) × (p ≤ 201) ⌝ }
+    ensures { λ r. ⌜ Goes (now (w .entry)) (now (w .exit)) r (afterAssignF p i (abs (now (w .entry)))) ⌝ }
+{
+    if arity_at(w, i) < 2 {
+        return Next::At(skip(w, i));
+    }
+    if kind_at(w, i + 1) != 20 {
+        return Next::At(skip(w, i));
+    }
+    let x = ident_at(w, i + 1);
+    let j = skip(w, i + 1);
+    if first_here(w, x, j) {
+        return first_assigned(w, i, j, p, x);
+    }
+    Next::At(skip(w, i))
+}

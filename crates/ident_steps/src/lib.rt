@@ -1,0 +1,236 @@
+// The steps of identifiers, and of scopes around a walk, over the working words.
+ghost use mathlib.Core.Path.{_≡_};
+ghost use Prim.Native.Nat.{_+_, _*_, _≤_, _<_};
+ghost use mathlib.Core.Bool.{_&&_};
+ghost use lib.Dec.{eqb};
+ghost use lib.ListN.{getD};
+ghost use Rattle.tree.specs.Combine.{onRest};
+ghost use Rattle.definition.specs.Tree.{voidZero};
+ghost use Rattle.definition.specs.Scope.{findBinding};
+ghost use Rattle.definition.specs.Walk.{opening, deeper};
+ghost use Rattle.words.specs.Layout.{nodeOf, coreFrom, yes, tree};
+ghost use Rattle.scopes.specs.State.{Good, Becomes, stack, scopeKindOf};
+ghost use Rattle.nodes.specs.Nodes.{Planted, Child, treeFrom, valueFrom};
+ghost use Rattle.state.specs.State.{abs, Act};
+ghost use Rattle.ident_steps.specs.Steps.{Goes, analysisF, costly, testStack, Fated, Named, Held, Landed, swapF, valueF, constF, Restored};
+
+pub mod assign;
+
+use bindings::close;
+use look::ident_at;
+use look::is_undefined;
+use look::usage::add_read;
+use look::value_kind;
+use look::var_inline_prevented;
+use nodes::Step;
+use nodes::put_void;
+use nodes::replace_at;
+use nodes::skip;
+use nodes::unwrap;
+use records::Constant;
+use records::find_constant;
+use scopes::find_binding;
+use scopes::offset;
+use scopes::open;
+use scopes::prevent_inline;
+use state::set_changed;
+use state::set_conds;
+use state::set_in_test;
+use state::set_inlining;
+use state::set_pat_mode;
+use state::set_var_decl_kind;
+use words::form_at;
+
+// Where the next tree begins, or the number of a refusal.
+pub enum Next {
+    At(usize),
+    Refused(u32),
+}
+
+// What becomes of an identifier in Inlining: its value is so many nodes of the bindings' store, from the first one on.
+pub enum Found {
+    Nothing,
+    Void,
+    Value(usize, usize),
+}
+
+// Has x a binding whose value is no literal and no identifier.
+fn costly(w: &[u32], x: u8) -> bool
+    requires { ⌜ Good (now w) ⌝ }
+    ensures { λ r. ⌜ r ≡ costly (findBinding x (stack (now (w .entry)))) ⌝ }
+{
+    let k = find_binding(w, x);
+    if k == 0 {
+        return false;
+    }
+    let m = value_kind(w, k - 1);
+    if m == 22 {
+        return false;
+    }
+    m != 21
+}
+
+// A read of x in a test prevents a costly value.
+fn test_read(w: &mut [u32], x: u8)
+    requires { ⌜ Good (now w) ⌝ }
+    ensures { λ _. ⌜ Becomes (now (w .entry)) (now (w .exit)) (testStack (yes (getD (now (w .entry)) 10 0)) x (stack (now (w .entry)))) ⌝ }
+{
+    if w[10] == 0 {
+        return;
+    }
+    if costly(w, x) {
+        prevent_inline(w, x);
+    }
+}
+
+// The identifier at node i is read, in Analysis.
+pub fn ident_analysis(w: &mut [u32], i: usize)
+    requires { ⌜ (Planted (now w)) × (i < getD (now w) 0 0) × (nodeOf (now w) i .kind ≡ 21) ⌝ }
+    ensures { λ _. ⌜ Act (now (w .entry)) (now (w .exit)) 0 (analysisF i (abs (now (w .entry)))) ⌝ }
+{
+    let x = ident_at(w, i);
+    let f = form_at(w, i);
+    test_read(w, x);
+    add_read(w, x, f == 1);
+}
+
+// What becomes of the identifier at node i, in Inlining.
+pub fn fate(w: &[u32], i: usize) -> Found
+    requires { ⌜ (Planted (now w)) × (i < getD (now w) 0 0) × (nodeOf (now w) i .kind ≡ 21) ⌝ }
+    ensures { λ r. ⌜ Fated (now (w .entry)) i r ⌝ }
+{
+    let x = ident_at(w, i);
+    let k = find_binding(w, x);
+    if k == 0 {
+        return Found::Nothing;
+    }
+    if var_inline_prevented(w, k - 1) {
+        return Found::Nothing;
+    }
+    let m = w[4112 + (k - 1) * 10 + 8] as usize;
+    if 0 < m {
+        return Found::Value(offset(w, k - 1), m);
+    }
+    if is_undefined(w, k - 1) {
+        return Found::Void;
+    }
+    Found::Nothing
+}
+
+// Is the value at a place of the bindings' store the identifier at node i.
+fn same_ident(w: &[u32], i: usize, at: usize) -> bool
+    requires { ⌜ (Planted (now w)) × (i < getD (now w) 0 0) × (at < 512) ⌝ }
+    ensures { λ r. ⌜ r ≡ (eqb (coreFrom (now (w .entry)) (2064 + at * 2) .kind) 21 && eqb (coreFrom (now (w .entry)) (2064 + at * 2) .num) (nodeOf (now (w .entry)) i .num)) ⌝ }
+{
+    if w[2064 + at * 2] % 64 == 21 {
+        return w[2064 + at * 2 + 1] == w[16 + i * 2 + 1];
+    }
+    false
+}
+
+// The end of a replacement, whose tree ends before node j: marked as a change or not.
+fn landed(w: &mut [u32], j: usize, changed: bool) -> Next
+    requires { ⌜ Planted (now w) ⌝ }
+    ensures { λ r. ⌜ Landed (now (w .entry)) (now (w .exit)) j changed r ⌝ }
+{
+    if changed {
+        set_changed(w, 1);
+    }
+    Next::At(j)
+}
+
+// A recorded value takes the place of the identifier at node i, a change unless it is the same identifier.
+pub fn inline_value(w: &mut [u32], i: usize, p: u32, at: usize, m: usize) -> Next
+    requires { ⌜ (Planted (now w)) × (i < getD (now w) 0 0) × (p ≤ 201) × (Held (now w) 2064 at m) ⌝ }
+    ensures { λ r. ⌜ Goes (now (w .entry)) (now (w .exit)) r (valueF p (valueFrom (now (w .entry)) 2064 at m) i (abs (now (w .entry)))) ⌝ }
+{
+    let same = same_ident(w, i, at);
+    match replace_at(w, i, p, 2064, at, m) {
+        Step::Refused(n) => Next::Refused(n),
+        Step::Done => landed(w, i + m, !same),
+    }
+}
+
+// `void 0` takes the place of the identifier at node i: no change.
+pub fn inline_undefined(w: &mut [u32], i: usize, p: u32) -> Next
+    requires { ⌜ (Planted (now w)) × (i < getD (now w) 0 0) ⌝ }
+    ensures { λ r. ⌜ Goes (now (w .entry)) (now (w .exit)) r (swapF p voidZero i (abs (now (w .entry)))) ⌝ }
+{
+    match put_void(w, i, p) {
+        Step::Refused(n) => Next::Refused(n),
+        Step::Done => landed(w, i + 2, false),
+    }
+}
+
+// The constant that the identifier at node i names, in the first run.
+pub fn constant(w: &[u32], i: usize) -> Constant
+    requires { ⌜ (Planted (now w)) × (i < getD (now w) 0 0) × (nodeOf (now w) i .kind ≡ 21) ⌝ }
+    ensures { λ r. ⌜ Named (now (w .entry)) i r ⌝ }
+{
+    if w[7] == 0 {
+        return Constant::Unknown;
+    }
+    let x = ident_at(w, i);
+    find_constant(w, x)
+}
+
+// The value of a constant takes the place of the identifier at node i.
+pub fn inline_constant(w: &mut [u32], i: usize, p: u32, at: usize, m: usize) -> Next
+    requires { ⌜ (Planted (now w)) × (i < getD (now w) 0 0) × (p ≤ 201) × (Held (now w) 3088 at m) ⌝ }
+    ensures { λ r. ⌜ Goes (now (w .entry)) (now (w .exit)) r (constF p (valueFrom (now (w .entry)) 3088 at m) i (abs (now (w .entry)))) ⌝ }
+{
+    match replace_at(w, i, p, 3088, at, m) {
+        Step::Refused(n) => Next::Refused(n),
+        Step::Done => landed(w, i + m, true),
+    }
+}
+
+// The second child of node i, at node j, takes its place.
+fn lift_value(w: &mut [u32], i: usize, j: usize, p: u32) -> Next
+    requires { ⌜ (Planted (now w)) × (Child (tree (now w)) i 1 j) × (p ≤ 201) ⌝ }
+    ensures { λ r. ⌜ Goes (now (w .entry)) (now (w .exit)) r (swapF p (treeFrom (tree (now (w .entry))) j) i (abs (now (w .entry)))) ⌝ }
+{
+    let m = skip(w, j) - j;
+    match unwrap(w, i, j, p) {
+        Step::Refused(n) => Next::Refused(n),
+        Step::Done => Next::At(i + m),
+    }
+}
+
+// Opens a scope of a kind, in which a declaration is of `var`.
+pub fn enter(w: &mut [u32], kind: u32) -> u32
+    requires { ⌜ Planted (now w) ⌝ }
+    ensures { λ r. ⌜ Act (now (w .entry)) (now (w .exit)) r (onRest (opening (scopeKindOf kind)) (abs (now (w .entry)))) ⌝ }
+{
+    if 32 <= w[2] {
+        return 8;
+    }
+    open(w, kind);
+    set_var_decl_kind(w, 1);
+    0
+}
+
+// Closes the innermost scope, and gives the visitor back the fields that it had before.
+pub fn leave(w: &mut [u32], inl: u32, decl: u32, mode: u32, test: u32)
+    requires { ⌜ Planted (now w) ⌝ }
+    ensures { λ _. ⌜ Restored (now (w .entry)) (now (w .exit)) inl decl mode test ⌝ }
+{
+    close(w);
+    set_inlining(w, inl);
+    set_var_decl_kind(w, decl);
+    set_pat_mode(w, mode);
+    set_in_test(w, test);
+}
+
+// One more right side is open in its Cond scope.
+pub fn deeper(w: &mut [u32]) -> u32
+    requires { ⌜ Planted (now w) ⌝ }
+    ensures { λ r. ⌜ Act (now (w .entry)) (now (w .exit)) r (onRest deeper (abs (now (w .entry)))) ⌝ }
+{
+    let n = w[11];
+    if 12 <= n {
+        return 8;
+    }
+    set_conds(w, n + 1);
+    0
+}
