@@ -1,17 +1,17 @@
 -- What the look-ups answer, in terms of the words and of the stack that they stand for. Assumes nothing: these are definitions.
-use mathlib.Core.List.{List, [], _∷_}
+use mathlib.Core.List.{List, [], _∷_, map}
 use mathlib.Core.Option.{Option, none, some}
 use mathlib.Core.Path.{_≡_}
-use mathlib.Core.Bool.{Bool, false, _||_}
+use mathlib.Core.Bool.{Bool, true, false, _||_}
 use Prim.Native.Nat.{ℕ, zero, suc, _+_, _*_, _-_, _≤_, _<_}
 use lib.ListN.{getD, drop}
 use lib.Dec.{ltb}
 use Rattle.tree.specs.Base.{pick}
 use Rattle.tree.specs.Tree.{Tree, kind, plant, firstT}
-use Rattle.definition.specs.Scope.{VarInfo, Scope, Stack, findIn, idxVal, isHoistedPrevented}
+use Rattle.definition.specs.Scope.{VarInfo, Scope, Stack, isFn, findIn, idxVal, isHoistedPrevented, preventParam}
 use Rattle.words.specs.Tab.{tab}
 use Rattle.words.specs.Layout.{tree}
-use Rattle.scopes.specs.State.{bindAt, constAt, headAt, headsAt, scopeOf, split, indexIn}
+use Rattle.scopes.specs.State.{bindAt, constAt, Head, headAt, headsAt, scopeOf, split, indexIn}
 
 -- where the bindings and the constants of scope k begin; behind the last scope, where they end
 unfoldable pub first : List ℕ → ℕ → ℕ
@@ -75,3 +75,14 @@ held x (s ∷ st) = s .unresolvedUsages x || (isHoistedPrevented (findIn x (s .b
 abbrev pub barsHere : Stack → ℕ → Bool
 barsHere [] j = false
 barsHere (s ∷ st) j = s .inlineBarriers j
+
+-- where the bindings of the nearest function begin, outwards
+abbrev pub fnStart : List Head → ℕ
+fnStart [] = 0
+fnStart (h ∷ hs) = elim (isFn (h .kind)) [ true ↦ h .start | false ↦ fnStart hs ]
+
+-- the parameters prevented, from place n on
+abbrev pub paramsFrom : ℕ → List VarInfo → List VarInfo
+paramsFrom zero bs = map preventParam bs
+paramsFrom (suc n) [] = []
+paramsFrom (suc n) (b ∷ bs) = b ∷ paramsFrom n bs

@@ -13,6 +13,10 @@ ghost use Rattle.words.specs.Layout.{nodeOf};
 ghost use Rattle.scopes.specs.State.{Good, stack, bindAt, varTypeOf};
 ghost use Rattle.look.specs.Look.{first, cfirst, scopeAt, below, atPlace, FoundIn, idxHere, idxAt, readsO, kindO, nodeTree, held, barsHere};
 ghost use Rattle.look.specs.Answers.{countOf};
+
+pub mod mark;
+pub mod usage;
+
 use scopes::find_binding;
 use scopes::find_in;
 use scopes::offset;
@@ -24,6 +28,12 @@ use words::num_at;
 pub enum Count {
     Nothing,
     Reads(u32),
+}
+
+// A step that may pass a limit: made, or refused with document 01's number.
+pub enum Step {
+    Done,
+    Refused(u32),
 }
 
 // scope_for: is the identifier bound in the scope found, and is that the current one.

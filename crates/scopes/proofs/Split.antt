@@ -195,12 +195,12 @@ find-split i (h ∷ hs) fl bs cs =
     (λ e. ap (λ (o : Option VarInfo). orElse o rest) (in-none i (drop a bs) e) ∙ find-split i hs (take a fl) (take a bs) (take (h .cstart) cs) ∙ rw (place-no i h hs bs e) (at-take (place i hs (take a bs)) a bs (place-le i hs (take a bs))))
 
 -- prevent_inline
-map-drop : (f : VarInfo → VarInfo) (n : ℕ) (bs : List VarInfo) → drop n (map f bs) ≡ map f (drop n bs)
+pub map-drop : (f : VarInfo → VarInfo) (n : ℕ) (bs : List VarInfo) → drop n (map f bs) ≡ map f (drop n bs)
 map-drop f zero bs = refl
 map-drop f (suc n) [] = refl
 map-drop f (suc n) (b ∷ bs) = map-drop f n bs
 
-map-take : (f : VarInfo → VarInfo) (n : ℕ) (bs : List VarInfo) → take n (map f bs) ≡ map f (take n bs)
+pub map-take : (f : VarInfo → VarInfo) (n : ℕ) (bs : List VarInfo) → take n (map f bs) ≡ map f (take n bs)
 map-take f zero bs = refl
 map-take f (suc n) [] = refl
 map-take f (suc n) (b ∷ bs) = ap (λ (l : List VarInfo). f b ∷ l) (map-take f n bs)
