@@ -14,7 +14,7 @@ use Rattle.scopes.specs.State.{Good, Becomes, bindAt, binds, consts, heads, sta
 use Rattle.scopes.proofs.Words.{bind-eq}
 use Rattle.records.specs.Steps.{Listed, refill}
 use Rattle.records.proofs.Count.{length-binds}
-use Rattle.records.proofs.Listed.{bind-there, change-at, putAt, listed-then, listed-becomes}
+use Rattle.records.proofs.Listed.{bind-there, change-at, listed-then, listed-becomes}
 use Rattle.bindings.specs.Hoist.{recordAt, hoistOne, hoistUp, Own}
 use Rattle.bindings.proofs.Top.{putTop, put-there, put-absent, unresTop}
 

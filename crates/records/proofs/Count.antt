@@ -45,7 +45,7 @@ nodesB b = countO (b .value)
 abbrev pub nodesC : ℕ × Option Tree → ℕ
 nodesC c = countO (c .1)
 
-values-in : (bs : List VarInfo) → valuesIn bs ≡ total nodesB bs
+pub values-in : (bs : List VarInfo) → valuesIn bs ≡ total nodesB bs
 values-in [] = refl
 values-in (b ∷ bs) = ap (λ (n : ℕ). nodesB b + n) (values-in bs)
 
