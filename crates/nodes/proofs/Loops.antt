@@ -49,11 +49,11 @@ module _ {xs : List Core} (w : Whole xs) {at n : ℕ} (o : Open xs at n) (z : 0 
       let q : Whole (x ∷ drop (at + 1) xs) = rw here at (whole-drop at xs w) in
       record { trees = omega (arith, length-dropF (x .arity) us, q .0) }
 
-  forest-here : forestFrom xs n at ≡ cons (node (x .kind) (x .form) (x .num) (takeF (x .arity) us)) (takeF (n - 1) (dropF (x .arity) us))
+  pub forest-here : forestFrom xs n at ≡ cons (node (x .kind) (x .form) (x .num) (takeF (x .arity) us)) (takeF (n - 1) (dropF (x .arity) us))
   unfolding forestFrom
   forest-here = let e : n ≡ suc (n - 1) = omega arith in ap (λ (k : ℕ). takeF k (plant (drop at xs))) e ∙ rw here refl
 
-  forest-next : forestFrom xs (n - 1 + x .arity) (at + 1) ≡ appendF (takeF (x .arity) us) (takeF (n - 1) (dropF (x .arity) us))
+  pub forest-next : forestFrom xs (n - 1 + x .arity) (at + 1) ≡ appendF (takeF (x .arity) us) (takeF (n - 1) (dropF (x .arity) us))
   unfolding forestFrom
   forest-next = let e : n - 1 + x .arity ≡ x .arity + (n - 1) = omega arith in rw e (take-add (x .arity) (n - 1) us)
 
@@ -87,7 +87,7 @@ module _ {xs : List Core} (w : Whole xs) {at n : ℕ} (o : Open xs at n) (z : 0 
   pub open-past : Open xs next (n - 1)
   open-past = record { trees = rw behind (omega (arith, length-dropF 1 (plant (drop at xs)))) }
 
-  forest-past : forestFrom xs (n - 1) next ≡ takeF (n - 1) (dropF (x .arity) us)
+  pub forest-past : forestFrom xs (n - 1) next ≡ takeF (n - 1) (dropF (x .arity) us)
   unfolding forestFrom
   forest-past = ap (takeF (n - 1)) (behind ∙ rw here refl)
 

@@ -1,0 +1,114 @@
+// What an assignment writes and records.
+ghost use mathlib.Core.Path.{_≡_};
+ghost use lib.ListN.{getD, drop};
+ghost use Prim.Native.Nat.{_<_, _≤_};
+ghost use Rattle.tree.specs.Tree.{lengthF, plant};
+ghost use Rattle.tree.specs.Combine.{onRest, treeAt, actF};
+ghost use Rattle.definition.specs.Walk.{storeValue, assignFirst, assignLast};
+ghost use Rattle.words.specs.Layout.{tree, nodeOf};
+ghost use Rattle.nodes.specs.Nodes.{Planted};
+ghost use Rattle.state.specs.State.{abs, Act};
+ghost use Rattle.write_steps.specs.Answers.{numberOf, Kept};
+use super::write_name;
+use super::write_trees;
+use look::ident_at;
+use look::is_inline_prevented;
+use look::var_inline_prevented;
+use nodes::skip;
+use records::Step;
+use records::record_value;
+use scopes::find_binding;
+use scopes::prevent_inline;
+use words::kind_at;
+
+// Document 01's number of a refusal, 0 where there is none.
+fn number(s: Step) -> u32
+    ensures { λ r. ⌜ r ≡ numberOf s ⌝ }
+{
+    match s {
+        Step::Done => 0,
+        Step::Refused(n) => n,
+    }
+}
+
+// Before the walk of an assignment's value: f is the assignment's form. A plain `=` to a name is not forced.
+pub fn assign_first(w: &mut [u32], f: u32, n: usize, i: usize) -> u32
+    requires { ⌜ (Planted (now w)) × (n ≤ lengthF (plant (drop i (tree (now w))))) ⌝ }
+    ensures { λ r. ⌜ Act (now (w .entry)) (now (w .exit)) r (actF (assignFirst f) n i (abs (now (w .entry)))) ⌝ }
+{
+    if n == 0 {
+        return 0;
+    }
+    if f != 0 {
+        return write_trees(w, n, i, true);
+    }
+    let k = kind_at(w, i);
+    let r = write_trees(w, n, i, false);
+    if r != 0 {
+        return r;
+    }
+    if k == 20 {
+        return 0;
+    }
+    write_trees(w, n, i, true)
+}
+
+// How many nodes of the value at j are recorded: all, if it is a literal or an identifier, else none.
+fn kept_nodes(w: &[u32], j: usize) -> usize
+    requires { ⌜ (Planted (now w)) × (j < getD (now w) 0 0) ⌝ }
+    ensures { λ m. ⌜ Kept (now (w .entry)) j m ⌝ }
+{
+    let k = kind_at(w, j);
+    if k == 22 {
+        return skip(w, j) - j;
+    }
+    if k == 21 {
+        return skip(w, j) - j;
+    }
+    0
+}
+
+// The value at j is recorded for the name at i, unless its binding is prevented.
+fn store_value(w: &mut [u32], i: usize, j: usize) -> u32
+    requires { ⌜ (Planted (now w)) × (i < getD (now w) 0 0) × (j < getD (now w) 0 0) × (nodeOf (now w) i .kind ≡ 20) ⌝ }
+    ensures { λ r. ⌜ Act (now (w .entry)) (now (w .exit)) r (onRest (storeValue (treeAt (abs (now (w .entry))) i) (treeAt (abs (now (w .entry))) j)) (abs (now (w .entry)))) ⌝ }
+{
+    let x = ident_at(w, i);
+    let k = find_binding(w, x);
+    if k == 0 {
+        return 0;
+    }
+    if var_inline_prevented(w, k - 1) {
+        return 0;
+    }
+    let m = kept_nodes(w, j);
+    let s = record_value(w, x, j, m);
+    number(s)
+}
+
+// After the walk of an assignment's value, if the target is a name: it is prevented if the value is, else written, and the value recorded.
+pub fn assign_last(w: &mut [u32], n: usize, i: usize) -> u32
+    requires { ⌜ (Planted (now w)) × (n ≤ lengthF (plant (drop i (tree (now w))))) ⌝ }
+    ensures { λ r. ⌜ Act (now (w .entry)) (now (w .exit)) r (actF assignLast n i (abs (now (w .entry)))) ⌝ }
+{
+    if n == 0 {
+        return 0;
+    }
+    if kind_at(w, i) != 20 {
+        return 0;
+    }
+    if n == 1 {
+        return write_name(w, i, false);
+    }
+    let j = skip(w, i);
+    if is_inline_prevented(w, j) {
+        let x = ident_at(w, i);
+        prevent_inline(w, x);
+        return 0;
+    }
+    let r = write_name(w, i, false);
+    if r != 0 {
+        return r;
+    }
+    store_value(w, i, j)
+}

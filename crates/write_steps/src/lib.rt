@@ -1,0 +1,162 @@
+// Leaf steps of the walks: names written, marked, declared and stored. Each contract names the walk's own action.
+ghost use mathlib.Core.Path.{_≡_};
+ghost use mathlib.Core.Bool.{true, not, _&&_};
+ghost use mathlib.Core.Logic.{_⊎_};
+ghost use mathlib.Core.Option.{some};
+ghost use lib.Dec.{eqb};
+ghost use lib.ListN.{getD, drop};
+ghost use Prim.Native.Nat.{_<_, _≤_};
+ghost use Rattle.tree.specs.Tree.{kids, lengthF, plant};
+ghost use Rattle.tree.specs.Combine.{onRest, act, actF};
+ghost use Rattle.definition.specs.Scope.{preventInline, markThisSensitive, identOf};
+ghost use Rattle.definition.specs.Walk.{when, mark, write, writeTree, writeForest, butLast, storeInlineBarrierM};
+ghost use Rattle.words.specs.Layout.{tree, nodeOf};
+ghost use Rattle.look.specs.Answers.{isName, refusal};
+ghost use Rattle.nodes.specs.Nodes.{Planted};
+ghost use Rattle.state.specs.State.{abs, Act};
+
+pub mod assign;
+
+use look::Step;
+use look::ident_at;
+use look::mark::mark_this_sensitive;
+use look::mark::store_inline_barrier;
+use look::usage::add_write;
+use nodes::skip;
+use scopes::prevent_inline;
+use words::arity_at;
+use words::form_at;
+use words::kind_at;
+
+// Document 01's number of a refusal, 0 where there is none.
+fn number(s: Step) -> u32
+    ensures { λ r. ⌜ r ≡ refusal s ⌝ }
+{
+    match s {
+        Step::Done => 0,
+        Step::Refused(n) => n,
+    }
+}
+
+// Is node i a binding or an identifier.
+fn is_name(w: &[u32], i: usize) -> bool
+    requires { ⌜ (Planted (now w)) × (i < getD (now w) 0 0) ⌝ }
+    ensures { λ r. ⌜ r ≡ isName (nodeOf (now (w .entry)) i) ⌝ }
+{
+    let k = kind_at(w, i);
+    if k == 20 {
+        return true;
+    }
+    k == 21
+}
+
+// The name at node i is written, forced or not.
+pub fn write_name(w: &mut [u32], i: usize, force: bool) -> u32
+    requires { ⌜ (Planted (now w)) × (i < getD (now w) 0 0) × ((nodeOf (now w) i .kind ≡ 20) ⊎ (nodeOf (now w) i .kind ≡ 21)) ⌝ }
+    ensures { λ r. ⌜ Act (now (w .entry)) (now (w .exit)) r (act (write force) i (abs (now (w .entry)))) ⌝ }
+{
+    let x = ident_at(w, i);
+    let f = form_at(w, i);
+    let s = add_write(w, x, f == 1, force);
+    number(s)
+}
+
+// IdentListVisitor (forced) and WriteVisitor (not) of n trees from i on: `more` trees are open, and a name's own nodes are passed.
+pub fn write_trees(w: &mut [u32], n: usize, i: usize, force: bool) -> u32
+    requires { ⌜ (Planted (now w)) × (n ≤ lengthF (plant (drop i (tree (now w))))) ⌝ }
+    ensures { λ r. ⌜ Act (now (w .entry)) (now (w .exit)) r (actF (writeForest force) n i (abs (now (w .entry)))) ⌝ }
+{
+    let mut at = i;
+    let mut more = n;
+    while 0 < more {
+        if is_name(w, at) {
+            let r = write_name(w, at, force);
+            if r != 0 {
+                return r;
+            }
+            at = skip(w, at);
+            more -= 1;
+        } else {
+            more = more - 1 + arity_at(w, at) as usize;
+            at += 1;
+        }
+    }
+    0
+}
+
+// The names of the tree at i.
+pub fn write_tree(w: &mut [u32], i: usize, force: bool) -> u32
+    requires { ⌜ (Planted (now w)) × (i < getD (now w) 0 0) ⌝ }
+    ensures { λ r. ⌜ Act (now (w .entry)) (now (w .exit)) r (act (writeTree force) i (abs (now (w .entry)))) ⌝ }
+{
+    write_trees(w, 1, i, force)
+}
+
+// The names of all but the last of n trees.
+pub fn write_but_last(w: &mut [u32], n: usize, i: usize, force: bool) -> u32
+    requires { ⌜ (Planted (now w)) × (n ≤ lengthF (plant (drop i (tree (now w))))) ⌝ }
+    ensures { λ r. ⌜ Act (now (w .entry)) (now (w .exit)) r (actF (λ ts. writeForest force (butLast ts)) n i (abs (now (w .entry)))) ⌝ }
+{
+    if n == 0 {
+        return 0;
+    }
+    write_trees(w, n - 1, i, force)
+}
+
+// The names below node i, forced.
+pub fn write_kids(w: &mut [u32], i: usize) -> u32
+    requires { ⌜ (Planted (now w)) × (i < getD (now w) 0 0) ⌝ }
+    ensures { λ r. ⌜ Act (now (w .entry)) (now (w .exit)) r (act (λ t. writeForest true (kids t)) i (abs (now (w .entry)))) ⌝ }
+{
+    let n = arity_at(w, i) as usize;
+    write_trees(w, n, i + 1, true)
+}
+
+// The same but for its last child.
+pub fn write_kids_but_last(w: &mut [u32], i: usize) -> u32
+    requires { ⌜ (Planted (now w)) × (i < getD (now w) 0 0) ⌝ }
+    ensures { λ r. ⌜ Act (now (w .entry)) (now (w .exit)) r (act (λ t. writeForest true (butLast (kids t))) i (abs (now (w .entry)))) ⌝ }
+{
+    let n = arity_at(w, i) as usize;
+    write_but_last(w, n, i + 1, true)
+}
+
+// What `this` is matters to the callee at i, if it is an identifier; in Analysis.
+pub fn mark_callee(w: &mut [u32], i: usize)
+    requires { ⌜ (Planted (now w)) × (i < getD (now w) 0 0) ⌝ }
+    ensures { λ _. ⌜ Act (now (w .entry)) (now (w .exit)) 0 (act (λ c s. when (not (s .inlining)) (mark (markThisSensitive (identOf (some c)))) s) i (abs (now (w .entry)))) ⌝ }
+{
+    if w[6] != 0 {
+        return;
+    }
+    if kind_at(w, i) != 21 {
+        return;
+    }
+    let x = ident_at(w, i);
+    mark_this_sensitive(w, x);
+}
+
+// The parameter of a catch clause is prevented, in Analysis: k and x are its kind and number before its walk.
+pub fn mark_caught(w: &mut [u32], k: u32, x: u32)
+    requires { ⌜ (Planted (now w)) × (k ≡ 20 → x < 256) ⌝ }
+    ensures { λ _. ⌜ Act (now (w .entry)) (now (w .exit)) 0 (onRest (λ s. when (eqb k 20 && not (s .inlining)) (mark (preventInline x)) s) (abs (now (w .entry)))) ⌝ }
+{
+    if k != 20 {
+        return;
+    }
+    if w[6] != 0 {
+        return;
+    }
+    prevent_inline(w, x as u8);
+}
+
+// A barrier in every open scope, in Analysis.
+pub fn store_barrier(w: &mut [u32])
+    requires { ⌜ Planted (now w) ⌝ }
+    ensures { λ _. ⌜ Act (now (w .entry)) (now (w .exit)) 0 (onRest storeInlineBarrierM (abs (now (w .entry)))) ⌝ }
+{
+    if w[6] != 0 {
+        return;
+    }
+    store_inline_barrier(w);
+}
