@@ -246,7 +246,7 @@ def grown(rng, kind, depth, names):
 
 
 def good_files(rng):
-    """Random readable files, and those of the stored vectors."""
+    """Random readable files."""
     files = []
     while len(files) < 300:
         names = [b"arguments", b"", b"f", b"g", b"high", "ufer\u00e4".encode()][:rng.randrange(1, 7)]
@@ -255,13 +255,18 @@ def good_files(rng):
             files.append(pack(nodes, names))
     # 256 identifiers, some of them again: one changed context is row 7's
     full = statement(tree(27, *[tree(21, bits=i % 256) for i in range(500)]))
-    files += [pack(full, [b"x"])] * 20
+    return files + [pack(full, [b"x"])] * 20
+
+
+def vectors():
+    """The files of the stored vectors, with the original's refusal 2 to 7, or 0."""
     here = os.path.dirname(os.path.abspath(__file__))
     for path in sorted(glob.glob(os.path.join(here, "vectors", "*.txt"))):
         with open(path, encoding="utf-8") as f:
-            lines = [line.split() for line in f if line.startswith("file ")]
-        files += [bytes.fromhex(words[1]) for words in lines[:1000] if len(words) == 2]
-    return files
+            blocks = f.read().split("\n\n")
+        for file, _, answer in (b.split("\n")[:3] for b in blocks if b.strip()):
+            row = int(answer.split()[1]) if answer.startswith("refused ") else 0
+            yield bytes.fromhex(file[4:]), row if row < 8 else 0
 
 
 def damage(rng, file):
@@ -292,14 +297,15 @@ def damage(rng, file):
 
 
 def damaged(cases):
+    """Readable files and those of the vectors, with and without room, and damaged copies of both."""
     rng = random.Random(SEED)
-    files = good_files(rng)
-    for i, file in enumerate(files):
-        cases.add("good file %d" % i, file)
-        cases.add("good file %d, no room" % i, file, room=max(0, len(file) - 1))
+    files = [(f, 0) for f in good_files(rng)] + list(vectors())
+    for i, (file, want) in enumerate(files):
+        cases.add("file %d" % i, file, want)
+        cases.add("file %d, no room" % i, file, want or 10, room=max(0, len(file) - 1))
     for i in range(DAMAGED):
-        file = damage(rng, rng.choice(files))
-        cases.add("damaged file %d" % i, file, room=len(file) + rng.choice((-1, 0, 0, 1, 5)) if file else 0, words=rng.choice((WORDS_LEAST, WORDS_LEAST, WORDS_LEAST + 7)))
+        file = damage(rng, rng.choice(files)[0])
+        cases.add("damaged file %d" % i, file, room=max(0, len(file) + rng.choice((-1, 0, 0, 1, 5))), words=rng.choice((WORDS_LEAST, WORDS_LEAST, WORDS_LEAST + 7)))
 
 
 def expected(file, room, words):
