@@ -157,7 +157,20 @@ fn declare_bare(w: &mut [u32], x: u8, undefined: bool, kind: VarType) -> Step
 {
     let p = should_prevent_inline_because_of_scope(w, x);
     let looped = in_loop(w);
-    declare_with(w, x, Init::NoInit, 0, 0, p, undefined, kind, Alias::NoAlias, looped, false, x)
+    declare_with(
+        w,
+        x,
+        Init::NoInit,
+        0,
+        0,
+        p,
+        undefined,
+        kind,
+        Alias::NoAlias,
+        looped,
+        false,
+        x,
+    )
 }
 
 // declare with the tree at i as its init, which is no identifier.
@@ -168,7 +181,20 @@ fn declare_value(w: &mut [u32], x: u8, v: Init, i: usize, undefined: bool, kind:
     let m = skip(w, i) - i;
     let p = prevented_at(w, x, i);
     let looped = in_loop(w);
-    declare_with(w, x, v, i, m, p, undefined, kind, Alias::NoAlias, looped, false, x)
+    declare_with(
+        w,
+        x,
+        v,
+        i,
+        m,
+        p,
+        undefined,
+        kind,
+        Alias::NoAlias,
+        looped,
+        false,
+        x,
+    )
 }
 
 // declare with the identifier at i as its init.

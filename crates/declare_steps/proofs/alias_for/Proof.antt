@@ -22,19 +22,25 @@ use Rattle.declare_steps.proofs.alias_for.Lts as lts
 use Rattle.declare_steps.proofs.type_of.Reads as type-of-reads
 use Rattle.look.proofs.find_binding_from_current.Reads as find-binding-from-current-reads
 use Rattle.look.proofs.var_type.Reads as var-type-reads
+
 find-binding-from-current-requires : tie.Need-find-binding-from-current-requires
 find-binding-from-current-requires c κs = search needs
+
 returns : tie.Need-returns
 returns c =
     let at-find-binding-from-current = c .before in
     let at-entry = at-find-binding-from-current .before .before in
     sym (init.alias-find (at-entry .args .y) (stack (at-entry .args .w .now)) ∙ ap init.kindOfO (at-find-binding-from-current .find-binding-from-current .ensures .0 ∙ ap (λ (r : ℕ). atPlace (at-entry .args .w .now) r) (c .if1 .taken)))
+
 sub-var-type : tie.Need-sub-var-type
 sub-var-type c = search needs
+
 var-type-requires : tie.Need-var-type-requires
 var-type-requires c κs = search needs
+
 type-of-requires : tie.Need-type-of-requires
 type-of-requires c κs = search needs
+
 returns-2 : tie.Need-returns-2
 returns-2 c =
     let at-var-type = c .before in

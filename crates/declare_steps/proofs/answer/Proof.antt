@@ -12,12 +12,16 @@ use Rattle.declare_steps.proofs.answer.Statement.{statement}
 use Rattle.declare_steps.proofs.answer.Tie as tie
 use Rattle.declare_steps.proofs.answer.Reads as reads
 use Rattle.declare_steps.proofs.answer.Lts as lts
+
 enum-told : tie.Need-enum-told
 enum-told c = search needs
+
 enum-known-r : tie.Need-enum-known-r
 enum-known-r c = search needs
+
 returns : tie.Need-returns
 returns c = λ s. rw (c .enum-told .given .1) refl
+
 returns-2 : tie.Need-returns-2
 returns-2 c =
     let at-r = c .before in

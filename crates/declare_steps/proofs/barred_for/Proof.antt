@@ -19,16 +19,20 @@ use Rattle.declare_steps.proofs.barred_for.Reads as reads
 use Rattle.declare_steps.proofs.barred_for.Lts as lts
 use Rattle.declare_steps.proofs.barred_here.Reads as barred-here-reads
 use Rattle.declare_steps.proofs.works_with.Reads as works-with-reads
+
 works-with-requires : tie.Need-works-with-requires
 works-with-requires c κs = search needs
+
 barred-here-requires : tie.Need-barred-here-requires
 barred-here-requires c κs = search needs
+
 returns : tie.Need-returns
 returns c =
     let at-if1 = c .before in
     let at-works-with = at-if1 .before in
     let at-entry = at-works-with .before .before in
     c .barred-here .ensures ∙ sym (ap (λ (b : Bool). b && barredHere (at-entry .args .x) (at-entry .args .y) (stack (at-entry .args .w .now))) (sym (at-works-with .works-with .ensures) ∙ at-if1 .if1 .taken))
+
 returns-2 : tie.Need-returns-2
 returns-2 c =
     let at-works-with = c .before in

@@ -23,19 +23,25 @@ use Rattle.declare_steps.proofs.barred_here.Lts as lts
 use Rattle.declare_steps.proofs.place_here.Reads as place-here-reads
 use Rattle.look.proofs.barred.Reads as barred-reads
 use Rattle.look.proofs.idx_val.Reads as idx-val-reads
+
 idx-val-requires : tie.Need-idx-val-requires
 idx-val-requires c κs = search needs
+
 returns : tie.Need-returns
 returns c =
     let at-idx-val = c .before in
     let at-entry = at-idx-val .before .before in
     sym (ap (λ (o : Option (ℕ × VarInfo)). barred o (placeHere (at-entry .args .x) (stack (at-entry .args .w .now))) (barsHere (stack (at-entry .args .w .now)))) (at-idx-val .idx-val .ensures ∙ init.idx-none (at-entry .args .w .now) (at-idx-val .idx-val .result) (c .if1 .taken)))
+
 place-here-requires : tie.Need-place-here-requires
 place-here-requires c κs = search needs
+
 sub-barred : tie.Need-sub-barred
 sub-barred c = search needs
+
 barred-requires : tie.Need-barred-requires
 barred-requires c κs = search needs
+
 returns-2 : tie.Need-returns-2
 returns-2 c =
     let at-place-here = c .before in

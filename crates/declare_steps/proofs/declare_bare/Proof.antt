@@ -21,17 +21,22 @@ use Rattle.declare_steps.proofs.declare_bare.Lts as lts
 use Rattle.bindings.proofs.declare_with.Reads as declare-with-reads
 use Rattle.look.proofs.in_loop.Reads as in-loop-reads
 use Rattle.look.proofs.should_prevent_inline_because_of_scope.Reads as should-prevent-inline-because-of-scope-reads
+
 should-prevent-inline-because-of-scope-requires :
     tie.Need-should-prevent-inline-because-of-scope-requires
 should-prevent-inline-because-of-scope-requires c κs = search needs
+
 in-loop-requires : tie.Need-in-loop-requires
 in-loop-requires c κs = search needs
+
 declare-with-requires : tie.Need-declare-with-requires
 declare-with-requires c κs =
     let at-entry = c .before .before .before .before .before .before in
     (at-entry .pre .good, omega arith, init.none-one (at-entry .args .w .now), refl)
+
 same-length : tie.Need-same-length
 same-length c = search needs
+
 returns : tie.Need-returns
 returns c =
     let at-declare-with = c .before .before in

@@ -24,12 +24,16 @@ use Rattle.declare_steps.proofs.declare_m.Reads as reads
 use Rattle.declare_steps.proofs.declare_m.Lts as lts
 use Rattle.declare_steps.proofs.declare.Reads as declare-reads
 use Rattle.declare_steps.proofs.undefined_now.Reads as undefined-now-reads
+
 undefined-now-requires : tie.Need-undefined-now-requires
 undefined-now-requires c κs = search needs
+
 declare-requires : tie.Need-declare-requires
 declare-requires c κs = search needs
+
 same-length : tie.Need-same-length
 same-length c = search needs
+
 returns : tie.Need-returns
 returns c =
     let at-declare = c .before .before in

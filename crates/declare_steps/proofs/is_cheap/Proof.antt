@@ -18,15 +18,19 @@ use Rattle.declare_steps.proofs.is_cheap.Tie as tie
 use Rattle.declare_steps.proofs.is_cheap.Reads as reads
 use Rattle.declare_steps.proofs.is_cheap.Lts as lts
 use Rattle.words.proofs.kind_at.Reads as kind-at-reads
+
 kind-at-requires : tie.Need-kind-at-requires
 kind-at-requires c κs = search needs
+
 returns : tie.Need-returns
 returns c =
     let at-kind-at = c .before in
     let at-entry = at-kind-at .before .before in
     sym (ap (λ (n : ℕ). eqb n 22 || eqb n 21) (init.from-kind (at-entry .args .w .now) (at-entry .args .i) (at-entry .pre .1) ∙ sym (at-kind-at .kind-at .ensures) ∙ c .if1 .taken))
+
 kind-at-requires-2 : tie.Need-kind-at-requires-2
 kind-at-requires-2 c κs = search needs
+
 returns-2 : tie.Need-returns-2
 returns-2 c =
     let at-if1 = c .before in

@@ -18,8 +18,10 @@ use Rattle.declare_steps.proofs.is_ident.Tie as tie
 use Rattle.declare_steps.proofs.is_ident.Reads as reads
 use Rattle.declare_steps.proofs.is_ident.Lts as lts
 use Rattle.words.proofs.kind_at.Reads as kind-at-reads
+
 kind-at-requires : tie.Need-kind-at-requires
 kind-at-requires c κs = search needs
+
 returns : tie.Need-returns
 returns c =
     let at-entry = c .before .before in

@@ -38,37 +38,45 @@ use Rattle.declare_steps.proofs.answer.Reads as answer-reads
 use Rattle.declare_steps.proofs.over_none.Reads as over-none-reads
 use Rattle.declare_steps.proofs.over_some.Reads as over-some-reads
 use Rattle.nodes.proofs.skip.Reads as skip-reads
+
 over-none-requires : tie.Need-over-none-requires
 over-none-requires c κs =
     let at-entry = c .before .before .before in
     at-entry .pre .0
+
 answer-requires : tie.Need-answer-requires
 answer-requires c κs = search needs
+
 same-length : tie.Need-same-length
 same-length c =
     let at-over-none = c .before .before .before in
     at-over-none .over-none .kept .0
+
 returns : tie.Need-returns
 returns c =
     let at-over-none = c .before .before .before in
     let at-if1 = at-over-none .before .before in
     let at-entry = at-if1 .before .before in
     acts.moves-by (parts.over-one (at-entry .args .x) (at-entry .args .n) (at-entry .args .i) (tree (at-entry .args .w .now)) (rest (at-entry .args .w .now)) (at-if1 .if1 .taken)) (acts.moves-answer (at-over-none .over-none .result) false (c .answer .result) (at-over-none .over-none .ensures) (c .answer .ensures))
+
 skip-requires : tie.Need-skip-requires
 skip-requires c κs =
     let at-if1 = c .before in
     let at-entry = at-if1 .before .before in
     (at-entry .pre .0, parts.some-trees (at-entry .args .w .now) (at-entry .args .i) (omega (arith, at-entry .pre .1, at-if1 .if1)))
+
 over-some-requires : tie.Need-over-some-requires
 over-some-requires c κs =
     let at-skip = c .before in
     let at-if1 = at-skip .before .before in
     let at-entry = at-if1 .before .before in
     (at-entry .pre .0, parts.second-in (at-entry .pre .0) (at-entry .args .n) (at-entry .args .i) (at-skip .skip .result) (at-entry .pre .1) (omega (arith, at-if1 .if1)) (at-skip .skip .ensures .0))
+
 same-length-2 : tie.Need-same-length-2
 same-length-2 c =
     let at-over-some = c .before .before in
     at-over-some .over-some .kept .0
+
 returns-2 : tie.Need-returns-2
 returns-2 c =
     let at-over-some = c .before .before in

@@ -29,18 +29,24 @@ use Rattle.declare_steps.proofs.over_none.Reads as reads
 use Rattle.declare_steps.proofs.over_none.Lts as lts
 use Rattle.declare_steps.proofs.declare_m.Reads as declare-m-reads
 use Rattle.declare_steps.proofs.type_of.Reads as type-of-reads
+
 slice-read-k : tie.Need-slice-read-k
 slice-read-k c = search needs
+
 returns : tie.Need-returns
 returns c =
     let at-entry = c .before .before .before in
     acts.moves-by (parts.none-const (at-entry .args .x) (rest (at-entry .args .w .now)) (ap isConst (parts.rest-kind (at-entry .args .w .now)) ∙ init.const-yes (getD (at-entry .args .w .now) 8 0) (omega (arith, c .if1)))) (acts.moves-self (at-entry .pre) tt)
+
 type-of-requires : tie.Need-type-of-requires
 type-of-requires c κs = search needs
+
 declare-m-requires : tie.Need-declare-m-requires
 declare-m-requires c κs = search needs
+
 same-length : tie.Need-same-length
 same-length c = search needs
+
 returns-2 : tie.Need-returns-2
 returns-2 c =
     let at-declare-m = c .before .before in

@@ -37,14 +37,18 @@ use Rattle.declare_steps.proofs.over_other.Lts as lts
 use Rattle.declare_steps.proofs.declare_m.Reads as declare-m-reads
 use Rattle.declare_steps.proofs.prevent_if.Reads as prevent-if-reads
 use Rattle.nodes.proofs.has_this.Reads as has-this-reads
+
 declare-m-requires : tie.Need-declare-m-requires
 declare-m-requires c κs =
     let at-entry = c .before .before in
     (at-entry .pre .0, at-entry .pre .1)
+
 enum-known-n : tie.Need-enum-known-n
 enum-known-n c = search needs
+
 enum-told : tie.Need-enum-told
 enum-told c = search needs
+
 has-this-requires : tie.Need-has-this-requires
 has-this-requires c κs =
     let at-enum-told = c .before in
@@ -52,27 +56,32 @@ has-this-requires c κs =
     let at-entry = at-declare-m .before .before .before in
     let p = (rw (at-enum-told .enum-told .given .1) at (at-declare-m .declare-m .ensures)) in
     (p .ok .planted, rw (acts.moves-count p) (at-entry .pre .1))
+
 prevent-if-requires : tie.Need-prevent-if-requires
 prevent-if-requires c κs =
     let at-enum-told = c .before .before .before in
     let at-declare-m = at-enum-told .before .before .before .before in
     let p = (rw (at-enum-told .enum-told .given .1) at (at-declare-m .declare-m .ensures)) in
     p .ok .planted
+
 same-length : tie.Need-same-length
 same-length c =
     let at-declare-m = c .before .before .before .before .before in
     at-declare-m .declare-m .kept .0
+
 returns : tie.Need-returns
 returns c =
     let at-n = c .before in
     let at-declare-m = at-n .before .before .before .before in
     let at-entry = at-declare-m .before .before .before in
     acts.moves-by (parts.other-then (at-entry .args .x) (typeOf (at-entry .args .kind)) (treeFrom (tree (at-entry .args .w .now)) (at-entry .args .e)) (rest (at-entry .args .w .now))) (acts.moves-stop (λ (u : Nothing). when (hasThis (treeFrom (tree (at-entry .args .w .now)) (at-entry .args .e))) (mark (preventInline (at-entry .args .x))) >> ret (hasThis (treeFrom (tree (at-entry .args .w .now)) (at-entry .args .e)))) (rw (at-n .n .given .1) at (at-declare-m .declare-m .ensures)))
+
 same-length-2 : tie.Need-same-length-2
 same-length-2 c =
     let at-prevent-if = c .before .before in
     let at-declare-m = at-prevent-if .before .before .before .before .before .before .before .before in
     at-prevent-if .prevent-if .kept .0 ∙ at-declare-m .declare-m .kept .0
+
 returns-2 : tie.Need-returns-2
 returns-2 c =
     let at-prevent-if = c .before .before in

@@ -21,16 +21,20 @@ use Rattle.declare_steps.proofs.prevent_if.Tie as tie
 use Rattle.declare_steps.proofs.prevent_if.Reads as reads
 use Rattle.declare_steps.proofs.prevent_if.Lts as lts
 use Rattle.scopes.proofs.prevent_inline.Reads as prevent-inline-reads
+
 prevent-inline-requires : tie.Need-prevent-inline-requires
 prevent-inline-requires c κs = search needs
+
 same-length : tie.Need-same-length
 same-length c = search needs
+
 returns : tie.Need-returns
 returns c =
     let at-prevent-inline = c .before .before in
     let at-if1 = at-prevent-inline .before .before in
     let at-entry = at-if1 .before .before in
     acts.moves-by (ap (λ (b : Bool). when b (mark (preventInline (at-entry .args .x))) (rest (at-entry .args .w .now))) (at-if1 .if1 .taken)) (acts.mark-moves (preventInline (at-entry .args .x)) (at-entry .pre) (at-prevent-inline .prevent-inline .kept .0) (at-prevent-inline .prevent-inline .ensures))
+
 returns-2 : tie.Need-returns-2
 returns-2 c =
     let at-entry = c .before .before in

@@ -20,16 +20,20 @@ use Rattle.declare_steps.proofs.prevented_at.Reads as reads
 use Rattle.declare_steps.proofs.prevented_at.Lts as lts
 use Rattle.look.proofs.is_inline_prevented.Reads as is-inline-prevented-reads
 use Rattle.look.proofs.should_prevent_inline_because_of_scope.Reads as should-prevent-inline-because-of-scope-reads
+
 should-prevent-inline-because-of-scope-requires :
     tie.Need-should-prevent-inline-because-of-scope-requires
 should-prevent-inline-because-of-scope-requires c κs = search needs
+
 returns : tie.Need-returns
 returns c =
     let at-should-prevent-inline-because-of-scope = c .before in
     let at-entry = at-should-prevent-inline-because-of-scope .before .before in
     sym (ap (λ (b : Bool). b || isInlinePrevented (treeFrom (tree (at-entry .args .w .now)) (at-entry .args .i)) (stack (at-entry .args .w .now))) (sym (at-should-prevent-inline-because-of-scope .should-prevent-inline-because-of-scope .ensures) ∙ c .if1 .taken))
+
 is-inline-prevented-requires : tie.Need-is-inline-prevented-requires
 is-inline-prevented-requires c κs = search needs
+
 returns-2 : tie.Need-returns-2
 returns-2 c =
     let at-if1 = c .before in

@@ -37,25 +37,30 @@ use Rattle.declare_steps.proofs.stays.Reads as reads
 use Rattle.declare_steps.proofs.stays.Lts as lts
 use Rattle.look.proofs.has_same_this.Reads as has-same-this-reads
 use Rattle.look.proofs.ident_prevented.Reads as ident-prevented-reads
+
 ident-prevented-requires : tie.Need-ident-prevented-requires
 ident-prevented-requires c κs =
     let at-entry = c .before in
     at-entry .pre .0 .good
+
 returns : tie.Need-returns
 returns c =
     let at-ident-prevented = c .before in
     let at-entry = at-ident-prevented .before .before in
     sym (parts.stays-marked (at-entry .args .x) (stack (at-entry .args .w .now)) (forestFrom (tree (at-entry .args .w .now)) (at-entry .args .n) (at-entry .args .i)) (sym (at-ident-prevented .ident-prevented .ensures) ∙ c .if1 .taken))
+
 returns-2 : tie.Need-returns-2
 returns-2 c =
     let at-if1 = c .before in
     let at-ident-prevented = at-if1 .before in
     let at-entry = at-ident-prevented .before .before in
     sym (ap (λ (ts : Forest). stays (named (at-entry .args .x)) ts (stack (at-entry .args .w .now))) (parts.forest-none (tree (at-entry .args .w .now)) (at-entry .args .n) (at-entry .args .i) (c .if2 .taken)) ∙ parts.stays-none (at-entry .args .x) (stack (at-entry .args .w .now)) (sym (at-ident-prevented .ident-prevented .ensures) ∙ at-if1 .if1 .left))
+
 has-same-this-requires : tie.Need-has-same-this-requires
 has-same-this-requires c κs =
     let at-entry = c .before .before .before .before in
     (at-entry .pre .0 .good, parts.some-trees (at-entry .args .w .now) (at-entry .args .i) (omega (arith, at-entry .pre .1, c .if2)))
+
 returns-3 : tie.Need-returns-3
 returns-3 c =
     let at-if2 = c .before in

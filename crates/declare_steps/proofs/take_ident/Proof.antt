@@ -33,18 +33,22 @@ use Rattle.declare_steps.proofs.take_ident.Reads as reads
 use Rattle.declare_steps.proofs.take_ident.Lts as lts
 use Rattle.declare_steps.proofs.declare_m.Reads as declare-m-reads
 use Rattle.declare_steps.proofs.is_ident.Reads as is-ident-reads
+
 is-ident-requires : tie.Need-is-ident-requires
 is-ident-requires c κs =
     let at-entry = c .before .before in
     (at-entry .pre .0, at-entry .pre .1)
+
 declare-m-requires : tie.Need-declare-m-requires
 declare-m-requires c κs =
     let at-entry = c .before .before .before .before .before in
     (at-entry .pre .0, at-entry .pre .1)
+
 same-length : tie.Need-same-length
 same-length c =
     let at-declare-m = c .before .before in
     at-declare-m .declare-m .kept .0
+
 returns : tie.Need-returns
 returns c =
     let at-declare-m = c .before .before in
@@ -52,8 +56,10 @@ returns c =
     let at-is-ident = at-if1 .before in
     let at-entry = at-is-ident .before .before .before in
     acts.moves-by (parts.ident-yes (at-entry .args .x) (typeOf (at-entry .args .kind)) (treeFrom (tree (at-entry .args .w .now)) (at-entry .args .e)) (rest (at-entry .args .w .now)) (sym (at-is-ident .is-ident .ensures) ∙ at-if1 .if1 .taken)) (at-declare-m .declare-m .ensures)
+
 same-length-2 : tie.Need-same-length-2
 same-length-2 c = refl
+
 returns-2 : tie.Need-returns-2
 returns-2 c =
     let at-is-ident = c .before in

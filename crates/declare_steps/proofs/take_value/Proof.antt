@@ -36,20 +36,25 @@ use Rattle.declare_steps.proofs.take_value.Lts as lts
 use Rattle.declare_steps.proofs.answer.Reads as answer-reads
 use Rattle.declare_steps.proofs.declare_m.Reads as declare-m-reads
 use Rattle.declare_steps.proofs.wanted.Reads as wanted-reads
+
 wanted-requires : tie.Need-wanted-requires
 wanted-requires c κs =
     let at-entry = c .before .before in
     (at-entry .pre .0, at-entry .pre .1)
+
 declare-m-requires : tie.Need-declare-m-requires
 declare-m-requires c κs =
     let at-entry = c .before .before .before .before .before in
     (at-entry .pre .0, at-entry .pre .1)
+
 answer-requires : tie.Need-answer-requires
 answer-requires c κs = search needs
+
 same-length : tie.Need-same-length
 same-length c =
     let at-declare-m = c .before .before .before in
     at-declare-m .declare-m .kept .0
+
 returns : tie.Need-returns
 returns c =
     let at-declare-m = c .before .before .before in
@@ -57,8 +62,10 @@ returns c =
     let at-wanted = at-if1 .before in
     let at-entry = at-wanted .before .before .before in
     acts.moves-by (parts.value-yes (at-entry .args .x) (typeOf (at-entry .args .kind)) (treeFrom (tree (at-entry .args .w .now)) (at-entry .args .e)) (rest (at-entry .args .w .now)) (ap (λ (st : Stack). wants (at-entry .args .x) (treeFrom (tree (at-entry .args .w .now)) (at-entry .args .e)) st) (acts.rest-stack (at-entry .args .w .now)) ∙ sym (at-wanted .wanted .ensures) ∙ at-if1 .if1 .taken)) (acts.moves-answer (at-declare-m .declare-m .result) true (c .answer .result) (at-declare-m .declare-m .ensures) (c .answer .ensures))
+
 same-length-2 : tie.Need-same-length-2
 same-length-2 c = refl
+
 returns-2 : tie.Need-returns-2
 returns-2 c =
     let at-wanted = c .before in

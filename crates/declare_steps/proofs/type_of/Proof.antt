@@ -13,12 +13,16 @@ use Rattle.declare_steps.proofs.type_of.Statement.{statement}
 use Rattle.declare_steps.proofs.type_of.Tie as tie
 use Rattle.declare_steps.proofs.type_of.Reads as reads
 use Rattle.declare_steps.proofs.type_of.Lts as lts
+
 returns : tie.Need-returns
 returns c = search needs
+
 returns-2 : tie.Need-returns-2
 returns-2 c = search needs
+
 returns-3 : tie.Need-returns-3
 returns-3 c = search needs
+
 returns-4 : tie.Need-returns-4
 returns-4 c =
     let at-if2 = c .before in

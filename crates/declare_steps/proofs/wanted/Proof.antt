@@ -39,19 +39,23 @@ use Rattle.declare_steps.proofs.wanted.Lts as lts
 use Rattle.declare_steps.proofs.is_cheap.Reads as is-cheap-reads
 use Rattle.look.proofs.ident_prevented.Reads as ident-prevented-reads
 use Rattle.look.proofs.read_cnt.Reads as read-cnt-reads
+
 is-cheap-requires : tie.Need-is-cheap-requires
 is-cheap-requires c κs =
     let at-entry = c .before in
     (at-entry .pre .0, at-entry .pre .1)
+
 returns : tie.Need-returns
 returns c =
     let at-is-cheap = c .before in
     let at-entry = at-is-cheap .before .before in
     sym (ap (λ (b : Bool). b || (not (markOf (findBinding (at-entry .args .x) (stack (at-entry .args .w .now)))) && readOnce? (findBinding (at-entry .args .x) (stack (at-entry .args .w .now))))) (sym (at-is-cheap .is-cheap .ensures) ∙ c .if1 .taken))
+
 ident-prevented-requires : tie.Need-ident-prevented-requires
 ident-prevented-requires c κs =
     let at-entry = c .before .before .before in
     at-entry .pre .0 .good
+
 returns-2 : tie.Need-returns-2
 returns-2 c =
     let at-ident-prevented = c .before in
@@ -59,14 +63,18 @@ returns-2 c =
     let at-is-cheap = at-if1 .before in
     let at-entry = at-is-cheap .before .before in
     sym (parts.wants-no (at-entry .args .x) (stack (at-entry .args .w .now)) (treeFrom (tree (at-entry .args .w .now)) (at-entry .args .e)) (sym (at-is-cheap .is-cheap .ensures) ∙ at-if1 .if1 .left) (sym (at-ident-prevented .ident-prevented .ensures) ∙ c .if2 .taken))
+
 read-cnt-requires : tie.Need-read-cnt-requires
 read-cnt-requires c κs =
     let at-entry = c .before .before .before .before .before in
     at-entry .pre .0 .good
+
 enum-told : tie.Need-enum-told
 enum-told c = search needs
+
 enum-known-n : tie.Need-enum-known-n
 enum-known-n c = search needs
+
 returns-3 : tie.Need-returns-3
 returns-3 c =
     let at-read-cnt = c .before .before in
@@ -76,6 +84,7 @@ returns-3 c =
     let at-is-cheap = at-if1 .before in
     let at-entry = at-is-cheap .before .before in
     sym (parts.wants-once (at-entry .args .x) (stack (at-entry .args .w .now)) (treeFrom (tree (at-entry .args .w .now)) (at-entry .args .e)) (sym (at-is-cheap .is-cheap .ensures) ∙ at-if1 .if1 .left) (sym (at-ident-prevented .ident-prevented .ensures) ∙ at-if2 .if2 .left) ∙ ap parts.onceO (sym (at-read-cnt .read-cnt .ensures) ∙ ap countOf (c .enum-told .given .1)))
+
 returns-4 : tie.Need-returns-4
 returns-4 c =
     let at-n = c .before in
