@@ -31,6 +31,7 @@ use Rattle.nodes.proofs.Words.{tree-whole, in-tree}
 use Rattle.state.specs.State.{rest, abs, Act}
 use Rattle.write_steps.specs.Answers.{numberOf, Kept}
 use Rattle.write_steps.proofs.Steps.{Step, step-act, act-step, step-as, step-none, step-then, step-stop, step-tree, act-tree, act-count, mark-step, record-step}
+use Rattle.write_steps.proofs.Shapes.{head-of}
 use Rattle.write_steps.proofs.Writing.{num-here}
 use Rattle.write_steps.proofs.Marks.{kind-here}
 
@@ -107,11 +108,6 @@ first-of : (n : ℕ) (ts : Forest) → 0 < n → firstT (takeF n ts) ≡ firstT 
 first-of zero ts h = absurd (not-suc-le-zero h)
 first-of (suc n) nil h = refl
 first-of (suc n) (cons t ts) h = refl
-
-head-of : (n : ℕ) (ts : Forest) → 0 < n → n ≤ lengthF ts → headT (takeF n ts) ≡ some (firstT ts)
-head-of zero ts h o = absurd (not-suc-le-zero h)
-head-of (suc n) nil h o = absurd (not-suc-le-zero o)
-head-of (suc n) (cons t ts) h o = refl
 
 pub last-none : {w : List ℕ} → Planted w → (n i : ℕ) → n ≡ 0 → Act w w 0 (actF assignLast n i (abs w))
 unfolding assignLast forestAt

@@ -6,3 +6,4 @@ pub mod Shapes
 pub mod Marks
 pub mod AssignFirst
 pub mod AssignLast
+pub mod Patterns

@@ -43,9 +43,9 @@ module _ (w : List ℕ) (i : ℕ) (l : i < getD w 0 0) where
   pub form-here : form (treeAt (abs w) i) ≡ nodeOf w i .form
   form-here = form-at (abs w) i inside ∙ ap (λ (c : Core). c .form) at-here
 
-  pub name-act : {u : List ℕ} (x : ℕ) (args force : Bool) (r : lookStep.Step) → Planted w → x ≡ nodeOf w i .num → args ≡ eqb (nodeOf w i .form) 1 → Stepped w u (addWrite x args force (stack w)) r → Act w u (refusal r) (act (write force) i (abs w))
+  pub ident-act : {u : List ℕ} (x : ℕ) (args force : Bool) (r : lookStep.Step) → Planted w → x ≡ nodeOf w i .num → args ≡ eqb (nodeOf w i .form) 1 → Stepped w u (addWrite x args force (stack w)) r → Act w u (refusal r) (act (write force) i (abs w))
   unfolding write
-  name-act x args force r g p q b =
+  ident-act x args force r g p q b =
       let t : Tree = treeAt (abs w) i in
       step-act (write force t) (step-as (ap (λ (a : ℕ). grow (addWrite a args force) (rest w)) (p ∙ sym num-here) ∙ ap (λ (b : Bool). grow (addWrite (num t) b force) (rest w)) (q ∙ ap (λ (k : ℕ). eqb k 1) (sym form-here))) (look-step g (addWrite x args force) r b))
 

@@ -9,7 +9,7 @@ ghost use Rattle.words.specs.Layout.{tree, nodeOf};
 ghost use Rattle.nodes.specs.Nodes.{Planted};
 ghost use Rattle.state.specs.State.{abs, Act};
 ghost use Rattle.write_steps.specs.Answers.{numberOf, Kept};
-use super::write_name;
+use super::write_ident;
 use super::write_trees;
 use look::ident_at;
 use look::is_inline_prevented;
@@ -98,7 +98,7 @@ pub fn assign_last(w: &mut [u32], n: usize, i: usize) -> u32
         return 0;
     }
     if n == 1 {
-        return write_name(w, i, false);
+        return write_ident(w, i, false);
     }
     let j = skip(w, i);
     if is_inline_prevented(w, j) {
@@ -106,7 +106,7 @@ pub fn assign_last(w: &mut [u32], n: usize, i: usize) -> u32
         prevent_inline(w, x);
         return 0;
     }
-    let r = write_name(w, i, false);
+    let r = write_ident(w, i, false);
     if r != 0 {
         return r;
     }

@@ -1,6 +1,6 @@
 // Leaf steps of the walks: names written, marked, declared and stored. Each contract names the walk's own action.
 ghost use mathlib.Core.Path.{_≡_};
-ghost use mathlib.Core.Bool.{true, not, _&&_};
+ghost use mathlib.Core.Bool.{true, false, not, _&&_};
 ghost use mathlib.Core.Logic.{_⊎_};
 ghost use mathlib.Core.Option.{some};
 ghost use lib.Dec.{eqb};
@@ -8,9 +8,10 @@ ghost use lib.ListN.{getD, drop};
 ghost use Prim.Native.Nat.{_<_, _≤_};
 ghost use Rattle.tree.specs.Tree.{kids, lengthF, plant};
 ghost use Rattle.tree.specs.Combine.{onRest, act, actF};
+ghost use Rattle.definition.specs.Tree.{headT};
 ghost use Rattle.definition.specs.Scope.{preventInline, markThisSensitive, identOf};
-ghost use Rattle.definition.specs.Walk.{when, mark, write, writeTree, writeForest, butLast, storeInlineBarrierM};
-ghost use Rattle.words.specs.Layout.{tree, nodeOf};
+ghost use Rattle.definition.specs.Walk.{when, mark, write, writeTree, writeForest, writeName, butLast, assigning, patBy, storeInlineBarrierM};
+ghost use Rattle.words.specs.Layout.{tree, nodeOf, yes};
 ghost use Rattle.look.specs.Answers.{isName, refusal};
 ghost use Rattle.nodes.specs.Nodes.{Planted};
 ghost use Rattle.state.specs.State.{abs, Act};
@@ -18,6 +19,7 @@ ghost use Rattle.state.specs.State.{abs, Act};
 pub mod assign;
 
 use look::Step;
+use look::find_binding_from_current;
 use look::ident_at;
 use look::mark::mark_this_sensitive;
 use look::mark::store_inline_barrier;
@@ -51,7 +53,7 @@ fn is_name(w: &[u32], i: usize) -> bool
 }
 
 // The name at node i is written, forced or not.
-pub fn write_name(w: &mut [u32], i: usize, force: bool) -> u32
+pub fn write_ident(w: &mut [u32], i: usize, force: bool) -> u32
     requires { ⌜ (Planted (now w)) × (i < getD (now w) 0 0) × ((nodeOf (now w) i .kind ≡ 20) ⊎ (nodeOf (now w) i .kind ≡ 21)) ⌝ }
     ensures { λ r. ⌜ Act (now (w .entry)) (now (w .exit)) r (act (write force) i (abs (now (w .entry)))) ⌝ }
 {
@@ -70,7 +72,7 @@ pub fn write_trees(w: &mut [u32], n: usize, i: usize, force: bool) -> u32
     let mut more = n;
     while 0 < more {
         if is_name(w, at) {
-            let r = write_name(w, at, force);
+            let r = write_ident(w, at, force);
             if r != 0 {
                 return r;
             }
@@ -121,6 +123,31 @@ pub fn write_kids_but_last(w: &mut [u32], i: usize) -> u32
     write_but_last(w, n, i + 1, true)
 }
 
+// The names of a call's arguments, not forced; of `new` none.
+pub fn write_args(w: &mut [u32], call: u32, n: usize, i: usize) -> u32
+    requires { ⌜ (Planted (now w)) × (n ≤ lengthF (plant (drop i (tree (now w))))) ⌝ }
+    ensures { λ r. ⌜ Act (now (w .entry)) (now (w .exit)) r (actF (λ ts. when (yes call) (writeForest false ts)) n i (abs (now (w .entry)))) ⌝ }
+{
+    if call == 0 {
+        return 0;
+    }
+    write_trees(w, n, i, false)
+}
+
+// The name of the function expression at i is written, forced.
+pub fn write_name(w: &mut [u32], i: usize) -> u32
+    requires { ⌜ (Planted (now w)) × (i < getD (now w) 0 0) ⌝ }
+    ensures { λ r. ⌜ Act (now (w .entry)) (now (w .exit)) r (act (λ t. writeName (headT (kids t))) i (abs (now (w .entry)))) ⌝ }
+{
+    if arity_at(w, i) == 0 {
+        return 0;
+    }
+    if kind_at(w, i + 1) != 20 {
+        return 0;
+    }
+    write_ident(w, i + 1, true)
+}
+
 // What `this` is matters to the callee at i, if it is an identifier; in Analysis.
 pub fn mark_callee(w: &mut [u32], i: usize)
     requires { ⌜ (Planted (now w)) × (i < getD (now w) 0 0) ⌝ }
@@ -159,4 +186,16 @@ pub fn store_barrier(w: &mut [u32])
         return;
     }
     store_inline_barrier(w);
+}
+
+// The binding at i, in an assignment's pattern: written, unless the current scope has it.
+pub fn write_unbound(w: &mut [u32], i: usize) -> u32
+    requires { ⌜ (Planted (now w)) × (i < getD (now w) 0 0) × (nodeOf (now w) i .kind ≡ 20) ⌝ }
+    ensures { λ r. ⌜ Act (now (w .entry)) (now (w .exit)) r (act (patBy assigning) i (abs (now (w .entry)))) ⌝ }
+{
+    let x = ident_at(w, i);
+    if find_binding_from_current(w, x) != 0 {
+        return 0;
+    }
+    write_ident(w, i, false)
 }

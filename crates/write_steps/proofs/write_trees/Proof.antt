@@ -32,8 +32,8 @@ is-name-requires c κs =
     let at-loop = at-loop-test .before in
     (at-loop .loop .inv .ok .planted, in-tree (at-loop .loop .inv .ok .planted) (at-loop .loop .inv .still) (at-loop-test .loop-test .taken))
 
-write-name-requires : tie.Need-write-name-requires Inv-loop μ-loop
-write-name-requires c κs =
+write-ident-requires : tie.Need-write-ident-requires Inv-loop μ-loop
+write-ident-requires c κs =
     let at-if1 = c .before in
     let at-is-name = at-if1 .before in
     let at-loop-test = at-is-name .before .before in
@@ -42,26 +42,26 @@ write-name-requires c κs =
 
 same-length : tie.Need-same-length Inv-loop μ-loop
 same-length c =
-    let at-write-name = c .before .before .before in
-    let at-loop = at-write-name .before .before .before .before .before .before in
-    at-write-name .write-name .ensures .ok .size ∙ at-loop .loop .inv .ok .size
+    let at-write-ident = c .before .before .before in
+    let at-loop = at-write-ident .before .before .before .before .before .before in
+    at-write-ident .write-ident .ensures .ok .size ∙ at-loop .loop .inv .ok .size
 
 returns : tie.Need-returns Inv-loop μ-loop
 returns c =
-    let at-write-name = c .before .before .before in
-    let at-if1 = at-write-name .before .before in
+    let at-write-ident = c .before .before .before in
+    let at-if1 = at-write-ident .before .before in
     let at-is-name = at-if1 .before in
     let at-loop-test = at-is-name .before .before in
     let at-loop = at-loop-test .before in
-    writing-stop (at-loop .loop .inv) (at-loop-test .loop-test .taken) (sym (at-is-name .is-name .ensures) ∙ at-if1 .if1 .taken) (at-write-name .write-name .ensures) (omega arith)
+    writing-stop (at-loop .loop .inv) (at-loop-test .loop-test .taken) (sym (at-is-name .is-name .ensures) ∙ at-if1 .if1 .taken) (at-write-ident .write-ident .ensures) (omega arith)
 
 skip-requires : tie.Need-skip-requires Inv-loop μ-loop
 skip-requires c κs =
     let at-if2 = c .before in
-    let at-write-name = at-if2 .before .before .before in
-    let at-loop-test = at-write-name .before .before .before .before .before in
+    let at-write-ident = at-if2 .before .before .before in
+    let at-loop-test = at-write-ident .before .before .before .before .before in
     let at-loop = at-loop-test .before in
-    (at-write-name .write-name .ensures .ok .planted, omega (arith, in-tree (at-loop .loop .inv .ok .planted) (at-loop .loop .inv .still) (at-loop-test .loop-test .taken), act-count (write (at-loop .before .before .args .force) (treeAt (abs (at-loop .loop .w)) (at-loop .loop .at))) (at-write-name .write-name .ensures) (at-if2 .if2 .left)))
+    (at-write-ident .write-ident .ensures .ok .planted, omega (arith, in-tree (at-loop .loop .inv .ok .planted) (at-loop .loop .inv .still) (at-loop-test .loop-test .taken), act-count (write (at-loop .before .before .args .force) (treeAt (abs (at-loop .loop .w)) (at-loop .loop .at))) (at-write-ident .write-ident .ensures) (at-if2 .if2 .left)))
 
 sub-more : tie.Need-sub-more Inv-loop μ-loop
 sub-more c = search needs
@@ -74,12 +74,12 @@ loop-less c =
 
 loop-again : tie.Need-loop-again Inv-loop μ-loop
 loop-again c =
-    let at-write-name = c .before .before .before .before .before in
-    let at-if1 = at-write-name .before .before in
+    let at-write-ident = c .before .before .before .before .before in
+    let at-if1 = at-write-ident .before .before in
     let at-is-name = at-if1 .before in
     let at-loop-test = at-is-name .before .before in
     let at-loop = at-loop-test .before in
-    writing-past (at-loop .loop .inv) (at-loop-test .loop-test .taken) (sym (at-is-name .is-name .ensures) ∙ at-if1 .if1 .taken) (at-write-name .write-name .ensures) (omega arith) (c .skip .ensures .0)
+    writing-past (at-loop .loop .inv) (at-loop-test .loop-test .taken) (sym (at-is-name .is-name .ensures) ∙ at-if1 .if1 .taken) (at-write-ident .write-ident .ensures) (omega arith) (c .skip .ensures .0)
 
 sub-more-2 : tie.Need-sub-more-2 Inv-loop μ-loop
 sub-more-2 c = search needs
@@ -137,7 +137,7 @@ write-trees-spec =
     μ-loop
     loop-holds
     is-name-requires
-    write-name-requires
+    write-ident-requires
     same-length
     returns
     skip-requires

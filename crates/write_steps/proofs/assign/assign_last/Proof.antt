@@ -29,8 +29,8 @@ returns-2 c =
     let at-entry = at-if1 .before .before in
     last-no-name (at-entry .pre .0) (at-entry .args .n) (at-entry .args .i) (at-entry .pre .1) (at-if1 .if1 .left) (λ (e : nodeOf (at-entry .args .w .now) (at-entry .args .i) .kind ≡ 20). c .if2 .taken (at-kind-at .kind-at .ensures ∙ e))
 
-write-name-requires : tie.Need-write-name-requires
-write-name-requires c κs =
+write-ident-requires : tie.Need-write-ident-requires
+write-ident-requires c κs =
     let at-if2 = c .before .before in
     let at-kind-at = at-if2 .before in
     let at-if1 = at-kind-at .before .before in
@@ -42,13 +42,13 @@ same-length-2 c = search needs
 
 returns-3 : tie.Need-returns-3
 returns-3 c =
-    let at-write-name = c .before .before in
-    let at-if3 = at-write-name .before .before in
+    let at-write-ident = c .before .before in
+    let at-if3 = at-write-ident .before .before in
     let at-if2 = at-if3 .before in
     let at-kind-at = at-if2 .before in
     let at-if1 = at-kind-at .before .before in
     let at-entry = at-if1 .before .before in
-    last-alone (at-entry .pre .0) (at-entry .args .n) (at-entry .args .i) (at-entry .pre .1) (at-if1 .if1 .left) (sym (at-kind-at .kind-at .ensures) ∙ at-if2 .if2 .left) (at-if3 .if3 .taken) (at-write-name .write-name .ensures)
+    last-alone (at-entry .pre .0) (at-entry .args .n) (at-entry .args .i) (at-entry .pre .1) (at-if1 .if1 .left) (sym (at-kind-at .kind-at .ensures) ∙ at-if2 .if2 .left) (at-if3 .if3 .taken) (at-write-ident .write-ident .ensures)
 
 skip-requires : tie.Need-skip-requires
 skip-requires c κs =
@@ -94,8 +94,8 @@ returns-4 c =
     let at-entry = at-if1 .before .before in
     last-prevented (at-entry .pre .0) (at-entry .args .n) (at-entry .args .i) (at-entry .pre .1) (at-if1 .if1 .left) (sym (at-kind-at .kind-at .ensures) ∙ at-if2 .if2 .left) (at-if3 .if3 .left) (at-skip .skip .result) (at-skip .skip .ensures .0) (sym (at-if4 .if4 .taken) ∙ at-is-inline-prevented .is-inline-prevented .ensures) (at-ident-at .ident-at .ensures) (at-prevent-inline .prevent-inline .ensures)
 
-write-name-requires-2 : tie.Need-write-name-requires-2
-write-name-requires-2 c κs =
+write-ident-requires-2 : tie.Need-write-ident-requires-2
+write-ident-requires-2 c κs =
     let at-if2 = c .before .before .before .before .before .before .before in
     let at-kind-at = at-if2 .before in
     let at-if1 = at-kind-at .before .before in
@@ -107,8 +107,8 @@ same-length-4 c = search needs
 
 returns-5 : tie.Need-returns-5
 returns-5 c =
-    let at-write-name2 = c .before .before .before in
-    let at-if4 = at-write-name2 .before .before in
+    let at-write-ident2 = c .before .before .before in
+    let at-if4 = at-write-ident2 .before .before in
     let at-is-inline-prevented = at-if4 .before in
     let at-skip = at-is-inline-prevented .before .before in
     let at-if3 = at-skip .before .before in
@@ -116,19 +116,19 @@ returns-5 c =
     let at-kind-at = at-if2 .before in
     let at-if1 = at-kind-at .before .before in
     let at-entry = at-if1 .before .before in
-    last-stop (at-entry .pre .0) (at-entry .args .n) (at-entry .args .i) (at-entry .pre .1) (at-if1 .if1 .left) (sym (at-kind-at .kind-at .ensures) ∙ at-if2 .if2 .left) (at-if3 .if3 .left) (at-skip .skip .result) (at-skip .skip .ensures .0) (sym (at-if4 .if4 .left) ∙ at-is-inline-prevented .is-inline-prevented .ensures) (at-write-name2 .write-name2 .ensures) (omega (arith, c .if5 .taken))
+    last-stop (at-entry .pre .0) (at-entry .args .n) (at-entry .args .i) (at-entry .pre .1) (at-if1 .if1 .left) (sym (at-kind-at .kind-at .ensures) ∙ at-if2 .if2 .left) (at-if3 .if3 .left) (at-skip .skip .result) (at-skip .skip .ensures .0) (sym (at-if4 .if4 .left) ∙ at-is-inline-prevented .is-inline-prevented .ensures) (at-write-ident2 .write-ident2 .ensures) (omega (arith, c .if5 .taken))
 
 store-value-requires : tie.Need-store-value-requires
 store-value-requires c κs =
     let at-if5 = c .before in
-    let at-write-name2 = at-if5 .before .before .before in
-    let at-skip = at-write-name2 .before .before .before .before .before in
+    let at-write-ident2 = at-if5 .before .before .before in
+    let at-skip = at-write-ident2 .before .before .before .before .before in
     let at-if3 = at-skip .before .before in
     let at-if2 = at-if3 .before in
     let at-kind-at = at-if2 .before in
     let at-if1 = at-kind-at .before .before in
     let at-entry = at-if1 .before .before in
-    store-needs (at-entry .args .i) (at-skip .skip .result) (at-write-name2 .write-name2 .ensures) (at-if5 .if5 .left) (target-in (at-entry .pre .0) (at-entry .args .n) (at-entry .args .i) (at-entry .pre .1) (at-if1 .if1 .left)) (value-in (at-entry .pre .0) (at-entry .args .n) (at-entry .args .i) (at-entry .pre .1) (at-if1 .if1 .left) (sym (at-kind-at .kind-at .ensures) ∙ at-if2 .if2 .left) (at-if3 .if3 .left) (at-skip .skip .result) (at-skip .skip .ensures .0)) (sym (at-kind-at .kind-at .ensures) ∙ at-if2 .if2 .left)
+    store-needs (at-entry .args .i) (at-skip .skip .result) (at-write-ident2 .write-ident2 .ensures) (at-if5 .if5 .left) (target-in (at-entry .pre .0) (at-entry .args .n) (at-entry .args .i) (at-entry .pre .1) (at-if1 .if1 .left)) (value-in (at-entry .pre .0) (at-entry .args .n) (at-entry .args .i) (at-entry .pre .1) (at-if1 .if1 .left) (sym (at-kind-at .kind-at .ensures) ∙ at-if2 .if2 .left) (at-if3 .if3 .left) (at-skip .skip .result) (at-skip .skip .ensures .0)) (sym (at-kind-at .kind-at .ensures) ∙ at-if2 .if2 .left)
 
 same-length-5 : tie.Need-same-length-5
 same-length-5 c = search needs
@@ -137,8 +137,8 @@ returns-6 : tie.Need-returns-6
 returns-6 c =
     let at-store-value = c .before .before in
     let at-if5 = at-store-value .before .before in
-    let at-write-name2 = at-if5 .before .before .before in
-    let at-if4 = at-write-name2 .before .before in
+    let at-write-ident2 = at-if5 .before .before .before in
+    let at-if4 = at-write-ident2 .before .before in
     let at-is-inline-prevented = at-if4 .before in
     let at-skip = at-is-inline-prevented .before .before in
     let at-if3 = at-skip .before .before in
@@ -146,7 +146,7 @@ returns-6 c =
     let at-kind-at = at-if2 .before in
     let at-if1 = at-kind-at .before .before in
     let at-entry = at-if1 .before .before in
-    last-stored (at-entry .pre .0) (at-entry .args .n) (at-entry .args .i) (at-entry .pre .1) (at-if1 .if1 .left) (sym (at-kind-at .kind-at .ensures) ∙ at-if2 .if2 .left) (at-if3 .if3 .left) (at-skip .skip .result) (at-skip .skip .ensures .0) (sym (at-if4 .if4 .left) ∙ at-is-inline-prevented .is-inline-prevented .ensures) (at-write-name2 .write-name2 .ensures) (at-if5 .if5 .left) (at-store-value .store-value .ensures)
+    last-stored (at-entry .pre .0) (at-entry .args .n) (at-entry .args .i) (at-entry .pre .1) (at-if1 .if1 .left) (sym (at-kind-at .kind-at .ensures) ∙ at-if2 .if2 .left) (at-if3 .if3 .left) (at-skip .skip .result) (at-skip .skip .ensures .0) (sym (at-if4 .if4 .left) ∙ at-is-inline-prevented .is-inline-prevented .ensures) (at-write-ident2 .write-ident2 .ensures) (at-if5 .if5 .left) (at-store-value .store-value .ensures)
 
 pub assign-last-spec : {M : Type 1} → statement M
 assign-last-spec =
@@ -156,7 +156,7 @@ assign-last-spec =
     kind-at-requires
     same-length
     returns-2
-    write-name-requires
+    write-ident-requires
     same-length-2
     returns-3
     skip-requires
@@ -165,7 +165,7 @@ assign-last-spec =
     prevent-inline-requires
     same-length-3
     returns-4
-    write-name-requires-2
+    write-ident-requires-2
     same-length-4
     returns-5
     store-value-requires
