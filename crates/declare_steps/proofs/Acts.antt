@@ -5,7 +5,8 @@ use mathlib.Core.Bool.{Bool, true, false}
 use Prim.Native.Nat.{ℕ, _≤_, _<_}
 use native.Mathlib.Omega.{arith}
 use lib.ListN.{length, getD}
-use Rattle.tree.specs.Combine.{Res, stop, done, Nothing, andThen, ret}
+use Rattle.tree.specs.Combine.{Res, stop, done, Nothing, andThen, ret, Flat, carry, forestAt, actF}
+use Rattle.tree.specs.Tree.{Forest, Core}
 use Rattle.definition.specs.Scope.{Stack}
 use Rattle.definition.specs.Walk.{St, M, setStack, mark, grow}
 use Rattle.words.specs.Layout.{tree}
@@ -14,8 +15,8 @@ use Rattle.scopes.specs.State.{Becomes, stack}
 use Rattle.records.specs.Steps.{Still, Grown, over}
 use Rattle.records.specs.declared.Step.{Step}
 use Rattle.records.specs.declared.Step.the-variants.{Done, Refused}
-use Rattle.nodes.specs.Nodes.{Planted}
-use Rattle.state.specs.State.{Ok, rest}
+use Rattle.nodes.specs.Nodes.{Planted, forestFrom}
+use Rattle.state.specs.State.{Ok, rest, abs}
 use Rattle.state.proofs.Fields.{becomes-rest, becomes-ok, count-kept, ok-self, ok-then}
 use Rattle.declare_steps.specs.Steps.{doneOf, toldOf, Moves, Did}
 use Rattle.declare_steps.specs.declared.Told.{Told}
@@ -82,3 +83,14 @@ moves-count {A} {w} {u} p = sym (tree-length u) ∙ ap length (p .nodes) ∙ tre
 -- a step with its answer
 pub moves-answer : {w u : List ℕ} {m : Res St Nothing} (r : Step) (b : Bool) (t : Told) → Moves w u m (doneOf r (rest u)) → ((s : St) → toldOf t s ≡ andThen (doneOf r s) (λ a. ret b)) → Moves w u (andThen m (λ a. ret b)) (toldOf t (rest u))
 moves-answer {w} {u} r b t p e = record { ok = p .ok; nodes = p .nodes; is = ap (λ x. andThen x (λ a. ret b)) (p .is) ∙ sym (e (rest u)) }
+
+-- the same on the list of nodes: an action on n trees from i on
+module _ {A : Type 0} {w u : List ℕ} (m : Forest → M A) (n i : ℕ) where
+  pub moves-done : {a : A} → Moves w u (m (forestFrom (tree w) n i) (rest w)) (done (rest u) a) → actF m n i (abs w) ≡ done (abs u) a
+  unfolding forestAt forestFrom
+  moves-done {a} p =
+      ap (carry (λ (s : St) (b : A). record { nodes = tree w; rest = s }) (λ (b : A). b)) (p .is) ∙ ap (λ (l : List Core). done (record { nodes = l; rest = rest u }) a) (sym (p .nodes))
+
+  pub moves-refused : {k : ℕ} → Moves w u (m (forestFrom (tree w) n i) (rest w)) (stop k) → actF m n i (abs w) ≡ stop k
+  unfolding forestAt forestFrom
+  moves-refused p = ap (carry (λ (s : St) (b : A). record { nodes = tree w; rest = s }) (λ (b : A). b)) (p .is)

@@ -2,3 +2,4 @@
 pub mod Acts
 pub mod Init
 pub mod Parts
+pub mod Ends

@@ -9,13 +9,13 @@ use lib.ListN.{length, getD, drop, length-drop}
 use lib.Seq.{drop-drop}
 use lib.Dec.{eqb}
 use Rattle.tree.specs.Base.{pick}
-use Rattle.tree.specs.Tree.{Tree, Forest, Core, nil, cons, lengthF, count, counts, plant, takeF, dropF, firstT}
+use Rattle.tree.specs.Tree.{Tree, Forest, Core, node, num, nil, cons, lengthF, count, counts, plant, takeF, dropF, firstT}
 use Rattle.tree.proofs.Whole.{Whole, whole-drop}
 use Rattle.tree.specs.Combine.{Res, stop, done, Nothing, andThen, ret, iff, _>>_}
 use Rattle.definition.specs.Tree.{isIdent, isCheap, hasThis, headT, tailF}
 use Rattle.definition.specs.Scope as def
 use Rattle.definition.specs.Scope.{VarInfo, Stack, VarType, isVar, isConst, declare, addConst, isInlinePrevented, preventInline, findBinding, markOf, hasSameThis}
-use Rattle.definition.specs.Walk.{St, M, when, mark, grow, declareM, declrAnalysis, overM, stays, noValue, readOnce?}
+use Rattle.definition.specs.Walk.{St, M, when, mark, grow, declareM, declrAnalysis, overM, stays, takes, noValue, readOnce?}
 use Rattle.words.specs.Layout.{yes, tree}
 use Rattle.words.proofs.Nodes.{tree-length}
 use Rattle.scopes.specs.State.{varTypeOf}
@@ -253,3 +253,23 @@ module _ {w : List ℕ} (g : Planted w) (n i e : ℕ) (h : n ≤ lengthF (plant 
   pub over-two : (x : ℕ) (s : St) → overM (named x) (forestFrom (tree w) n i) s ≡ declrAnalysis (named x) (some (treeFrom (tree w) e)) s
   unfolding overM forestFrom treeFrom
   over-two x s = ap (λ (o : Option Tree). declrAnalysis (named x) o s) (two-some n ts two h ∙ ap (λ (us : Forest). some (firstT us)) (sym behind))
+
+-- of a name only the number is looked at
+declr-name : (name : Tree) (o : Option Tree) → declrAnalysis name o ≡ declrAnalysis (named (num name)) o
+unfolding declrAnalysis declareM
+declr-name name none = refl
+declr-name name (some e) = refl
+
+pub over-name : (name : Tree) (ts : Forest) → overM name ts ≡ overM (named (num name)) ts
+unfolding overM
+over-name name ts = declr-name name (headT (tailF ts))
+
+pub stays-name : (name : Tree) (ts : Forest) → stays name ts ≡ stays (named (num name)) ts
+unfolding stays
+stays-name (node k f a us) nil = refl
+stays-name (node k f a us) (cons e es) = refl
+
+pub takes-name : (k : VarType) (name : Tree) (ts : Forest) → takes k name ts ≡ takes k (named (num name)) ts
+unfolding takes declareM
+takes-name k (node l f a us) nil = refl
+takes-name k (node l f a us) (cons e es) = refl

@@ -5,7 +5,7 @@ use mathlib.Core.Bool.{Bool, true, false, _&&_, _||_, not}
 use mathlib.Core.Option.{Option, none, some}
 use Prim.Native.Nat.{ℕ, suc, _+_, _-_, _≤_, _<_}
 use lib.ListN.{length, getD}
-use Rattle.tree.specs.Tree.{Tree, Forest, node, nil, count}
+use Rattle.tree.specs.Tree.{Tree, Core, noCore, node, nil, count}
 use Rattle.tree.specs.Combine.{Res, stop, done, M as MS, Nothing, _>>=_, _>>_, ret, iff, Flat, actF, cutFirst, setArity}
 use Rattle.definition.specs.Scope as def
 use Rattle.definition.specs.Tree.{isIdent, isCheap, hasThis}
@@ -14,6 +14,7 @@ use Rattle.definition.specs.Walk.{St, M, when, mark, grow, declareM, asIdent, r
 use Rattle.tree.specs.Base.{pick}
 use Rattle.words.specs.Layout.{tree}
 use Rattle.look.specs.Look.{idxHere, barsHere}
+use Rattle.nodes.specs.Nodes.{treeFrom}
 use Rattle.state.specs.State.{Ok, abs}
 use Rattle.records.specs.declared.Step.{Step}
 use Rattle.records.specs.declared.Step.the-variants.{Done, Refused as Refused}
@@ -119,6 +120,13 @@ takeOrMark x k e = λ s. iff (isInlinePrevented e (s .stack)) (mark (preventInli
 unfoldable pub takeInit : ℕ → def.VarType → Tree → M Bool
 unfolding takeIdent takeOrMark
 takeInit x k e = takeIdent x k e >> takeOrMark x k e
+
+-- where a declarator is: at q, with its name and n trees from i on, which end at j
+pub record Spot (xs : List Core) (q n i j : ℕ) : Type 0 where
+  pub name : q + 1 < length xs
+  pub arity : getD xs q noCore .arity ≡ suc n
+  pub at : i ≡ q + 1 + count (treeFrom xs (q + 1))
+  pub end : 0 < n → i + count (treeFrom xs i) ≤ j
 
 -- the end of declrInlining, after the initialiser's second walk: of the n trees from i on, which end at j, the first is taken out or not,
 -- and the declarator at q has one child more than there are

@@ -4,7 +4,7 @@ ghost use mathlib.Core.Bool.{Bool, true, false, _||_, _&&_, not};
 ghost use mathlib.Core.Option.{some};
 ghost use Prim.Native.Nat.{ℕ, _+_, _-_, _≤_, _<_};
 ghost use lib.ListN.{getD, drop};
-ghost use Rattle.tree.specs.Tree.{lengthF, plant};
+ghost use Rattle.tree.specs.Tree.{count, lengthF, plant};
 ghost use Rattle.tree.specs.Combine.{andThen, ret, done};
 ghost use Rattle.definition.specs.Tree.{isIdent, isCheap};
 ghost use Rattle.definition.specs.Scope.{declare, noInit, aliasFrom, isVar, isInlinePrevented, shouldPreventInlineBecauseOfScope, preventInline};
@@ -14,9 +14,9 @@ ghost use Rattle.scopes.specs.State.{Good, stack, varTypeOf};
 ghost use Rattle.records.specs.Steps.{Grown};
 ghost use Rattle.bindings.specs.Kinds.{typeOf, aliasOf};
 ghost use Rattle.look.specs.Look.{idxHere};
-ghost use Rattle.nodes.specs.Nodes.{Planted, treeFrom, forestFrom};
-ghost use Rattle.state.specs.State.{rest};
-ghost use Rattle.declare_steps.specs.Steps.{initFrom, Sited, Valued, hasNone, placeHere, barredHere, worksWith, named, doneOf, toldOf, Moves, overNone, overConst, overCheap, overOther, wants, takeIdent, takeValue, takeOrMark, takeInit};
+ghost use Rattle.nodes.specs.Nodes.{Planted, Child, Replants, cutAt, treeFrom, forestFrom};
+ghost use Rattle.state.specs.State.{rest, abs};
+ghost use Rattle.declare_steps.specs.Steps.{initFrom, Sited, Valued, hasNone, placeHere, barredHere, worksWith, named, doneOf, toldOf, Moves, Did, afterOf, Spot, declrAfter, overNone, overConst, overCheap, overOther, wants, takeIdent, takeValue, takeOrMark, takeInit};
 use bindings::Alias;
 use bindings::Init;
 use bindings::VarDeclKind;
@@ -34,6 +34,7 @@ use look::is_inline_prevented;
 use look::read_cnt;
 use look::should_prevent_inline_because_of_scope;
 use look::var_type;
+use nodes::cut;
 use nodes::has_this;
 use nodes::skip;
 use records::Step;
@@ -464,4 +465,53 @@ fn take_init(w: &mut [u32], x: u8, e: usize, kind: VarType) -> Told
         Step::Refused(n) => Told::Stopped(n),
         Step::Done => take_or_mark(w, x, e, kind),
     }
+}
+
+// The initialiser at i leaves its declarator at q; of what ended at j, the end.
+fn cut_init(w: &mut [u32], q: usize, i: usize, j: usize) -> usize
+    requires { ⌜ (Planted (now w)) × (Child (tree (now w)) q 1 i) × (i + count (treeFrom (tree (now w)) i) ≤ j) ⌝ }
+    ensures { λ r. ⌜ (Replants (now (w .entry)) (now (w .exit)) (cutAt (tree (now (w .entry))) q i)) × (r ≡ j - count (treeFrom (tree (now (w .entry))) i)) ⌝ }
+{
+    let old = skip(w, i) - i;
+    cut(w, q, i);
+    j - old
+}
+
+// The end of a declarator without an initialiser.
+fn after_bare(w: &mut [u32], x: u8, kind: VarType, q: usize, i: usize, j: usize) -> After
+    requires { ⌜ (Planted (now w)) × (Spot (tree (now w)) q 0 i j) ⌝ }
+    ensures { λ r. ⌜ Did (now (w .entry)) (now (w .exit)) (declrAfter q (typeOf kind) (named x) 0 i j (abs (now (w .entry)))) (afterOf r (abs (now (w .exit)))) ⌝ }
+{
+    match declare_m(w, x, Init::NoInit, 0, false, kind) {
+        Step::Refused(n) => After::Halted(n),
+        Step::Done => After::At(j),
+    }
+}
+
+// And with one.
+fn after_init(w: &mut [u32], x: u8, kind: VarType, q: usize, n: usize, i: usize, j: usize) -> After
+    requires { ⌜ (Planted (now w)) × (Spot (tree (now w)) q n i j) × (0 < n) ⌝ }
+    ensures { λ r. ⌜ Did (now (w .entry)) (now (w .exit)) (declrAfter q (typeOf kind) (named x) n i j (abs (now (w .entry)))) (afterOf r (abs (now (w .exit)))) ⌝ }
+{
+    match take_init(w, x, i, kind) {
+        Told::Stopped(m) => After::Halted(m),
+        Told::Answer(gone) => {
+            if gone {
+                return After::At(cut_init(w, q, i, j));
+            }
+            After::At(j)
+        }
+    }
+}
+
+// The end of a declarator of x in Inlining, after the second walk of the n trees from i on, which end at j: an initialiser that is recorded
+// leaves the declarator at q.
+pub fn declr_after(w: &mut [u32], x: u8, kind: VarType, q: usize, n: usize, i: usize, j: usize) -> After
+    requires { ⌜ (Planted (now w)) × (Spot (tree (now w)) q n i j) ⌝ }
+    ensures { λ r. ⌜ Did (now (w .entry)) (now (w .exit)) (declrAfter q (typeOf kind) (named x) n i j (abs (now (w .entry)))) (afterOf r (abs (now (w .exit)))) ⌝ }
+{
+    if n == 0 {
+        return after_bare(w, x, kind, q, i, j);
+    }
+    after_init(w, x, kind, q, n, i, j)
 }
