@@ -145,7 +145,7 @@ module _ {w : List ℕ} (g : Planted w) (x : ℕ) (k : VarType) (q n i j : ℕ) 
       record {
         ok = ok-then (p .ok) (replants-ok r);
         is = after-is q k (named x) n i j w ∙ ap (after q n i j (tree w)) (takes-here ∙ ap (λ r. andThen r (counted e)) (p .is)) ∙ after-cut (setNodes (rest u .nodes - count e) (rest u))
-        ∙ sym (rw (s, t) refl);
+            ∙ sym (rw (s, t) refl);
       }
 
 pub child-at : {w : List ℕ} {q i : ℕ} → Planted w → Child (tree w) q 1 i → i < getD w 0 0

@@ -506,7 +506,15 @@ fn after_init(w: &mut [u32], x: u8, kind: VarType, q: usize, n: usize, i: usize,
 
 // The end of a declarator of x in Inlining, after the second walk of the n trees from i on, which end at j: an initialiser that is recorded
 // leaves the declarator at q.
-pub fn declr_after(w: &mut [u32], x: u8, kind: VarType, q: usize, n: usize, i: usize, j: usize) -> After
+pub fn declr_after(
+    w: &mut [u32],
+    x: u8,
+    kind: VarType,
+    q: usize,
+    n: usize,
+    i: usize,
+    j: usize,
+) -> After
     requires { ⌜ (Planted (now w)) × (Spot (tree (now w)) q n i j) ⌝ }
     ensures { λ r. ⌜ Did (now (w .entry)) (now (w .exit)) (declrAfter q (typeOf kind) (named x) n i j (abs (now (w .entry)))) (afterOf r (abs (now (w .exit)))) ⌝ }
 {

@@ -36,22 +36,29 @@ use Rattle.declare_steps.proofs.after_bare.Tie as tie
 use Rattle.declare_steps.proofs.after_bare.Reads as reads
 use Rattle.declare_steps.proofs.after_bare.Lts as lts
 use Rattle.declare_steps.proofs.declare_m.Reads as declare-m-reads
+
 declare-m-requires : tie.Need-declare-m-requires
 declare-m-requires c κs = search needs
+
 enum-known-n : tie.Need-enum-known-n
 enum-known-n c = search needs
+
 enum-told : tie.Need-enum-told
 enum-told c = search needs
+
 same-length : tie.Need-same-length
 same-length c = search needs
+
 returns : tie.Need-returns
 returns c =
     let at-n = c .before in
     let at-declare-m = at-n .before .before .before .before in
     let at-entry = at-declare-m .before .before .before in
     ends.after-stop (typeOf (at-entry .args .kind)) (named (at-entry .args .x)) (at-entry .args .q) 0 (at-entry .args .i) (at-entry .args .j) (acts.moves-by (ends.bare-here (at-entry .args .x) (typeOf (at-entry .args .kind)) (tree (at-entry .args .w .now)) (at-entry .args .i) (rest (at-entry .args .w .now))) (acts.moves-stop (λ u. ret false) (rw (at-n .n .given .1) at (at-declare-m .declare-m .ensures))))
+
 same-length-2 : tie.Need-same-length-2
 same-length-2 c = search needs
+
 returns-2 : tie.Need-returns-2
 returns-2 c =
     let at-declare-m = c .before .before .before .before in

@@ -18,18 +18,24 @@ use Rattle.declare_steps.proofs.cut_init.Reads as reads
 use Rattle.declare_steps.proofs.cut_init.Lts as lts
 use Rattle.nodes.proofs.cut.Reads as cut-reads
 use Rattle.nodes.proofs.skip.Reads as skip-reads
+
 skip-requires : tie.Need-skip-requires
 skip-requires c κs =
     let at-entry = c .before .before in
     (at-entry .pre .0, ends.child-at (at-entry .pre .0) (at-entry .pre .1))
+
 sub-old : tie.Need-sub-old
 sub-old c = search needs
+
 cut-requires : tie.Need-cut-requires
 cut-requires c κs = search needs
+
 sub-result : tie.Need-sub-result
 sub-result c = search needs
+
 same-length : tie.Need-same-length
 same-length c = search needs
+
 returns : tie.Need-returns
 returns c = search needs
 

@@ -37,20 +37,26 @@ use Rattle.declare_steps.proofs.declr_after.Reads as reads
 use Rattle.declare_steps.proofs.declr_after.Lts as lts
 use Rattle.declare_steps.proofs.after_bare.Reads as after-bare-reads
 use Rattle.declare_steps.proofs.after_init.Reads as after-init-reads
+
 after-bare-requires : tie.Need-after-bare-requires
 after-bare-requires c κs = search needs
+
 same-length : tie.Need-same-length
 same-length c = search needs
+
 returns : tie.Need-returns
 returns c =
     let at-after-bare = c .before .before in
     let at-if1 = at-after-bare .before .before in
     let at-entry = at-if1 .before .before in
     ends.did-by (ap (λ (n : ℕ). declrAfter (at-entry .args .q) (typeOf (at-entry .args .kind)) (named (at-entry .args .x)) n (at-entry .args .i) (at-entry .args .j) (abs (at-entry .args .w .now))) (at-if1 .if1 .taken)) (at-after-bare .after-bare .ensures)
+
 after-init-requires : tie.Need-after-init-requires
 after-init-requires c κs = search needs
+
 same-length-2 : tie.Need-same-length-2
 same-length-2 c = search needs
+
 returns-2 : tie.Need-returns-2
 returns-2 c = search needs
 
