@@ -1,8 +1,8 @@
 // The steps of declarators: declared, looked at, taken out.
 ghost use mathlib.Core.Path.{_≡_};
-ghost use mathlib.Core.Bool.{Bool, true, false, _||_, _&&_, not};
+ghost use mathlib.Core.Bool.{true, false, _||_, _&&_, not};
 ghost use mathlib.Core.Option.{some};
-ghost use Prim.Native.Nat.{ℕ, _+_, _-_, _≤_, _<_};
+ghost use Prim.Native.Nat.{_+_, _-_, _≤_, _<_};
 ghost use lib.ListN.{getD, drop};
 ghost use Rattle.tree.specs.Tree.{count, lengthF, plant};
 ghost use Rattle.tree.specs.Combine.{andThen, ret, done};
@@ -158,7 +158,20 @@ fn declare_bare(w: &mut [u32], x: u8, undefined: bool, kind: VarType) -> Step
 {
     let p = should_prevent_inline_because_of_scope(w, x);
     let looped = in_loop(w);
-    declare_with(w, x, Init::NoInit, 0, 0, p, undefined, kind, Alias::NoAlias, looped, false, x)
+    declare_with(
+        w,
+        x,
+        Init::NoInit,
+        0,
+        0,
+        p,
+        undefined,
+        kind,
+        Alias::NoAlias,
+        looped,
+        false,
+        x,
+    )
 }
 
 // declare with the tree at i as its init, which is no identifier.
@@ -169,7 +182,20 @@ fn declare_value(w: &mut [u32], x: u8, v: Init, i: usize, undefined: bool, kind:
     let m = skip(w, i) - i;
     let p = prevented_at(w, x, i);
     let looped = in_loop(w);
-    declare_with(w, x, v, i, m, p, undefined, kind, Alias::NoAlias, looped, false, x)
+    declare_with(
+        w,
+        x,
+        v,
+        i,
+        m,
+        p,
+        undefined,
+        kind,
+        Alias::NoAlias,
+        looped,
+        false,
+        x,
+    )
 }
 
 // declare with the identifier at i as its init.
@@ -480,7 +506,15 @@ fn after_init(w: &mut [u32], x: u8, kind: VarType, q: usize, n: usize, i: usize,
 
 // The end of a declarator of x in Inlining, after the second walk of the n trees from i on, which end at j: an initialiser that is recorded
 // leaves the declarator at q.
-pub fn declr_after(w: &mut [u32], x: u8, kind: VarType, q: usize, n: usize, i: usize, j: usize) -> After
+pub fn declr_after(
+    w: &mut [u32],
+    x: u8,
+    kind: VarType,
+    q: usize,
+    n: usize,
+    i: usize,
+    j: usize,
+) -> After
     requires { ⌜ (Planted (now w)) × (Spot (tree (now w)) q n i j) ⌝ }
     ensures { λ r. ⌜ Did (now (w .entry)) (now (w .exit)) (declrAfter q (typeOf kind) (named x) n i j (abs (now (w .entry)))) (afterOf r (abs (now (w .exit)))) ⌝ }
 {

@@ -1,17 +1,12 @@
-use mathlib.Core.Path.{_≡_, refl, sym, ap, _∙_}
-use mathlib.Core.Bool.{Bool, true, false, _||_, _&&_, not}
-use mathlib.Core.Option.{Option, none, some}
-use mathlib.Core.List.{List, [], _∷_}
-use Prim.Native.Nat.{ℕ, suc, _+_, _*_, _-_, _≤_, _<_}
+-- idx_val of both, and the barriers between them. Assumes nothing.
+use mathlib.Core.Path.{sym, ap, _∙_}
+use mathlib.Core.Bool.{_||_}
+use mathlib.Core.Option.{Option}
+use Prim.Native.Nat.{ℕ, _-_, _<_}
 use native.Mathlib.Omega.{arith}
-use borrow.Author.Tests.{eqb-true, ne-eqb, eq-eqb}
-use lib.Dec.{eqb, ltb}
-use lib.ListN.{length, getD}
+use lib.Dec.{ltb}
 use Rattle.declare_steps.proofs.Init as init
 use Rattle.scopes.specs.State.{stack}
-use Rattle.words.specs.Layout.{tree, run}
-use Rattle.nodes.specs.Nodes.{treeFrom}
-use Rattle.tree.specs.Tree.{Tree, kind, num, count}
 use Rattle.definition.specs.Scope.{VarInfo, barred, between}
 use Rattle.look.specs.Look.{barsHere}
 use Rattle.declare_steps.specs.Steps.{placeHere}
@@ -23,19 +18,25 @@ use Rattle.declare_steps.proofs.barred_here.Lts as lts
 use Rattle.declare_steps.proofs.place_here.Reads as place-here-reads
 use Rattle.look.proofs.barred.Reads as barred-reads
 use Rattle.look.proofs.idx_val.Reads as idx-val-reads
+
 idx-val-requires : tie.Need-idx-val-requires
 idx-val-requires c κs = search needs
+
 returns : tie.Need-returns
 returns c =
     let at-idx-val = c .before in
     let at-entry = at-idx-val .before .before in
     sym (ap (λ (o : Option (ℕ × VarInfo)). barred o (placeHere (at-entry .args .x) (stack (at-entry .args .w .now))) (barsHere (stack (at-entry .args .w .now)))) (at-idx-val .idx-val .ensures ∙ init.idx-none (at-entry .args .w .now) (at-idx-val .idx-val .result) (c .if1 .taken)))
+
 place-here-requires : tie.Need-place-here-requires
 place-here-requires c κs = search needs
+
 sub-barred : tie.Need-sub-barred
 sub-barred c = search needs
+
 barred-requires : tie.Need-barred-requires
 barred-requires c κs = search needs
+
 returns-2 : tie.Need-returns-2
 returns-2 c =
     let at-place-here = c .before in

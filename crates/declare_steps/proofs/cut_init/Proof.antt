@@ -1,16 +1,5 @@
-use mathlib.Core.Path.{_≡_, refl, sym, ap, _∙_}
-use mathlib.Core.Bool.{Bool, true, false, _||_, _&&_, not}
-use mathlib.Core.Option.{Option, none, some}
-use mathlib.Core.List.{List, [], _∷_}
-use Prim.Native.Nat.{ℕ, suc, _+_, _*_, _-_, _≤_, _<_}
-use native.Mathlib.Omega.{arith}
-use borrow.Author.Tests.{eqb-true, ne-eqb, eq-eqb}
-use lib.Dec.{eqb, ltb}
-use lib.ListN.{length, getD}
+-- A child is one of the nodes. Assumes nothing.
 use Rattle.declare_steps.proofs.Ends as ends
-use Rattle.tree.specs.Tree.{Core}
-use Rattle.state.specs.State.{abs}
-use Rattle.declare_steps.specs.Steps.{declrAfter}
 use borrow.Author.Needs.{needs}
 use Rattle.declare_steps.proofs.cut_init.Statement.{statement}
 use Rattle.declare_steps.proofs.cut_init.Tie as tie
@@ -18,18 +7,24 @@ use Rattle.declare_steps.proofs.cut_init.Reads as reads
 use Rattle.declare_steps.proofs.cut_init.Lts as lts
 use Rattle.nodes.proofs.cut.Reads as cut-reads
 use Rattle.nodes.proofs.skip.Reads as skip-reads
+
 skip-requires : tie.Need-skip-requires
 skip-requires c κs =
     let at-entry = c .before .before in
     (at-entry .pre .0, ends.child-at (at-entry .pre .0) (at-entry .pre .1))
+
 sub-old : tie.Need-sub-old
 sub-old c = search needs
+
 cut-requires : tie.Need-cut-requires
 cut-requires c κs = search needs
+
 sub-result : tie.Need-sub-result
 sub-result c = search needs
+
 same-length : tie.Need-same-length
 same-length c = search needs
+
 returns : tie.Need-returns
 returns c = search needs
 

@@ -1,17 +1,8 @@
-use mathlib.Core.Path.{_≡_, refl, sym, ap, _∙_}
-use mathlib.Core.Bool.{Bool, true, false, _||_, _&&_, not}
-use mathlib.Core.Option.{Option, none, some}
-use mathlib.Core.List.{List, [], _∷_}
-use Prim.Native.Nat.{ℕ, suc, _+_, _*_, _-_, _≤_, _<_}
+-- declare without an init names no binding. Assumes nothing.
+use mathlib.Core.Path.{refl}
 use native.Mathlib.Omega.{arith}
-use borrow.Author.Tests.{eqb-true, ne-eqb, eq-eqb}
-use lib.Dec.{eqb, ltb}
-use lib.ListN.{length, getD}
 use Rattle.declare_steps.proofs.Init as init
 use Rattle.scopes.specs.State.{stack}
-use Rattle.words.specs.Layout.{tree, run}
-use Rattle.nodes.specs.Nodes.{treeFrom}
-use Rattle.tree.specs.Tree.{Tree, kind, num, count}
 use Rattle.bindings.specs.Kinds.{typeOf}
 use borrow.Author.Needs.{needs}
 use Rattle.declare_steps.proofs.declare_bare.Statement.{statement}
@@ -21,17 +12,22 @@ use Rattle.declare_steps.proofs.declare_bare.Lts as lts
 use Rattle.bindings.proofs.declare_with.Reads as declare-with-reads
 use Rattle.look.proofs.in_loop.Reads as in-loop-reads
 use Rattle.look.proofs.should_prevent_inline_because_of_scope.Reads as should-prevent-inline-because-of-scope-reads
+
 should-prevent-inline-because-of-scope-requires :
     tie.Need-should-prevent-inline-because-of-scope-requires
 should-prevent-inline-because-of-scope-requires c κs = search needs
+
 in-loop-requires : tie.Need-in-loop-requires
 in-loop-requires c κs = search needs
+
 declare-with-requires : tie.Need-declare-with-requires
 declare-with-requires c κs =
     let at-entry = c .before .before .before .before .before .before in
     (at-entry .pre .good, omega arith, init.none-one (at-entry .args .w .now), refl)
+
 same-length : tie.Need-same-length
 same-length c = search needs
+
 returns : tie.Need-returns
 returns c =
     let at-declare-with = c .before .before in

@@ -1,17 +1,12 @@
-use mathlib.Core.Path.{_≡_, refl, sym, ap, _∙_}
-use mathlib.Core.Bool.{Bool, true, false, _||_, _&&_, not}
-use mathlib.Core.Option.{Option, none, some}
-use mathlib.Core.List.{List, [], _∷_}
-use Prim.Native.Nat.{ℕ, suc, _+_, _*_, _-_, _≤_, _<_}
+-- An init that is an identifier may name a binding of the scope. Assumes nothing.
+use mathlib.Core.Path.{_≡_, sym, _∙_}
+use Prim.Native.Nat.{_-_}
 use native.Mathlib.Omega.{arith}
-use borrow.Author.Tests.{eqb-true, ne-eqb, eq-eqb}
-use lib.Dec.{eqb, ltb}
-use lib.ListN.{length, getD}
+use borrow.Author.Tests.{eqb-true}
 use Rattle.declare_steps.proofs.Init as init
-use Rattle.scopes.specs.State.{stack}
-use Rattle.words.specs.Layout.{tree, run}
+use Rattle.words.specs.Layout.{tree}
 use Rattle.nodes.specs.Nodes.{treeFrom}
-use Rattle.tree.specs.Tree.{Tree, kind, num, count}
+use Rattle.tree.specs.Tree.{kind, count}
 use Rattle.bindings.specs.Kinds.{typeOf, aliasOf}
 use Rattle.nodes.proofs.Splice.{subtree-one}
 use mathlib.Core.Logic.{inr}
@@ -27,30 +22,40 @@ use Rattle.declare_steps.proofs.prevented_at.Reads as prevented-at-read
 use Rattle.look.proofs.ident_at.Reads as ident-at-reads
 use Rattle.look.proofs.in_loop.Reads as in-loop-reads
 use Rattle.nodes.proofs.skip.Reads as skip-reads
+
 skip-requires : tie.Need-skip-requires
 skip-requires c κs = search needs
+
 sub-m : tie.Need-sub-m
 sub-m c = search needs
+
 prevented-at-requires : tie.Need-prevented-at-requires
 prevented-at-requires c κs = search needs
+
 in-loop-requires : tie.Need-in-loop-requires
 in-loop-requires c κs = search needs
+
 ident-at-requires : tie.Need-ident-at-requires
 ident-at-requires c κs =
     let at-entry = c .before .before .before .before .before .before .before .before in
     (at-entry .pre .0 .good, at-entry .pre .1, inr (sym (init.from-kind (at-entry .args .w .now) (at-entry .args .i) (at-entry .pre .1)) ∙ eqb-true (kind (treeFrom (tree (at-entry .args .w .now)) (at-entry .args .i))) 21 (at-entry .pre .3)))
+
 alias-for-requires : tie.Need-alias-for-requires
 alias-for-requires c κs = search needs
+
 barred-for-requires : tie.Need-barred-for-requires
 barred-for-requires c κs = search needs
+
 declare-with-requires : tie.Need-declare-with-requires
 declare-with-requires c κs =
     let at-skip = c .before .before .before .before .before .before .before .before .before .before .before in
     let at-entry = at-skip .before .before .before in
     let em : at-skip .skip .result - at-entry .args .i ≡ count (treeFrom (tree (at-entry .args .w .now)) (at-entry .args .i)) = omega (arith, at-skip .skip .ensures .0) in
     (at-entry .pre .0 .good, omega (arith, at-skip .skip .ensures), rw em (subtree-one (at-entry .pre .0) (at-entry .pre .1)), init.valued-sized (at-entry .args .v) _ (at-entry .pre .2) (omega (arith, at-skip .skip .ensures)))
+
 same-length : tie.Need-same-length
 same-length c = search needs
+
 returns : tie.Need-returns
 returns c =
     let at-declare-with = c .before .before in

@@ -1,17 +1,7 @@
-use mathlib.Core.Path.{_≡_, refl, sym, ap, _∙_}
-use mathlib.Core.Bool.{Bool, true, false, _||_, _&&_, not}
-use mathlib.Core.Option.{Option, none, some}
-use mathlib.Core.List.{List, [], _∷_}
-use Prim.Native.Nat.{ℕ, suc, _+_, _*_, _-_, _≤_, _<_}
-use native.Mathlib.Omega.{arith}
-use borrow.Author.Tests.{eqb-true, ne-eqb, eq-eqb}
-use lib.Dec.{eqb, ltb}
-use lib.ListN.{length, getD}
+-- Each part of the test. Assumes nothing.
+use mathlib.Core.Path.{sym, ap, _∙_}
+use lib.ListN.{getD}
 use Rattle.declare_steps.proofs.Parts as parts
-use Rattle.scopes.specs.State.{stack}
-use Rattle.words.specs.Layout.{tree, run}
-use Rattle.nodes.specs.Nodes.{treeFrom}
-use Rattle.tree.specs.Tree.{Tree, kind, num, count}
 use Rattle.state.specs.State.{rest}
 use Rattle.definition.specs.Scope.{isVar}
 use Rattle.scopes.specs.State.{varTypeOf}
@@ -23,20 +13,26 @@ use Rattle.declare_steps.proofs.undefined_now.Tie as tie
 use Rattle.declare_steps.proofs.undefined_now.Reads as reads
 use Rattle.declare_steps.proofs.undefined_now.Lts as lts
 use Rattle.declare_steps.proofs.no_value.Reads as no-value-reads
+
 shared-slice-read-if1 : tie.Need-shared-slice-read-if1
 shared-slice-read-if1 c = search needs
+
 returns : tie.Need-returns
 returns c =
     let at-entry = c .before .before .before in
     sym (parts.not-var (isVar (rest (at-entry .args .w .now) .varDeclKind)) (at-entry .args .is-change) (hasNone (at-entry .args .v)) (rest (at-entry .args .w .now) .inlining) (ap isVar (parts.rest-kind (at-entry .args .w .now)) ∙ var-no (getD (at-entry .args .w .now) 8 0) (c .if1 .taken)))
+
 returns-2 : tie.Need-returns-2
 returns-2 c =
     let at-entry = c .before .before .before .before in
     sym (parts.a-change (isVar (rest (at-entry .args .w .now) .varDeclKind)) (at-entry .args .is-change) (hasNone (at-entry .args .v)) (rest (at-entry .args .w .now) .inlining) (c .if2 .taken))
+
 no-value-requires : tie.Need-no-value-requires
 no-value-requires c κs = search needs
+
 shared-slice-read-result : tie.Need-shared-slice-read-result
 shared-slice-read-result c = search needs
+
 returns-3 : tie.Need-returns-3
 returns-3 c =
     let at-if3 = c .before in
@@ -45,6 +41,7 @@ returns-3 c =
     let at-if1 = at-if2 .before in
     let at-entry = at-if1 .before .before .before in
     sym (parts.all-but (isVar (rest (at-entry .args .w .now) .varDeclKind)) (at-entry .args .is-change) (hasNone (at-entry .args .v)) (rest (at-entry .args .w .now) .inlining) (ap isVar (parts.rest-kind (at-entry .args .w .now) ∙ ap varTypeOf (at-if1 .if1 .left))) (at-if2 .if2 .left) (sym (at-no-value .no-value .ensures) ∙ at-if3 .if3 .taken) ∙ parts.rest-inlining (at-entry .args .w .now) ∙ sym (flag (getD (at-entry .args .w .now) 6 0)))
+
 returns-4 : tie.Need-returns-4
 returns-4 c =
     let at-no-value = c .before in
