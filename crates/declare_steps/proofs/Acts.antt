@@ -2,10 +2,10 @@
 use mathlib.Core.Path.{_≡_, refl, sym, ap, _∙_}
 use mathlib.Core.List.{List}
 use mathlib.Core.Bool.{Bool, true, false}
-use Prim.Native.Nat.{ℕ, _≤_, _<_}
+use Prim.Native.Nat.{ℕ}
 use native.Mathlib.Omega.{arith}
 use lib.ListN.{length, getD}
-use Rattle.tree.specs.Combine.{Res, stop, done, Nothing, andThen, ret, Flat, carry, forestAt, actF}
+use Rattle.tree.specs.Combine.{Res, stop, done, Nothing, andThen, ret, carry, forestAt, actF}
 use Rattle.tree.specs.Tree.{Forest, Core}
 use Rattle.definition.specs.Scope.{Stack}
 use Rattle.definition.specs.Walk.{St, M, setStack, mark, grow}
@@ -18,7 +18,7 @@ use Rattle.records.specs.declared.Step.the-variants.{Done, Refused}
 use Rattle.nodes.specs.Nodes.{Planted, forestFrom}
 use Rattle.state.specs.State.{Ok, rest, abs}
 use Rattle.state.proofs.Fields.{becomes-rest, becomes-ok, count-kept, ok-self, ok-then}
-use Rattle.declare_steps.specs.Steps.{doneOf, toldOf, Moves, Did}
+use Rattle.declare_steps.specs.Steps.{doneOf, toldOf, Moves}
 use Rattle.declare_steps.specs.declared.Told.{Told}
 
 pub still-ok : {w u : List ℕ} → Planted w → length u ≡ length w → Still w u → Ok w u

@@ -1,13 +1,13 @@
 -- The end of a declarator: what stays, and what is taken out with its nodes. Assumes nothing.
 use mathlib.Core.Path.{_≡_, refl, sym, ap, _∙_}
-use mathlib.Core.List.{List, [], _∷_, _++_}
+use mathlib.Core.List.{List, _++_}
 use mathlib.Core.Bool.{Bool, true, false}
 use Prim.Native.Nat.{ℕ, zero, suc, _+_, _-_, _≤_, _<_}
 use native.Mathlib.Omega.{arith}
 use lib.ListN.{length, getD, set, take, drop, length-set, length-append, length-drop}
 use lib.Seq.{length-take-le, set-getD}
 use Rattle.tree.specs.Base.{pick}
-use Rattle.tree.specs.Tree.{Tree, Forest, Core, noCore, nil, cons, count, lengthF, plant, takeF}
+use Rattle.tree.specs.Tree.{Tree, Forest, Core, noCore, nil, cons, count, plant, takeF}
 use Rattle.tree.specs.Combine.{Res, stop, done, Nothing, andThen, ret, iff, _>>_, carry, cutFirst, Flat, nodeAt, treeAt, forestAt, setArity, reArity}
 use Rattle.definition.specs.Tree.{isIdent, tailF}
 use Rattle.definition.specs.Scope as def
@@ -20,7 +20,7 @@ use Rattle.nodes.proofs.Trees.{child-lt, behind-le}
 use Rattle.nodes.proofs.Words.{tree-whole}
 use Rattle.nodes.proofs.Walks as walks
 use Rattle.tree.proofs.Whole.{whole-drop}
-use Rattle.state.specs.State.{Ok, rest, abs}
+use Rattle.state.specs.State.{rest, abs}
 use Rattle.state.proofs.Fields.{ok-then, replants-ok, replants-rest}
 use Rattle.declare_steps.specs.Steps.{named, wants, takeIdent, takeValue, takeOrMark, takeInit, Moves, Did, Spot, declrAfter}
 use Rattle.declare_steps.proofs.Acts as acts

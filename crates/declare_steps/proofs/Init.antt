@@ -1,18 +1,18 @@
 -- What `declare` looks up, and that it is `declareWith` of that. Assumes nothing.
 use mathlib.Core.Path.{_≡_, refl, sym, ap, _∙_}
-use mathlib.Core.List.{List, [], _∷_, _++_}
+use mathlib.Core.List.{List, [], _∷_}
 use mathlib.Core.Bool.{Bool, true, false, _||_, _&&_, not}
 use mathlib.Core.Option.{Option, none, some}
 use Prim.Native.Nat.{ℕ, zero, suc, _+_, _-_, _*_, _≤_, _<_}
 use native.Mathlib.Omega.{arith}
-use lib.ListN.{length, getD, drop, length-drop}
+use lib.ListN.{length, getD, length-drop}
 use lib.Dec.{eqb}
 use Rattle.tree.specs.Base.{pick, toNat}
-use Rattle.tree.specs.Tree.{Tree, Core, kind, num, flat, plant, firstT, count}
+use Rattle.tree.specs.Tree.{Tree, Core, kind, num, plant, firstT, count}
 use Rattle.definition.specs.Tree.{isIdent}
 use Rattle.tree.proofs.Place.{plant-flat}
 use Rattle.definition.specs.Scope as def
-use Rattle.definition.specs.Scope.{VarInfo, Scope, Stack, VarType, findIn, idxVal, idxValO, findBindingFromCurrent, aliasFrom, placeOr, declare, kept, initOf, identOf, preventedO, shouldPreventInlineBecauseOfScope, inLoop, isParam, paramO, barred, preventInline, preventInlineO, isInlinePrevented}
+use Rattle.definition.specs.Scope.{VarInfo, Scope, Stack, VarType, findIn, idxValO, findBindingFromCurrent, aliasFrom, placeOr, declare, kept, initOf, identOf, preventedO, shouldPreventInlineBecauseOfScope, inLoop, isParam, paramO, isInlinePrevented}
 use Rattle.words.specs.Layout.{tree, run, nodeOf}
 use Rattle.words.proofs.Nodes.{run-length}
 use Rattle.scopes.specs.State.{Good, stack, indexIn, bindAt, binds, varTypeOf, valueOf, runOf}
@@ -29,7 +29,7 @@ use Rattle.bindings.specs.declared.Init.{Init}
 use Rattle.bindings.specs.declared.Init.the-variants.{NoInit, Recorded, Seen}
 use Rattle.bindings.proofs.Top.{stack-top}
 use Rattle.bindings.proofs.Declares.{declare-is}
-use Rattle.look.specs.Look.{idxHere, idxAt, atPlace, barsHere, first, nodeTree}
+use Rattle.look.specs.Look.{idxHere, idxAt, first, nodeTree}
 use Rattle.look.proofs.Facts.{placed, idx-find, node-tree, or-false}
 use Rattle.nodes.specs.Nodes.{Planted, treeFrom}
 use Rattle.nodes.proofs.Splice.{subtree-run}

@@ -3,21 +3,21 @@ use mathlib.Core.Path.{_≡_}
 use mathlib.Core.List.{List, [], _∷_}
 use mathlib.Core.Bool.{Bool, true, false, _&&_, _||_, not}
 use mathlib.Core.Option.{Option, none, some}
-use Prim.Native.Nat.{ℕ, suc, _+_, _-_, _≤_, _<_}
+use Prim.Native.Nat.{ℕ, suc, _+_, _≤_, _<_}
 use lib.ListN.{length, getD}
 use Rattle.tree.specs.Tree.{Tree, Core, noCore, node, nil, count}
 use Rattle.tree.specs.Combine.{Res, stop, done, M as MS, Nothing, _>>=_, _>>_, ret, iff, Flat, actF, cutFirst, setArity}
 use Rattle.definition.specs.Scope as def
 use Rattle.definition.specs.Tree.{isIdent, isCheap, hasThis}
-use Rattle.definition.specs.Scope.{VarInfo, Scope, Stack, idxVal, placeOr, isParam, paramO, isConst, aliasFrom, barred, addConst, isInlinePrevented, preventInline, findBinding}
+use Rattle.definition.specs.Scope.{Stack, placeOr, isParam, paramO, isConst, barred, addConst, isInlinePrevented, preventInline, findBinding}
 use Rattle.definition.specs.Walk.{St, M, when, mark, grow, declareM, asIdent, readOnce?, takes}
 use Rattle.tree.specs.Base.{pick}
 use Rattle.words.specs.Layout.{tree}
 use Rattle.look.specs.Look.{idxHere, barsHere}
 use Rattle.nodes.specs.Nodes.{treeFrom}
-use Rattle.state.specs.State.{Ok, abs}
+use Rattle.state.specs.State.{Ok}
 use Rattle.records.specs.declared.Step.{Step}
-use Rattle.records.specs.declared.Step.the-variants.{Done, Refused as Refused}
+use Rattle.records.specs.declared.Step.the-variants.{Done, Refused}
 use Rattle.bindings.specs.declared.Init.{Init}
 use Rattle.bindings.specs.declared.Init.the-variants.{NoInit, Recorded, Seen}
 use Rattle.declare_steps.specs.declared.Told.{Told}

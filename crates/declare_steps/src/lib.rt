@@ -1,8 +1,8 @@
 // The steps of declarators: declared, looked at, taken out.
 ghost use mathlib.Core.Path.{_≡_};
-ghost use mathlib.Core.Bool.{Bool, true, false, _||_, _&&_, not};
+ghost use mathlib.Core.Bool.{true, false, _||_, _&&_, not};
 ghost use mathlib.Core.Option.{some};
-ghost use Prim.Native.Nat.{ℕ, _+_, _-_, _≤_, _<_};
+ghost use Prim.Native.Nat.{_+_, _-_, _≤_, _<_};
 ghost use lib.ListN.{getD, drop};
 ghost use Rattle.tree.specs.Tree.{count, lengthF, plant};
 ghost use Rattle.tree.specs.Combine.{andThen, ret, done};

@@ -1,16 +1,7 @@
-use mathlib.Core.Path.{_≡_, refl, sym, ap, _∙_}
-use mathlib.Core.Bool.{Bool, true, false, _||_, _&&_, not}
-use mathlib.Core.Option.{Option, none, some}
-use mathlib.Core.List.{List, [], _∷_}
-use Prim.Native.Nat.{ℕ, suc, _+_, _*_, _-_, _≤_, _<_}
-use native.Mathlib.Omega.{arith}
-use borrow.Author.Tests.{eqb-true, ne-eqb, eq-eqb}
-use lib.Dec.{eqb, ltb}
-use lib.ListN.{length, getD}
+-- Both halves. Assumes nothing.
+use mathlib.Core.Path.{sym, ap, _∙_}
+use mathlib.Core.Bool.{Bool, _&&_}
 use Rattle.scopes.specs.State.{stack}
-use Rattle.words.specs.Layout.{tree, run}
-use Rattle.nodes.specs.Nodes.{treeFrom}
-use Rattle.tree.specs.Tree.{Tree, kind, num, count}
 use Rattle.declare_steps.specs.Steps.{barredHere}
 use borrow.Author.Needs.{needs}
 use Rattle.declare_steps.proofs.barred_for.Statement.{statement}

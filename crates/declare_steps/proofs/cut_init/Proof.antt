@@ -1,16 +1,5 @@
-use mathlib.Core.Path.{_≡_, refl, sym, ap, _∙_}
-use mathlib.Core.Bool.{Bool, true, false, _||_, _&&_, not}
-use mathlib.Core.Option.{Option, none, some}
-use mathlib.Core.List.{List, [], _∷_}
-use Prim.Native.Nat.{ℕ, suc, _+_, _*_, _-_, _≤_, _<_}
-use native.Mathlib.Omega.{arith}
-use borrow.Author.Tests.{eqb-true, ne-eqb, eq-eqb}
-use lib.Dec.{eqb, ltb}
-use lib.ListN.{length, getD}
+-- A child is one of the nodes. Assumes nothing.
 use Rattle.declare_steps.proofs.Ends as ends
-use Rattle.tree.specs.Tree.{Core}
-use Rattle.state.specs.State.{abs}
-use Rattle.declare_steps.specs.Steps.{declrAfter}
 use borrow.Author.Needs.{needs}
 use Rattle.declare_steps.proofs.cut_init.Statement.{statement}
 use Rattle.declare_steps.proofs.cut_init.Tie as tie

@@ -1,17 +1,7 @@
-use mathlib.Core.Path.{_≡_, refl, sym, ap, _∙_}
-use mathlib.Core.Bool.{Bool, true, false, _||_, _&&_, not}
-use mathlib.Core.Option.{Option, none, some}
-use mathlib.Core.List.{List, [], _∷_}
-use Prim.Native.Nat.{ℕ, suc, _+_, _*_, _-_, _≤_, _<_}
-use native.Mathlib.Omega.{arith}
-use borrow.Author.Tests.{eqb-true, ne-eqb, eq-eqb}
-use lib.Dec.{eqb, ltb}
-use lib.ListN.{length, getD}
+-- A mark, or nothing. Assumes nothing.
+use mathlib.Core.Path.{ap}
+use mathlib.Core.Bool.{Bool}
 use Rattle.declare_steps.proofs.Acts as acts
-use Rattle.scopes.specs.State.{stack}
-use Rattle.words.specs.Layout.{tree, run}
-use Rattle.nodes.specs.Nodes.{treeFrom}
-use Rattle.tree.specs.Tree.{Tree, kind, num, count}
 use Rattle.state.specs.State.{rest}
 use Rattle.definition.specs.Scope.{preventInline}
 use Rattle.definition.specs.Walk.{when, mark}
