@@ -1,0 +1,55 @@
+use mathlib.Core.Path.{_≡_, refl, sym, ap, _∙_}
+use mathlib.Core.Bool.{Bool, true, false, _||_, _&&_, not}
+use mathlib.Core.Option.{Option, none, some}
+use mathlib.Core.List.{List, [], _∷_}
+use Prim.Native.Nat.{ℕ, suc, _+_, _*_, _-_, _≤_, _<_}
+use native.Mathlib.Omega.{arith}
+use borrow.Author.Tests.{eqb-true, ne-eqb, eq-eqb}
+use lib.Dec.{eqb, ltb}
+use lib.ListN.{length, getD}
+use Rattle.declare_steps.proofs.Init as init
+use Rattle.scopes.specs.State.{stack}
+use Rattle.words.specs.Layout.{tree, run}
+use Rattle.nodes.specs.Nodes.{treeFrom}
+use Rattle.tree.specs.Tree.{Tree, kind, num, count}
+use Rattle.look.specs.Look.{atPlace}
+use Rattle.look.proofs.Facts.{at-is}
+use borrow.Author.Needs.{needs}
+use Rattle.declare_steps.proofs.alias_for.Statement.{statement}
+use Rattle.declare_steps.proofs.alias_for.Tie as tie
+use Rattle.declare_steps.proofs.alias_for.Reads as reads
+use Rattle.declare_steps.proofs.alias_for.Lts as lts
+use Rattle.declare_steps.proofs.type_of.Reads as type-of-reads
+use Rattle.look.proofs.find_binding_from_current.Reads as find-binding-from-current-reads
+use Rattle.look.proofs.var_type.Reads as var-type-reads
+find-binding-from-current-requires : tie.Need-find-binding-from-current-requires
+find-binding-from-current-requires c κs = search needs
+returns : tie.Need-returns
+returns c =
+    let at-find-binding-from-current = c .before in
+    let at-entry = at-find-binding-from-current .before .before in
+    sym (init.alias-find (at-entry .args .y) (stack (at-entry .args .w .now)) ∙ ap init.kindOfO (at-find-binding-from-current .find-binding-from-current .ensures .0 ∙ ap (λ (r : ℕ). atPlace (at-entry .args .w .now) r) (c .if1 .taken)))
+sub-var-type : tie.Need-sub-var-type
+sub-var-type c = search needs
+var-type-requires : tie.Need-var-type-requires
+var-type-requires c κs = search needs
+type-of-requires : tie.Need-type-of-requires
+type-of-requires c κs = search needs
+returns-2 : tie.Need-returns-2
+returns-2 c =
+    let at-var-type = c .before in
+    let at-if1 = at-var-type .before in
+    let at-find-binding-from-current = at-if1 .before in
+    let at-entry = at-find-binding-from-current .before .before in
+    ap some (c .type-of .ensures ∙ at-var-type .var-type .ensures) ∙ sym (init.alias-find (at-entry .args .y) (stack (at-entry .args .w .now)) ∙ ap init.kindOfO (at-find-binding-from-current .find-binding-from-current .ensures .0 ∙ at-is (at-entry .args .w .now) (at-find-binding-from-current .find-binding-from-current .result) (at-if1 .if1 .left)))
+
+pub alias-for-spec : {M : Type 1} → statement M
+alias-for-spec =
+    tie.close
+    (tie.spec
+    find-binding-from-current-requires
+    returns
+    sub-var-type
+    var-type-requires
+    type-of-requires
+    returns-2)

@@ -1,0 +1,83 @@
+use mathlib.Core.Path.{_≡_, refl, sym, ap, _∙_}
+use mathlib.Core.Bool.{Bool, true, false, _||_, _&&_, not}
+use mathlib.Core.Option.{Option, none, some}
+use mathlib.Core.List.{List, [], _∷_}
+use Prim.Native.Nat.{ℕ, suc, _+_, _*_, _-_, _≤_, _<_}
+use native.Mathlib.Omega.{arith}
+use borrow.Author.Tests.{eqb-true, ne-eqb, eq-eqb}
+use lib.Dec.{eqb, ltb}
+use lib.ListN.{length, getD}
+use Rattle.declare_steps.proofs.Init as init
+use Rattle.scopes.specs.State.{stack}
+use Rattle.words.specs.Layout.{tree, run}
+use Rattle.nodes.specs.Nodes.{treeFrom}
+use Rattle.tree.specs.Tree.{Tree, kind, num, count}
+use borrow.Author.Needs.{needs}
+use Rattle.declare_steps.proofs.declare.Statement.{statement}
+use Rattle.declare_steps.proofs.declare.Tie as tie
+use Rattle.declare_steps.proofs.declare.Reads as reads
+use Rattle.declare_steps.proofs.declare.Lts as lts
+use Rattle.declare_steps.proofs.declare_bare.Reads as declare-bare-reads
+use Rattle.declare_steps.proofs.declare_ident.Reads as declare-ident-reads
+use Rattle.declare_steps.proofs.declare_value.Reads as declare-value-reads
+use Rattle.declare_steps.proofs.is_ident.Reads as is-ident-reads
+use Rattle.declare_steps.proofs.no_value.Reads as no-value-reads
+no-value-requires : tie.Need-no-value-requires
+no-value-requires c κs = search needs
+declare-bare-requires : tie.Need-declare-bare-requires
+declare-bare-requires c κs = search needs
+same-length : tie.Need-same-length
+same-length c = search needs
+returns : tie.Need-returns
+returns c =
+    let at-declare-bare = c .before .before in
+    let at-if1 = at-declare-bare .before .before in
+    let at-no-value = at-if1 .before in
+    let at-entry = at-no-value .before .before in
+    rw (init.none-init (at-entry .args .v) (treeFrom (tree (at-entry .args .w .now)) (at-entry .args .i)) (sym (at-no-value .no-value .ensures) ∙ at-if1 .if1 .taken)) at (at-declare-bare .declare-bare .ensures)
+is-ident-requires : tie.Need-is-ident-requires
+is-ident-requires c κs =
+    let at-if1 = c .before in
+    let at-no-value = at-if1 .before in
+    let at-entry = at-no-value .before .before in
+    (at-entry .pre .0, init.sited-lt (at-entry .args .v) (at-entry .args .i) (getD (at-entry .args .w .now) 0 0) (sym (at-no-value .no-value .ensures) ∙ at-if1 .if1 .left) (at-entry .pre .1))
+declare-ident-requires : tie.Need-declare-ident-requires
+declare-ident-requires c κs =
+    let at-if2 = c .before in
+    let at-is-ident = at-if2 .before in
+    let at-if1 = at-is-ident .before .before in
+    let at-no-value = at-if1 .before in
+    let at-entry = at-no-value .before .before in
+    (at-entry .pre .0, init.sited-lt (at-entry .args .v) (at-entry .args .i) (getD (at-entry .args .w .now) 0 0) (sym (at-no-value .no-value .ensures) ∙ at-if1 .if1 .left) (at-entry .pre .1), init.valued-of (at-entry .args .v) (sym (at-no-value .no-value .ensures) ∙ at-if1 .if1 .left), sym (at-is-ident .is-ident .ensures) ∙ at-if2 .if2 .taken)
+same-length-2 : tie.Need-same-length-2
+same-length-2 c = search needs
+returns-2 : tie.Need-returns-2
+returns-2 c = search needs
+declare-value-requires : tie.Need-declare-value-requires
+declare-value-requires c κs =
+    let at-if2 = c .before in
+    let at-is-ident = at-if2 .before in
+    let at-if1 = at-is-ident .before .before in
+    let at-no-value = at-if1 .before in
+    let at-entry = at-no-value .before .before in
+    (at-entry .pre .0, init.sited-lt (at-entry .args .v) (at-entry .args .i) (getD (at-entry .args .w .now) 0 0) (sym (at-no-value .no-value .ensures) ∙ at-if1 .if1 .left) (at-entry .pre .1), init.valued-of (at-entry .args .v) (sym (at-no-value .no-value .ensures) ∙ at-if1 .if1 .left), sym (at-is-ident .is-ident .ensures) ∙ at-if2 .if2 .left)
+same-length-3 : tie.Need-same-length-3
+same-length-3 c = search needs
+returns-3 : tie.Need-returns-3
+returns-3 c = search needs
+
+pub declare-spec : {M : Type 1} → statement M
+declare-spec =
+    tie.close
+    (tie.spec
+    no-value-requires
+    declare-bare-requires
+    same-length
+    returns
+    is-ident-requires
+    declare-ident-requires
+    same-length-2
+    returns-2
+    declare-value-requires
+    same-length-3
+    returns-3)

@@ -1,0 +1,38 @@
+use mathlib.Core.Path.{_≡_, refl, sym, ap, _∙_}
+use mathlib.Core.Bool.{Bool, true, false, _||_, _&&_, not}
+use mathlib.Core.Option.{Option, none, some}
+use mathlib.Core.List.{List, [], _∷_}
+use Prim.Native.Nat.{ℕ, suc, _+_, _*_, _-_, _≤_, _<_}
+use native.Mathlib.Omega.{arith}
+use borrow.Author.Tests.{eqb-true, ne-eqb, eq-eqb}
+use lib.Dec.{eqb, ltb}
+use lib.ListN.{length, getD}
+use Rattle.declare_steps.proofs.Init as init
+use Rattle.scopes.specs.State.{stack}
+use Rattle.words.specs.Layout.{tree, run}
+use Rattle.nodes.specs.Nodes.{treeFrom}
+use Rattle.tree.specs.Tree.{Tree, kind, num, count}
+use borrow.Author.Needs.{needs}
+use Rattle.declare_steps.proofs.is_cheap.Statement.{statement}
+use Rattle.declare_steps.proofs.is_cheap.Tie as tie
+use Rattle.declare_steps.proofs.is_cheap.Reads as reads
+use Rattle.declare_steps.proofs.is_cheap.Lts as lts
+use Rattle.words.proofs.kind_at.Reads as kind-at-reads
+kind-at-requires : tie.Need-kind-at-requires
+kind-at-requires c κs = search needs
+returns : tie.Need-returns
+returns c =
+    let at-kind-at = c .before in
+    let at-entry = at-kind-at .before .before in
+    sym (ap (λ (n : ℕ). eqb n 22 || eqb n 21) (init.from-kind (at-entry .args .w .now) (at-entry .args .i) (at-entry .pre .1) ∙ sym (at-kind-at .kind-at .ensures) ∙ c .if1 .taken))
+kind-at-requires-2 : tie.Need-kind-at-requires-2
+kind-at-requires-2 c κs = search needs
+returns-2 : tie.Need-returns-2
+returns-2 c =
+    let at-if1 = c .before in
+    let at-kind-at = at-if1 .before in
+    let at-entry = at-kind-at .before .before in
+    ap (λ (n : ℕ). eqb n 21) (c .kind-at2 .ensures ∙ sym (init.from-kind (at-entry .args .w .now) (at-entry .args .i) (at-entry .pre .1))) ∙ sym (ap (λ (b : Bool). b || eqb (kind (treeFrom (tree (at-entry .args .w .now)) (at-entry .args .i))) 21) (ne-eqb (kind (treeFrom (tree (at-entry .args .w .now)) (at-entry .args .i))) 22 (λ e. at-if1 .if1 .left (at-kind-at .kind-at .ensures ∙ sym (init.from-kind (at-entry .args .w .now) (at-entry .args .i) (at-entry .pre .1)) ∙ e))))
+
+pub is-cheap-spec : {M : Type 1} → statement M
+is-cheap-spec = tie.close (tie.spec kind-at-requires returns kind-at-requires-2 returns-2)

@@ -1,0 +1,98 @@
+use mathlib.Core.Path.{_≡_, refl, sym, ap, _∙_}
+use mathlib.Core.Bool.{Bool, true, false, _||_, _&&_, not}
+use mathlib.Core.Option.{Option, none, some}
+use mathlib.Core.List.{List, [], _∷_}
+use Prim.Native.Nat.{ℕ, suc, _+_, _*_, _-_, _≤_, _<_}
+use native.Mathlib.Omega.{arith}
+use borrow.Author.Tests.{eqb-true, ne-eqb, eq-eqb}
+use lib.Dec.{eqb, ltb}
+use lib.ListN.{length, getD}
+use Rattle.declare_steps.proofs.Init as init
+use Rattle.declare_steps.proofs.Acts as acts
+use Rattle.declare_steps.proofs.Parts as parts
+use Rattle.scopes.specs.State.{stack}
+use Rattle.words.specs.Layout.{tree, run}
+use Rattle.nodes.specs.Nodes.{treeFrom}
+use Rattle.tree.specs.Tree.{Tree, kind, num, count}
+use Rattle.state.specs.State.{rest}
+use Rattle.definition.specs.Walk.{when, mark, declareM}
+use Rattle.definition.specs.Scope.{isConst, isInlinePrevented, preventInline, addConst, noInit, recorded, seen}
+use Rattle.scopes.specs.State.{varTypeOf}
+use Rattle.bindings.specs.Kinds.{typeOf}
+use Rattle.tree.specs.Combine.{andThen, ret}
+use Rattle.declare_steps.specs.Steps.{named}
+use Rattle.tree.specs.Base.{pick}
+use Rattle.definition.specs.Walk.{St}
+use Rattle.tree.specs.Combine.{Nothing}
+use Rattle.definition.specs.Tree.{hasThis, isCheap}
+use Rattle.declare_steps.specs.Steps.{overCheap, overOther, takeOrMark}
+use Rattle.tree.specs.Tree.{Core}
+use Rattle.definition.specs.Scope.{Stack}
+use borrow.Author.Needs.{needs}
+use Rattle.declare_steps.proofs.over_cheap.Statement.{statement}
+use Rattle.declare_steps.proofs.over_cheap.Tie as tie
+use Rattle.declare_steps.proofs.over_cheap.Reads as reads
+use Rattle.declare_steps.proofs.over_cheap.Lts as lts
+use Rattle.declare_steps.proofs.declare_m.Reads as declare-m-reads
+use Rattle.declare_steps.proofs.prevent_if.Reads as prevent-if-reads
+use Rattle.look.proofs.is_inline_prevented.Reads as is-inline-prevented-reads
+declare-m-requires : tie.Need-declare-m-requires
+declare-m-requires c κs =
+    let at-entry = c .before .before in
+    (at-entry .pre .0, at-entry .pre .1)
+enum-known-n : tie.Need-enum-known-n
+enum-known-n c = search needs
+enum-told : tie.Need-enum-told
+enum-told c = search needs
+is-inline-prevented-requires : tie.Need-is-inline-prevented-requires
+is-inline-prevented-requires c κs =
+    let at-enum-told = c .before in
+    let at-declare-m = at-enum-told .before .before .before .before in
+    let at-entry = at-declare-m .before .before .before in
+    let p = (rw (at-enum-told .enum-told .given .1) at (at-declare-m .declare-m .ensures)) in
+    (p .ok .planted .good, rw (acts.moves-count p) (at-entry .pre .1))
+prevent-if-requires : tie.Need-prevent-if-requires
+prevent-if-requires c κs =
+    let at-enum-told = c .before .before .before in
+    let at-declare-m = at-enum-told .before .before .before .before in
+    let p = (rw (at-enum-told .enum-told .given .1) at (at-declare-m .declare-m .ensures)) in
+    p .ok .planted
+same-length : tie.Need-same-length
+same-length c =
+    let at-declare-m = c .before .before .before .before .before in
+    at-declare-m .declare-m .kept .0
+returns : tie.Need-returns
+returns c =
+    let at-n = c .before in
+    let at-declare-m = at-n .before .before .before .before in
+    let at-entry = at-declare-m .before .before .before in
+    acts.moves-by (parts.cheap-then (at-entry .args .x) (typeOf (at-entry .args .kind)) (treeFrom (tree (at-entry .args .w .now)) (at-entry .args .e)) (rest (at-entry .args .w .now))) (acts.moves-stop (λ (u : Nothing) (s : St). when (isInlinePrevented (treeFrom (tree (at-entry .args .w .now)) (at-entry .args .e)) (s .stack)) (mark (preventInline (at-entry .args .x))) s) (rw (at-n .n .given .1) at (at-declare-m .declare-m .ensures)))
+same-length-2 : tie.Need-same-length-2
+same-length-2 c =
+    let at-prevent-if = c .before .before in
+    let at-declare-m = at-prevent-if .before .before .before .before .before .before .before .before in
+    at-prevent-if .prevent-if .kept .0 ∙ at-declare-m .declare-m .kept .0
+returns-2 : tie.Need-returns-2
+returns-2 c =
+    let at-prevent-if = c .before .before in
+    let at-is-inline-prevented = at-prevent-if .before .before in
+    let at-enum-told = at-is-inline-prevented .before .before in
+    let at-declare-m = at-enum-told .before .before .before .before in
+    let at-entry = at-declare-m .before .before .before in
+    let p = (rw (at-enum-told .enum-told .given .1) at (at-declare-m .declare-m .ensures)) in
+    let e = at-is-inline-prevented .is-inline-prevented .ensures ∙ ap (λ (t : Tree). isInlinePrevented t (stack (at-declare-m .declare-m .last .0))) (init.node-from (at-declare-m .declare-m .last .0) (at-entry .args .e) ∙ ap (λ (ns : List Core). treeFrom ns (at-entry .args .e)) (p .nodes)) ∙ ap (λ (st : Stack). isInlinePrevented (treeFrom (tree (at-entry .args .w .now)) (at-entry .args .e)) st) (sym (acts.rest-stack (at-declare-m .declare-m .last .0))) in
+    acts.moves-by (parts.cheap-then (at-entry .args .x) (typeOf (at-entry .args .kind)) (treeFrom (tree (at-entry .args .w .now)) (at-entry .args .e)) (rest (at-entry .args .w .now))) (acts.moves-then (λ (u : Nothing) (s : St). when (isInlinePrevented (treeFrom (tree (at-entry .args .w .now)) (at-entry .args .e)) (s .stack)) (mark (preventInline (at-entry .args .x))) s) p (rw e at (at-prevent-if .prevent-if .ensures)))
+
+pub over-cheap-spec : {M : Type 1} → statement M
+over-cheap-spec =
+    tie.close
+    (tie.spec
+    declare-m-requires
+    enum-known-n
+    enum-told
+    is-inline-prevented-requires
+    prevent-if-requires
+    same-length
+    returns
+    same-length-2
+    returns-2)

@@ -1,0 +1,99 @@
+use mathlib.Core.Path.{_≡_, refl, sym, ap, _∙_}
+use mathlib.Core.Bool.{Bool, true, false, _||_, _&&_, not}
+use mathlib.Core.Option.{Option, none, some}
+use mathlib.Core.List.{List, [], _∷_}
+use Prim.Native.Nat.{ℕ, suc, _+_, _*_, _-_, _≤_, _<_}
+use native.Mathlib.Omega.{arith}
+use borrow.Author.Tests.{eqb-true, ne-eqb, eq-eqb}
+use lib.Dec.{eqb, ltb}
+use lib.ListN.{length, getD}
+use Rattle.declare_steps.proofs.Init as init
+use Rattle.declare_steps.proofs.Acts as acts
+use Rattle.declare_steps.proofs.Parts as parts
+use Rattle.scopes.specs.State.{stack}
+use Rattle.words.specs.Layout.{tree, run}
+use Rattle.nodes.specs.Nodes.{treeFrom}
+use Rattle.tree.specs.Tree.{Tree, kind, num, count}
+use Rattle.state.specs.State.{rest}
+use Rattle.definition.specs.Walk.{when, mark, declareM}
+use Rattle.definition.specs.Scope.{isConst, isInlinePrevented, preventInline, addConst, noInit, recorded, seen}
+use Rattle.scopes.specs.State.{varTypeOf}
+use Rattle.bindings.specs.Kinds.{typeOf}
+use Rattle.tree.specs.Combine.{andThen, ret}
+use Rattle.declare_steps.specs.Steps.{named}
+use Rattle.tree.specs.Base.{pick}
+use Rattle.definition.specs.Walk.{St}
+use Rattle.tree.specs.Combine.{Nothing}
+use Rattle.definition.specs.Tree.{hasThis, isCheap}
+use Rattle.declare_steps.specs.Steps.{overCheap, overOther, takeOrMark}
+use Rattle.tree.specs.Tree.{Core}
+use Rattle.definition.specs.Scope.{Stack}
+use Rattle.tree.specs.Combine.{_>>_}
+use borrow.Author.Needs.{needs}
+use Rattle.declare_steps.proofs.over_other.Statement.{statement}
+use Rattle.declare_steps.proofs.over_other.Tie as tie
+use Rattle.declare_steps.proofs.over_other.Reads as reads
+use Rattle.declare_steps.proofs.over_other.Lts as lts
+use Rattle.declare_steps.proofs.declare_m.Reads as declare-m-reads
+use Rattle.declare_steps.proofs.prevent_if.Reads as prevent-if-reads
+use Rattle.nodes.proofs.has_this.Reads as has-this-reads
+declare-m-requires : tie.Need-declare-m-requires
+declare-m-requires c κs =
+    let at-entry = c .before .before in
+    (at-entry .pre .0, at-entry .pre .1)
+enum-known-n : tie.Need-enum-known-n
+enum-known-n c = search needs
+enum-told : tie.Need-enum-told
+enum-told c = search needs
+has-this-requires : tie.Need-has-this-requires
+has-this-requires c κs =
+    let at-enum-told = c .before in
+    let at-declare-m = at-enum-told .before .before .before .before in
+    let at-entry = at-declare-m .before .before .before in
+    let p = (rw (at-enum-told .enum-told .given .1) at (at-declare-m .declare-m .ensures)) in
+    (p .ok .planted, rw (acts.moves-count p) (at-entry .pre .1))
+prevent-if-requires : tie.Need-prevent-if-requires
+prevent-if-requires c κs =
+    let at-enum-told = c .before .before .before in
+    let at-declare-m = at-enum-told .before .before .before .before in
+    let p = (rw (at-enum-told .enum-told .given .1) at (at-declare-m .declare-m .ensures)) in
+    p .ok .planted
+same-length : tie.Need-same-length
+same-length c =
+    let at-declare-m = c .before .before .before .before .before in
+    at-declare-m .declare-m .kept .0
+returns : tie.Need-returns
+returns c =
+    let at-n = c .before in
+    let at-declare-m = at-n .before .before .before .before in
+    let at-entry = at-declare-m .before .before .before in
+    acts.moves-by (parts.other-then (at-entry .args .x) (typeOf (at-entry .args .kind)) (treeFrom (tree (at-entry .args .w .now)) (at-entry .args .e)) (rest (at-entry .args .w .now))) (acts.moves-stop (λ (u : Nothing). when (hasThis (treeFrom (tree (at-entry .args .w .now)) (at-entry .args .e))) (mark (preventInline (at-entry .args .x))) >> ret (hasThis (treeFrom (tree (at-entry .args .w .now)) (at-entry .args .e)))) (rw (at-n .n .given .1) at (at-declare-m .declare-m .ensures)))
+same-length-2 : tie.Need-same-length-2
+same-length-2 c =
+    let at-prevent-if = c .before .before in
+    let at-declare-m = at-prevent-if .before .before .before .before .before .before .before .before in
+    at-prevent-if .prevent-if .kept .0 ∙ at-declare-m .declare-m .kept .0
+returns-2 : tie.Need-returns-2
+returns-2 c =
+    let at-prevent-if = c .before .before in
+    let at-has-this = at-prevent-if .before .before in
+    let at-enum-told = at-has-this .before .before in
+    let at-declare-m = at-enum-told .before .before .before .before in
+    let at-entry = at-declare-m .before .before .before in
+    let p = (rw (at-enum-told .enum-told .given .1) at (at-declare-m .declare-m .ensures)) in
+    let e = at-has-this .has-this .ensures ∙ ap (λ (ns : List Core). hasThis (treeFrom ns (at-entry .args .e))) (p .nodes) in
+    rw (sym e) at (acts.moves-by (parts.other-then (at-entry .args .x) (typeOf (at-entry .args .kind)) (treeFrom (tree (at-entry .args .w .now)) (at-entry .args .e)) (rest (at-entry .args .w .now))) (acts.moves-then (λ (u : Nothing). when (hasThis (treeFrom (tree (at-entry .args .w .now)) (at-entry .args .e))) (mark (preventInline (at-entry .args .x))) >> ret (hasThis (treeFrom (tree (at-entry .args .w .now)) (at-entry .args .e)))) p (acts.moves-then (λ u. ret (hasThis (treeFrom (tree (at-entry .args .w .now)) (at-entry .args .e)))) (rw e at (at-prevent-if .prevent-if .ensures)) (acts.moves-self (at-prevent-if .prevent-if .ensures .ok .planted) (hasThis (treeFrom (tree (at-entry .args .w .now)) (at-entry .args .e)))))))
+
+pub over-other-spec : {M : Type 1} → statement M
+over-other-spec =
+    tie.close
+    (tie.spec
+    declare-m-requires
+    enum-known-n
+    enum-told
+    has-this-requires
+    prevent-if-requires
+    same-length
+    returns
+    same-length-2
+    returns-2)

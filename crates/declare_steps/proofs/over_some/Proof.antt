@@ -1,0 +1,118 @@
+use mathlib.Core.Path.{_≡_, refl, sym, ap, _∙_}
+use mathlib.Core.Bool.{Bool, true, false, _||_, _&&_, not}
+use mathlib.Core.Option.{Option, none, some}
+use mathlib.Core.List.{List, [], _∷_}
+use Prim.Native.Nat.{ℕ, suc, _+_, _*_, _-_, _≤_, _<_}
+use native.Mathlib.Omega.{arith}
+use borrow.Author.Tests.{eqb-true, ne-eqb, eq-eqb}
+use lib.Dec.{eqb, ltb}
+use lib.ListN.{length, getD}
+use Rattle.declare_steps.proofs.Init as init
+use Rattle.declare_steps.proofs.Acts as acts
+use Rattle.declare_steps.proofs.Parts as parts
+use Rattle.scopes.specs.State.{stack}
+use Rattle.words.specs.Layout.{tree, run}
+use Rattle.nodes.specs.Nodes.{treeFrom}
+use Rattle.tree.specs.Tree.{Tree, kind, num, count}
+use Rattle.state.specs.State.{rest}
+use Rattle.definition.specs.Walk.{when, mark, declareM}
+use Rattle.definition.specs.Scope.{isConst, isInlinePrevented, preventInline, addConst, noInit, recorded, seen}
+use Rattle.scopes.specs.State.{varTypeOf}
+use Rattle.bindings.specs.Kinds.{typeOf}
+use Rattle.tree.specs.Combine.{andThen, ret}
+use Rattle.declare_steps.specs.Steps.{named}
+use Rattle.tree.specs.Base.{pick}
+use Rattle.definition.specs.Walk.{St}
+use Rattle.tree.specs.Combine.{Nothing}
+use Rattle.definition.specs.Tree.{hasThis, isCheap}
+use Rattle.declare_steps.specs.Steps.{overCheap, overOther, takeOrMark}
+use borrow.Author.Needs.{needs}
+use Rattle.declare_steps.proofs.over_some.Statement.{statement}
+use Rattle.declare_steps.proofs.over_some.Tie as tie
+use Rattle.declare_steps.proofs.over_some.Reads as reads
+use Rattle.declare_steps.proofs.over_some.Lts as lts
+use Rattle.declare_steps.proofs.answer.Reads as answer-reads
+use Rattle.declare_steps.proofs.is_cheap.Reads as is-cheap-reads
+use Rattle.declare_steps.proofs.over_cheap.Reads as over-cheap-reads
+use Rattle.declare_steps.proofs.over_const.Reads as over-const-reads
+use Rattle.declare_steps.proofs.over_other.Reads as over-other-reads
+use Rattle.declare_steps.proofs.type_of.Reads as type-of-reads
+slice-read-k : tie.Need-slice-read-k
+slice-read-k c = search needs
+over-const-requires : tie.Need-over-const-requires
+over-const-requires c κs =
+    let at-entry = c .before .before .before .before in
+    (at-entry .pre .0, at-entry .pre .1)
+answer-requires : tie.Need-answer-requires
+answer-requires c κs = search needs
+same-length : tie.Need-same-length
+same-length c =
+    let at-over-const = c .before .before .before in
+    at-over-const .over-const .kept .0
+returns : tie.Need-returns
+returns c =
+    let at-over-const = c .before .before .before in
+    let at-if1 = at-over-const .before .before in
+    let at-entry = at-if1 .before .before .before in
+    acts.moves-by (parts.some-const (at-entry .args .x) (rest (at-entry .args .w .now)) (treeFrom (tree (at-entry .args .w .now)) (at-entry .args .e)) (ap isConst (parts.rest-kind (at-entry .args .w .now)) ∙ init.const-yes (getD (at-entry .args .w .now) 8 0) (omega (arith, at-if1 .if1)))) (acts.moves-answer (at-over-const .over-const .result) false (c .answer .result) (at-over-const .over-const .ensures) (c .answer .ensures))
+type-of-requires : tie.Need-type-of-requires
+type-of-requires c κs = search needs
+is-cheap-requires : tie.Need-is-cheap-requires
+is-cheap-requires c κs =
+    let at-entry = c .before .before .before .before .before in
+    (at-entry .pre .0, at-entry .pre .1)
+over-cheap-requires : tie.Need-over-cheap-requires
+over-cheap-requires c κs =
+    let at-entry = c .before .before .before .before .before .before .before .before in
+    (at-entry .pre .0, at-entry .pre .1)
+answer-requires-2 : tie.Need-answer-requires-2
+answer-requires-2 c κs = search needs
+same-length-2 : tie.Need-same-length-2
+same-length-2 c =
+    let at-over-cheap = c .before .before .before in
+    at-over-cheap .over-cheap .kept .0
+returns-2 : tie.Need-returns-2
+returns-2 c =
+    let at-over-cheap = c .before .before .before in
+    let at-if2 = at-over-cheap .before .before in
+    let at-is-cheap = at-if2 .before in
+    let at-type-of = at-is-cheap .before .before in
+    let at-if1 = at-type-of .before in
+    let at-entry = at-if1 .before .before .before in
+    acts.moves-by (parts.some-cheap (at-entry .args .x) (rest (at-entry .args .w .now)) (treeFrom (tree (at-entry .args .w .now)) (at-entry .args .e)) (typeOf (at-type-of .type-of .result)) (at-type-of .type-of .ensures ∙ sym (parts.rest-kind (at-entry .args .w .now))) (ap isConst (parts.rest-kind (at-entry .args .w .now)) ∙ init.const-no (getD (at-entry .args .w .now) 8 0) (omega (arith, at-if1 .if1))) (sym (at-is-cheap .is-cheap .ensures) ∙ at-if2 .if2 .taken)) (acts.moves-answer (at-over-cheap .over-cheap .result) false (c .answer2 .result) (at-over-cheap .over-cheap .ensures) (c .answer2 .ensures))
+over-other-requires : tie.Need-over-other-requires
+over-other-requires c κs =
+    let at-entry = c .before .before .before .before .before .before .before .before in
+    (at-entry .pre .0, at-entry .pre .1)
+same-length-3 : tie.Need-same-length-3
+same-length-3 c =
+    let at-over-other = c .before .before in
+    at-over-other .over-other .kept .0
+returns-3 : tie.Need-returns-3
+returns-3 c =
+    let at-over-other = c .before .before in
+    let at-if2 = at-over-other .before .before in
+    let at-is-cheap = at-if2 .before in
+    let at-type-of = at-is-cheap .before .before in
+    let at-if1 = at-type-of .before in
+    let at-entry = at-if1 .before .before .before in
+    acts.moves-by (parts.some-other (at-entry .args .x) (rest (at-entry .args .w .now)) (treeFrom (tree (at-entry .args .w .now)) (at-entry .args .e)) (typeOf (at-type-of .type-of .result)) (at-type-of .type-of .ensures ∙ sym (parts.rest-kind (at-entry .args .w .now))) (ap isConst (parts.rest-kind (at-entry .args .w .now)) ∙ init.const-no (getD (at-entry .args .w .now) 8 0) (omega (arith, at-if1 .if1))) (sym (at-is-cheap .is-cheap .ensures) ∙ at-if2 .if2 .left)) (at-over-other .over-other .ensures)
+
+pub over-some-spec : {M : Type 1} → statement M
+over-some-spec =
+    tie.close
+    (tie.spec
+    slice-read-k
+    over-const-requires
+    answer-requires
+    same-length
+    returns
+    type-of-requires
+    is-cheap-requires
+    over-cheap-requires
+    answer-requires-2
+    same-length-2
+    returns-2
+    over-other-requires
+    same-length-3
+    returns-3)

@@ -1,0 +1,40 @@
+use mathlib.Core.Path.{_≡_, refl, sym, ap, _∙_}
+use mathlib.Core.Bool.{Bool, true, false, _||_, _&&_, not}
+use mathlib.Core.Option.{Option, none, some}
+use mathlib.Core.List.{List, [], _∷_}
+use Prim.Native.Nat.{ℕ, suc, _+_, _*_, _-_, _≤_, _<_}
+use native.Mathlib.Omega.{arith}
+use borrow.Author.Tests.{eqb-true, ne-eqb, eq-eqb}
+use lib.Dec.{eqb, ltb}
+use lib.ListN.{length, getD}
+use Rattle.declare_steps.proofs.Acts as acts
+use Rattle.scopes.specs.State.{stack}
+use Rattle.words.specs.Layout.{tree, run}
+use Rattle.nodes.specs.Nodes.{treeFrom}
+use Rattle.tree.specs.Tree.{Tree, kind, num, count}
+use Rattle.state.specs.State.{rest}
+use Rattle.definition.specs.Scope.{preventInline}
+use Rattle.definition.specs.Walk.{when, mark}
+use borrow.Author.Needs.{needs}
+use Rattle.declare_steps.proofs.prevent_if.Statement.{statement}
+use Rattle.declare_steps.proofs.prevent_if.Tie as tie
+use Rattle.declare_steps.proofs.prevent_if.Reads as reads
+use Rattle.declare_steps.proofs.prevent_if.Lts as lts
+use Rattle.scopes.proofs.prevent_inline.Reads as prevent-inline-reads
+prevent-inline-requires : tie.Need-prevent-inline-requires
+prevent-inline-requires c κs = search needs
+same-length : tie.Need-same-length
+same-length c = search needs
+returns : tie.Need-returns
+returns c =
+    let at-prevent-inline = c .before .before in
+    let at-if1 = at-prevent-inline .before .before in
+    let at-entry = at-if1 .before .before in
+    acts.moves-by (ap (λ (b : Bool). when b (mark (preventInline (at-entry .args .x))) (rest (at-entry .args .w .now))) (at-if1 .if1 .taken)) (acts.mark-moves (preventInline (at-entry .args .x)) (at-entry .pre) (at-prevent-inline .prevent-inline .kept .0) (at-prevent-inline .prevent-inline .ensures))
+returns-2 : tie.Need-returns-2
+returns-2 c =
+    let at-entry = c .before .before in
+    acts.moves-by (ap (λ (b : Bool). when b (mark (preventInline (at-entry .args .x))) (rest (at-entry .args .w .now))) (c .if1 .left)) (acts.moves-self (at-entry .pre) tt)
+
+pub prevent-if-spec : {M : Type 1} → statement M
+prevent-if-spec = tie.close (tie.spec prevent-inline-requires same-length returns returns-2)

@@ -1,0 +1,47 @@
+use mathlib.Core.Path.{_≡_, refl, sym, ap, _∙_}
+use mathlib.Core.Bool.{Bool, true, false, _||_, _&&_, not}
+use mathlib.Core.Option.{Option, none, some}
+use mathlib.Core.List.{List, [], _∷_}
+use Prim.Native.Nat.{ℕ, suc, _+_, _*_, _-_, _≤_, _<_}
+use native.Mathlib.Omega.{arith}
+use borrow.Author.Tests.{eqb-true, ne-eqb, eq-eqb}
+use lib.Dec.{eqb, ltb}
+use lib.ListN.{length, getD}
+use Rattle.declare_steps.proofs.Init as init
+use Rattle.scopes.specs.State.{stack}
+use Rattle.words.specs.Layout.{tree, run}
+use Rattle.nodes.specs.Nodes.{treeFrom}
+use Rattle.tree.specs.Tree.{Tree, kind, num, count}
+use Rattle.definition.specs.Scope.{isInlinePrevented}
+use borrow.Author.Needs.{needs}
+use Rattle.declare_steps.proofs.prevented_at.Statement.{statement}
+use Rattle.declare_steps.proofs.prevented_at.Tie as tie
+use Rattle.declare_steps.proofs.prevented_at.Reads as reads
+use Rattle.declare_steps.proofs.prevented_at.Lts as lts
+use Rattle.look.proofs.is_inline_prevented.Reads as is-inline-prevented-reads
+use Rattle.look.proofs.should_prevent_inline_because_of_scope.Reads as should-prevent-inline-because-of-scope-reads
+should-prevent-inline-because-of-scope-requires :
+    tie.Need-should-prevent-inline-because-of-scope-requires
+should-prevent-inline-because-of-scope-requires c κs = search needs
+returns : tie.Need-returns
+returns c =
+    let at-should-prevent-inline-because-of-scope = c .before in
+    let at-entry = at-should-prevent-inline-because-of-scope .before .before in
+    sym (ap (λ (b : Bool). b || isInlinePrevented (treeFrom (tree (at-entry .args .w .now)) (at-entry .args .i)) (stack (at-entry .args .w .now))) (sym (at-should-prevent-inline-because-of-scope .should-prevent-inline-because-of-scope .ensures) ∙ c .if1 .taken))
+is-inline-prevented-requires : tie.Need-is-inline-prevented-requires
+is-inline-prevented-requires c κs = search needs
+returns-2 : tie.Need-returns-2
+returns-2 c =
+    let at-if1 = c .before in
+    let at-should-prevent-inline-because-of-scope = at-if1 .before in
+    let at-entry = at-should-prevent-inline-because-of-scope .before .before in
+    c .is-inline-prevented .ensures ∙ ap (λ (t : Tree). isInlinePrevented t (stack (at-entry .args .w .now))) (init.node-from (at-entry .args .w .now) (at-entry .args .i)) ∙ sym (ap (λ (b : Bool). b || isInlinePrevented (treeFrom (tree (at-entry .args .w .now)) (at-entry .args .i)) (stack (at-entry .args .w .now))) (sym (at-should-prevent-inline-because-of-scope .should-prevent-inline-because-of-scope .ensures) ∙ at-if1 .if1 .left))
+
+pub prevented-at-spec : {M : Type 1} → statement M
+prevented-at-spec =
+    tie.close
+    (tie.spec
+    should-prevent-inline-because-of-scope-requires
+    returns
+    is-inline-prevented-requires
+    returns-2)

@@ -1,0 +1,70 @@
+use mathlib.Core.Path.{_≡_, refl, sym, ap, _∙_}
+use mathlib.Core.Bool.{Bool, true, false, _||_, _&&_, not}
+use mathlib.Core.Option.{Option, none, some}
+use mathlib.Core.List.{List, [], _∷_}
+use Prim.Native.Nat.{ℕ, suc, _+_, _*_, _-_, _≤_, _<_}
+use native.Mathlib.Omega.{arith}
+use borrow.Author.Tests.{eqb-true, ne-eqb, eq-eqb}
+use lib.Dec.{eqb, ltb}
+use lib.ListN.{length, getD}
+use Rattle.declare_steps.proofs.Init as init
+use Rattle.declare_steps.proofs.Acts as acts
+use Rattle.declare_steps.proofs.Parts as parts
+use Rattle.scopes.specs.State.{stack}
+use Rattle.words.specs.Layout.{tree, run}
+use Rattle.nodes.specs.Nodes.{treeFrom}
+use Rattle.tree.specs.Tree.{Tree, kind, num, count}
+use Rattle.state.specs.State.{rest}
+use Rattle.definition.specs.Walk.{when, mark, declareM}
+use Rattle.definition.specs.Scope.{isConst, isInlinePrevented, preventInline, addConst, noInit, recorded, seen}
+use Rattle.scopes.specs.State.{varTypeOf}
+use Rattle.bindings.specs.Kinds.{typeOf}
+use Rattle.tree.specs.Combine.{andThen, ret}
+use Rattle.declare_steps.specs.Steps.{named}
+use Rattle.tree.specs.Base.{pick}
+use Rattle.definition.specs.Walk.{St}
+use Rattle.tree.specs.Combine.{Nothing}
+use Rattle.definition.specs.Tree.{hasThis, isCheap}
+use Rattle.declare_steps.specs.Steps.{overCheap, overOther, takeOrMark}
+use Rattle.nodes.specs.Nodes.{forestFrom}
+use Rattle.tree.specs.Tree.{Forest}
+use Rattle.definition.specs.Scope.{findBinding, markOf, hasSameThis, Stack}
+use Rattle.definition.specs.Walk.{stays}
+use borrow.Author.Needs.{needs}
+use Rattle.declare_steps.proofs.stays.Statement.{statement}
+use Rattle.declare_steps.proofs.stays.Tie as tie
+use Rattle.declare_steps.proofs.stays.Reads as reads
+use Rattle.declare_steps.proofs.stays.Lts as lts
+use Rattle.look.proofs.has_same_this.Reads as has-same-this-reads
+use Rattle.look.proofs.ident_prevented.Reads as ident-prevented-reads
+ident-prevented-requires : tie.Need-ident-prevented-requires
+ident-prevented-requires c κs =
+    let at-entry = c .before in
+    at-entry .pre .0 .good
+returns : tie.Need-returns
+returns c =
+    let at-ident-prevented = c .before in
+    let at-entry = at-ident-prevented .before .before in
+    sym (parts.stays-marked (at-entry .args .x) (stack (at-entry .args .w .now)) (forestFrom (tree (at-entry .args .w .now)) (at-entry .args .n) (at-entry .args .i)) (sym (at-ident-prevented .ident-prevented .ensures) ∙ c .if1 .taken))
+returns-2 : tie.Need-returns-2
+returns-2 c =
+    let at-if1 = c .before in
+    let at-ident-prevented = at-if1 .before in
+    let at-entry = at-ident-prevented .before .before in
+    sym (ap (λ (ts : Forest). stays (named (at-entry .args .x)) ts (stack (at-entry .args .w .now))) (parts.forest-none (tree (at-entry .args .w .now)) (at-entry .args .n) (at-entry .args .i) (c .if2 .taken)) ∙ parts.stays-none (at-entry .args .x) (stack (at-entry .args .w .now)) (sym (at-ident-prevented .ident-prevented .ensures) ∙ at-if1 .if1 .left))
+has-same-this-requires : tie.Need-has-same-this-requires
+has-same-this-requires c κs =
+    let at-entry = c .before .before .before .before in
+    (at-entry .pre .0 .good, parts.some-trees (at-entry .args .w .now) (at-entry .args .i) (omega (arith, at-entry .pre .1, c .if2)))
+returns-3 : tie.Need-returns-3
+returns-3 c =
+    let at-if2 = c .before in
+    let at-if1 = at-if2 .before in
+    let at-ident-prevented = at-if1 .before in
+    let at-entry = at-ident-prevented .before .before in
+    ap not (c .has-same-this .ensures ∙ ap (λ (t : Tree). hasSameThis (findBinding (at-entry .args .x) (stack (at-entry .args .w .now))) (some t)) (init.node-from (at-entry .args .w .now) (at-entry .args .i))) ∙ sym (ap (λ (ts : Forest). stays (named (at-entry .args .x)) ts (stack (at-entry .args .w .now))) (parts.forest-some (tree (at-entry .args .w .now)) (at-entry .args .n) (at-entry .args .i) (omega (arith, at-entry .pre .1, at-if2 .if2)) (omega (arith, at-entry .pre .1, at-if2 .if2))) ∙ parts.stays-some (at-entry .args .x) (stack (at-entry .args .w .now)) (treeFrom (tree (at-entry .args .w .now)) (at-entry .args .i)) _ (sym (at-ident-prevented .ident-prevented .ensures) ∙ at-if1 .if1 .left))
+
+pub stays-spec : {M : Type 1} → statement M
+stays-spec =
+    tie.close
+    (tie.spec ident-prevented-requires returns returns-2 has-same-this-requires returns-3)

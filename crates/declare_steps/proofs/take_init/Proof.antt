@@ -1,0 +1,86 @@
+use mathlib.Core.Path.{_≡_, refl, sym, ap, _∙_}
+use mathlib.Core.Bool.{Bool, true, false, _||_, _&&_, not}
+use mathlib.Core.Option.{Option, none, some}
+use mathlib.Core.List.{List, [], _∷_}
+use Prim.Native.Nat.{ℕ, suc, _+_, _*_, _-_, _≤_, _<_}
+use native.Mathlib.Omega.{arith}
+use borrow.Author.Tests.{eqb-true, ne-eqb, eq-eqb}
+use lib.Dec.{eqb, ltb}
+use lib.ListN.{length, getD}
+use Rattle.declare_steps.proofs.Init as init
+use Rattle.declare_steps.proofs.Acts as acts
+use Rattle.declare_steps.proofs.Parts as parts
+use Rattle.scopes.specs.State.{stack}
+use Rattle.words.specs.Layout.{tree, run}
+use Rattle.nodes.specs.Nodes.{treeFrom}
+use Rattle.tree.specs.Tree.{Tree, kind, num, count}
+use Rattle.state.specs.State.{rest}
+use Rattle.definition.specs.Walk.{when, mark, declareM}
+use Rattle.definition.specs.Scope.{isConst, isInlinePrevented, preventInline, addConst, noInit, recorded, seen}
+use Rattle.scopes.specs.State.{varTypeOf}
+use Rattle.bindings.specs.Kinds.{typeOf}
+use Rattle.tree.specs.Combine.{andThen, ret}
+use Rattle.declare_steps.specs.Steps.{named}
+use Rattle.tree.specs.Base.{pick}
+use Rattle.definition.specs.Walk.{St}
+use Rattle.tree.specs.Combine.{Nothing}
+use Rattle.definition.specs.Tree.{hasThis, isCheap}
+use Rattle.declare_steps.specs.Steps.{overCheap, overOther, takeOrMark}
+use borrow.Author.Needs.{needs}
+use Rattle.declare_steps.proofs.take_init.Statement.{statement}
+use Rattle.declare_steps.proofs.take_init.Tie as tie
+use Rattle.declare_steps.proofs.take_init.Reads as reads
+use Rattle.declare_steps.proofs.take_init.Lts as lts
+use Rattle.declare_steps.proofs.take_ident.Reads as take-ident-reads
+use Rattle.declare_steps.proofs.take_or_mark.Reads as take-or-mark-reads
+take-ident-requires : tie.Need-take-ident-requires
+take-ident-requires c κs =
+    let at-entry = c .before .before in
+    (at-entry .pre .0, at-entry .pre .1)
+enum-known-n : tie.Need-enum-known-n
+enum-known-n c = search needs
+enum-told : tie.Need-enum-told
+enum-told c = search needs
+take-or-mark-requires : tie.Need-take-or-mark-requires
+take-or-mark-requires c κs =
+    let at-enum-told = c .before in
+    let at-take-ident = at-enum-told .before .before .before .before in
+    let at-entry = at-take-ident .before .before .before in
+    let p = (rw (at-enum-told .enum-told .given .1) at (at-take-ident .take-ident .ensures)) in
+    (p .ok .planted, rw (acts.moves-count p) (at-entry .pre .1))
+same-length : tie.Need-same-length
+same-length c =
+    let at-take-ident = c .before .before .before .before .before in
+    at-take-ident .take-ident .kept .0
+returns : tie.Need-returns
+returns c =
+    let at-n = c .before in
+    let at-take-ident = at-n .before .before .before .before in
+    let at-entry = at-take-ident .before .before .before in
+    acts.moves-by (parts.init-then (at-entry .args .x) (typeOf (at-entry .args .kind)) (treeFrom (tree (at-entry .args .w .now)) (at-entry .args .e)) (rest (at-entry .args .w .now))) (acts.moves-stop (λ (u : Nothing). takeOrMark (at-entry .args .x) (typeOf (at-entry .args .kind)) (treeFrom (tree (at-entry .args .w .now)) (at-entry .args .e))) (rw (at-n .n .given .1) at (at-take-ident .take-ident .ensures)))
+same-length-2 : tie.Need-same-length-2
+same-length-2 c =
+    let at-take-or-mark = c .before .before in
+    let at-take-ident = at-take-or-mark .before .before .before .before .before .before in
+    at-take-or-mark .take-or-mark .kept .0 ∙ at-take-ident .take-ident .kept .0
+returns-2 : tie.Need-returns-2
+returns-2 c =
+    let at-take-or-mark = c .before .before in
+    let at-enum-told = at-take-or-mark .before .before in
+    let at-take-ident = at-enum-told .before .before .before .before in
+    let at-entry = at-take-ident .before .before .before in
+    let p = (rw (at-enum-told .enum-told .given .1) at (at-take-ident .take-ident .ensures)) in
+    acts.moves-by (parts.init-then (at-entry .args .x) (typeOf (at-entry .args .kind)) (treeFrom (tree (at-entry .args .w .now)) (at-entry .args .e)) (rest (at-entry .args .w .now))) (acts.moves-then (λ (u : Nothing). takeOrMark (at-entry .args .x) (typeOf (at-entry .args .kind)) (treeFrom (tree (at-entry .args .w .now)) (at-entry .args .e))) p (rw (p .nodes) at (at-take-or-mark .take-or-mark .ensures)))
+
+pub take-init-spec : {M : Type 1} → statement M
+take-init-spec =
+    tie.close
+    (tie.spec
+    take-ident-requires
+    enum-known-n
+    enum-told
+    take-or-mark-requires
+    same-length
+    returns
+    same-length-2
+    returns-2)

@@ -1,0 +1,83 @@
+use mathlib.Core.Path.{_≡_, refl, sym, ap, _∙_}
+use mathlib.Core.Bool.{Bool, true, false, _||_, _&&_, not}
+use mathlib.Core.Option.{Option, none, some}
+use mathlib.Core.List.{List, [], _∷_}
+use Prim.Native.Nat.{ℕ, suc, _+_, _*_, _-_, _≤_, _<_}
+use native.Mathlib.Omega.{arith}
+use borrow.Author.Tests.{eqb-true, ne-eqb, eq-eqb}
+use lib.Dec.{eqb, ltb}
+use lib.ListN.{length, getD}
+use Rattle.declare_steps.proofs.Init as init
+use Rattle.declare_steps.proofs.Acts as acts
+use Rattle.declare_steps.proofs.Parts as parts
+use Rattle.scopes.specs.State.{stack}
+use Rattle.words.specs.Layout.{tree, run}
+use Rattle.nodes.specs.Nodes.{treeFrom}
+use Rattle.tree.specs.Tree.{Tree, kind, num, count}
+use Rattle.state.specs.State.{rest}
+use Rattle.definition.specs.Walk.{when, mark, declareM}
+use Rattle.definition.specs.Scope.{isConst, isInlinePrevented, preventInline, addConst, noInit, recorded, seen}
+use Rattle.scopes.specs.State.{varTypeOf}
+use Rattle.bindings.specs.Kinds.{typeOf}
+use Rattle.tree.specs.Combine.{andThen, ret}
+use Rattle.declare_steps.specs.Steps.{named}
+use Rattle.tree.specs.Base.{pick}
+use Rattle.definition.specs.Walk.{St}
+use Rattle.tree.specs.Combine.{Nothing}
+use Rattle.definition.specs.Tree.{hasThis, isCheap}
+use Rattle.declare_steps.specs.Steps.{overCheap, overOther, takeOrMark}
+use Rattle.definition.specs.Scope.{Stack}
+use borrow.Author.Needs.{needs}
+use Rattle.declare_steps.proofs.take_or_mark.Statement.{statement}
+use Rattle.declare_steps.proofs.take_or_mark.Tie as tie
+use Rattle.declare_steps.proofs.take_or_mark.Reads as reads
+use Rattle.declare_steps.proofs.take_or_mark.Lts as lts
+use Rattle.declare_steps.proofs.prevent_if.Reads as prevent-if-reads
+use Rattle.declare_steps.proofs.take_value.Reads as take-value-reads
+use Rattle.look.proofs.is_inline_prevented.Reads as is-inline-prevented-reads
+is-inline-prevented-requires : tie.Need-is-inline-prevented-requires
+is-inline-prevented-requires c κs =
+    let at-entry = c .before .before in
+    (at-entry .pre .0 .good, at-entry .pre .1)
+prevent-if-requires : tie.Need-prevent-if-requires
+prevent-if-requires c κs =
+    let at-entry = c .before .before .before .before .before in
+    at-entry .pre .0
+same-length : tie.Need-same-length
+same-length c =
+    let at-prevent-if = c .before .before in
+    at-prevent-if .prevent-if .kept .0
+returns : tie.Need-returns
+returns c =
+    let at-prevent-if = c .before .before in
+    let at-if1 = at-prevent-if .before .before in
+    let at-is-inline-prevented = at-if1 .before in
+    let at-entry = at-is-inline-prevented .before .before .before in
+    acts.moves-by (parts.marked (at-entry .args .x) (typeOf (at-entry .args .kind)) (treeFrom (tree (at-entry .args .w .now)) (at-entry .args .e)) (rest (at-entry .args .w .now)) (ap (λ (st : Stack). isInlinePrevented (treeFrom (tree (at-entry .args .w .now)) (at-entry .args .e)) st) (acts.rest-stack (at-entry .args .w .now)) ∙ ap (λ (t : Tree). isInlinePrevented t (stack (at-entry .args .w .now))) (sym (init.node-from (at-entry .args .w .now) (at-entry .args .e))) ∙ sym (at-is-inline-prevented .is-inline-prevented .ensures) ∙ at-if1 .if1 .taken)) (acts.moves-then (λ u. ret false) (at-prevent-if .prevent-if .ensures) (acts.moves-self (at-prevent-if .prevent-if .ensures .ok .planted) false))
+take-value-requires : tie.Need-take-value-requires
+take-value-requires c κs =
+    let at-entry = c .before .before .before .before .before in
+    (at-entry .pre .0, at-entry .pre .1)
+same-length-2 : tie.Need-same-length-2
+same-length-2 c =
+    let at-take-value = c .before .before in
+    at-take-value .take-value .kept .0
+returns-2 : tie.Need-returns-2
+returns-2 c =
+    let at-take-value = c .before .before in
+    let at-if1 = at-take-value .before .before in
+    let at-is-inline-prevented = at-if1 .before in
+    let at-entry = at-is-inline-prevented .before .before .before in
+    acts.moves-by (parts.unmarked (at-entry .args .x) (typeOf (at-entry .args .kind)) (treeFrom (tree (at-entry .args .w .now)) (at-entry .args .e)) (rest (at-entry .args .w .now)) (ap (λ (st : Stack). isInlinePrevented (treeFrom (tree (at-entry .args .w .now)) (at-entry .args .e)) st) (acts.rest-stack (at-entry .args .w .now)) ∙ ap (λ (t : Tree). isInlinePrevented t (stack (at-entry .args .w .now))) (sym (init.node-from (at-entry .args .w .now) (at-entry .args .e))) ∙ sym (at-is-inline-prevented .is-inline-prevented .ensures) ∙ at-if1 .if1 .left)) (at-take-value .take-value .ensures)
+
+pub take-or-mark-spec : {M : Type 1} → statement M
+take-or-mark-spec =
+    tie.close
+    (tie.spec
+    is-inline-prevented-requires
+    prevent-if-requires
+    same-length
+    returns
+    take-value-requires
+    same-length-2
+    returns-2)

@@ -1,0 +1,78 @@
+use mathlib.Core.Path.{_≡_, refl, sym, ap, _∙_}
+use mathlib.Core.Bool.{Bool, true, false, _||_, _&&_, not}
+use mathlib.Core.Option.{Option, none, some}
+use mathlib.Core.List.{List, [], _∷_}
+use Prim.Native.Nat.{ℕ, suc, _+_, _*_, _-_, _≤_, _<_}
+use native.Mathlib.Omega.{arith}
+use borrow.Author.Tests.{eqb-true, ne-eqb, eq-eqb}
+use lib.Dec.{eqb, ltb}
+use lib.ListN.{length, getD}
+use Rattle.declare_steps.proofs.Init as init
+use Rattle.declare_steps.proofs.Acts as acts
+use Rattle.declare_steps.proofs.Parts as parts
+use Rattle.scopes.specs.State.{stack}
+use Rattle.words.specs.Layout.{tree, run}
+use Rattle.nodes.specs.Nodes.{treeFrom}
+use Rattle.tree.specs.Tree.{Tree, kind, num, count}
+use Rattle.state.specs.State.{rest}
+use Rattle.definition.specs.Walk.{when, mark, declareM}
+use Rattle.definition.specs.Scope.{isConst, isInlinePrevented, preventInline, addConst, noInit, recorded, seen}
+use Rattle.scopes.specs.State.{varTypeOf}
+use Rattle.bindings.specs.Kinds.{typeOf}
+use Rattle.tree.specs.Combine.{andThen, ret}
+use Rattle.declare_steps.specs.Steps.{named}
+use Rattle.tree.specs.Base.{pick}
+use Rattle.definition.specs.Walk.{St}
+use Rattle.tree.specs.Combine.{Nothing}
+use Rattle.definition.specs.Tree.{hasThis, isCheap}
+use Rattle.declare_steps.specs.Steps.{overCheap, overOther, takeOrMark}
+use Rattle.definition.specs.Scope.{Stack}
+use Rattle.declare_steps.specs.Steps.{wants}
+use borrow.Author.Needs.{needs}
+use Rattle.declare_steps.proofs.take_value.Statement.{statement}
+use Rattle.declare_steps.proofs.take_value.Tie as tie
+use Rattle.declare_steps.proofs.take_value.Reads as reads
+use Rattle.declare_steps.proofs.take_value.Lts as lts
+use Rattle.declare_steps.proofs.answer.Reads as answer-reads
+use Rattle.declare_steps.proofs.declare_m.Reads as declare-m-reads
+use Rattle.declare_steps.proofs.wanted.Reads as wanted-reads
+wanted-requires : tie.Need-wanted-requires
+wanted-requires c κs =
+    let at-entry = c .before .before in
+    (at-entry .pre .0, at-entry .pre .1)
+declare-m-requires : tie.Need-declare-m-requires
+declare-m-requires c κs =
+    let at-entry = c .before .before .before .before .before in
+    (at-entry .pre .0, at-entry .pre .1)
+answer-requires : tie.Need-answer-requires
+answer-requires c κs = search needs
+same-length : tie.Need-same-length
+same-length c =
+    let at-declare-m = c .before .before .before in
+    at-declare-m .declare-m .kept .0
+returns : tie.Need-returns
+returns c =
+    let at-declare-m = c .before .before .before in
+    let at-if1 = at-declare-m .before .before in
+    let at-wanted = at-if1 .before in
+    let at-entry = at-wanted .before .before .before in
+    acts.moves-by (parts.value-yes (at-entry .args .x) (typeOf (at-entry .args .kind)) (treeFrom (tree (at-entry .args .w .now)) (at-entry .args .e)) (rest (at-entry .args .w .now)) (ap (λ (st : Stack). wants (at-entry .args .x) (treeFrom (tree (at-entry .args .w .now)) (at-entry .args .e)) st) (acts.rest-stack (at-entry .args .w .now)) ∙ sym (at-wanted .wanted .ensures) ∙ at-if1 .if1 .taken)) (acts.moves-answer (at-declare-m .declare-m .result) true (c .answer .result) (at-declare-m .declare-m .ensures) (c .answer .ensures))
+same-length-2 : tie.Need-same-length-2
+same-length-2 c = refl
+returns-2 : tie.Need-returns-2
+returns-2 c =
+    let at-wanted = c .before in
+    let at-entry = at-wanted .before .before .before in
+    acts.moves-by (parts.value-no (at-entry .args .x) (typeOf (at-entry .args .kind)) (treeFrom (tree (at-entry .args .w .now)) (at-entry .args .e)) (rest (at-entry .args .w .now)) (ap (λ (st : Stack). wants (at-entry .args .x) (treeFrom (tree (at-entry .args .w .now)) (at-entry .args .e)) st) (acts.rest-stack (at-entry .args .w .now)) ∙ sym (at-wanted .wanted .ensures) ∙ c .if1 .left)) (acts.moves-self (at-entry .pre .0) false)
+
+pub take-value-spec : {M : Type 1} → statement M
+take-value-spec =
+    tie.close
+    (tie.spec
+    wanted-requires
+    declare-m-requires
+    answer-requires
+    same-length
+    returns
+    same-length-2
+    returns-2)

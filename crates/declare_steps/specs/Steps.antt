@@ -1,0 +1,129 @@
+-- What the steps of declarators look up, answer and do. Assumes nothing: these are definitions.
+use mathlib.Core.Path.{_≡_}
+use mathlib.Core.List.{List, [], _∷_}
+use mathlib.Core.Bool.{Bool, true, false, _&&_, _||_, not}
+use mathlib.Core.Option.{Option, none, some}
+use Prim.Native.Nat.{ℕ, suc, _+_, _-_, _≤_, _<_}
+use lib.ListN.{length, getD}
+use Rattle.tree.specs.Tree.{Tree, Forest, node, nil, count}
+use Rattle.tree.specs.Combine.{Res, stop, done, M as MS, Nothing, _>>=_, _>>_, ret, iff, Flat, actF, cutFirst, setArity}
+use Rattle.definition.specs.Scope as def
+use Rattle.definition.specs.Tree.{isIdent, isCheap, hasThis}
+use Rattle.definition.specs.Scope.{VarInfo, Scope, Stack, idxVal, placeOr, isParam, paramO, isConst, aliasFrom, barred, addConst, isInlinePrevented, preventInline, findBinding}
+use Rattle.definition.specs.Walk.{St, M, when, mark, grow, declareM, asIdent, readOnce?, takes}
+use Rattle.tree.specs.Base.{pick}
+use Rattle.words.specs.Layout.{tree}
+use Rattle.look.specs.Look.{idxHere, barsHere}
+use Rattle.state.specs.State.{Ok, abs}
+use Rattle.records.specs.declared.Step.{Step}
+use Rattle.records.specs.declared.Step.the-variants.{Done, Refused as Refused}
+use Rattle.bindings.specs.declared.Init.{Init}
+use Rattle.bindings.specs.declared.Init.the-variants.{NoInit, Recorded, Seen}
+use Rattle.declare_steps.specs.declared.Told.{Told}
+use Rattle.declare_steps.specs.declared.Told.the-variants.{Answer, Stopped}
+use Rattle.declare_steps.specs.declared.After.{After}
+use Rattle.declare_steps.specs.declared.After.the-variants.{At, Halted}
+
+-- an init whose value is a tree, and that this tree is one of the n nodes
+abbrev pub initFrom : Init → Tree → def.Init
+initFrom NoInit t = def.noInit
+initFrom Recorded t = def.recorded t
+initFrom Seen t = def.seen t
+
+abbrev pub Sited : Init → ℕ → ℕ → Type 0
+Sited NoInit i n = Unit {0}
+Sited Recorded i n = i < n
+Sited Seen i n = i < n
+
+-- it has a value; it has none
+abbrev pub Valued : Init → Type 0
+Valued NoInit = ⊥
+Valued Recorded = Unit {0}
+Valued Seen = Unit {0}
+
+abbrev pub hasNone : Init → Bool
+hasNone NoInit = true
+hasNone Recorded = false
+hasNone Seen = false
+
+-- the bindings of the current scope: how many there are; where x is among them, or would be
+abbrev pub countHere : Stack → ℕ
+countHere [] = 0
+countHere (s ∷ st) = length (s .bindings)
+
+abbrev pub placeHere : ℕ → Stack → ℕ
+placeHere x st = placeOr (countHere st) (idxHere x st)
+
+-- is there a barrier between x and the binding of y
+abbrev pub barredHere : ℕ → ℕ → Stack → Bool
+barredHere x y st = barred (idxHere y st) (placeHere x st) (barsHere st)
+
+abbrev pub worksWith : def.VarType → Option def.VarType → Bool
+worksWith k al = not (isParam k) && not (paramO al)
+
+-- the name of a declarator: only its number is looked at
+abbrev pub named : ℕ → Tree
+named x = node 20 0 x nil
+
+-- answers
+abbrev pub doneOf : Step → St → Res St Nothing
+doneOf Done s = done s tt
+doneOf (Refused n) s = stop n
+
+abbrev pub toldOf : Told → St → Res St Bool
+toldOf (Answer b) s = done s b
+toldOf (Stopped n) s = stop n
+
+abbrev pub afterOf : After → Flat St → Res (Flat St) ℕ
+afterOf (At j) s = done s j
+afterOf (Halted n) s = stop n
+
+-- a step that leaves the nodes alone: m is what the definition does from the state of w, r the same by the step's answer
+pub record Moves {A : Type 0} (w u : List ℕ) (m r : Res St A) : Type 0 where
+  pub ok : Ok w u
+  pub nodes : tree u ≡ tree w
+  pub is : m ≡ r
+
+-- a step on the state of the walk on the list
+pub record Did {A : Type 0} (w u : List ℕ) (m r : Res (Flat St) A) : Type 0 where
+  pub ok : Ok w u
+  pub is : m ≡ r
+
+-- declrAnalysis in its parts
+unfoldable pub overNone : ℕ → M Nothing
+overNone x = λ s. when (not (isConst (s .varDeclKind))) (declareM (named x) def.noInit true (s .varDeclKind)) s
+
+unfoldable pub overConst : ℕ → Tree → M Nothing
+overConst x e = λ s. when (s .isFirstRun) (grow (addConst x (pick (isCheap e) (some e) none))) s
+
+unfoldable pub overCheap : ℕ → def.VarType → Tree → M Nothing
+overCheap x k e = declareM (named x) (def.recorded e) false k >> (λ s. when (isInlinePrevented e (s .stack)) (mark (preventInline x)) s)
+
+unfoldable pub overOther : ℕ → def.VarType → Tree → M Bool
+overOther x k e = declareM (named x) (def.seen e) false k >> when (hasThis e) (mark (preventInline x)) >> ret (hasThis e)
+
+-- takes of an initialiser in its parts, without `leave`
+abbrev pub wants : ℕ → Tree → Stack → Bool
+wants x e st = isCheap e || (not (isInlinePrevented (asIdent (named x)) st) && readOnce? (findBinding x st))
+
+unfoldable pub takeIdent : ℕ → def.VarType → Tree → M Nothing
+takeIdent x k e = when (isIdent e) (declareM (named x) (def.recorded e) false k)
+
+unfoldable pub takeValue : ℕ → def.VarType → Tree → M Bool
+takeValue x k e = λ s. iff (wants x e (s .stack)) (declareM (named x) (def.recorded e) false k >> ret true) (ret false) s
+
+unfoldable pub takeOrMark : ℕ → def.VarType → Tree → M Bool
+unfolding takeValue
+takeOrMark x k e = λ s. iff (isInlinePrevented e (s .stack)) (mark (preventInline x) >> ret false) (takeValue x k e) s
+
+unfoldable pub takeInit : ℕ → def.VarType → Tree → M Bool
+unfolding takeIdent takeOrMark
+takeInit x k e = takeIdent x k e >> takeOrMark x k e
+
+-- the end of declrInlining, after the initialiser's second walk: of the n trees from i on, which end at j, the first is taken out or not,
+-- and the declarator at q has one child more than there are
+abbrev pub declrAfter : ℕ → def.VarType → Tree → ℕ → ℕ → ℕ → MS (Flat St) ℕ
+declrAfter q k name n i j = do
+  gone ← actF (takes k name) n i
+  r ← iff gone (cutFirst n i j) (ret (n, j))
+  (λ st. done (setArity q (suc (r .0)) st) (r .1))

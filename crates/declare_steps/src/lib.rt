@@ -1,0 +1,441 @@
+// The steps of declarators: declared, looked at, taken out.
+ghost use mathlib.Core.Path.{_≡_};
+ghost use mathlib.Core.Bool.{Bool, true, false, _||_, _&&_, not};
+ghost use mathlib.Core.Option.{some};
+ghost use Prim.Native.Nat.{ℕ, _+_, _-_, _≤_, _<_};
+ghost use lib.ListN.{getD, drop};
+ghost use Rattle.tree.specs.Tree.{lengthF, plant};
+ghost use Rattle.tree.specs.Combine.{andThen, ret, done};
+ghost use Rattle.definition.specs.Tree.{isIdent, isCheap};
+ghost use Rattle.definition.specs.Scope.{declare, noInit, aliasFrom, isVar, isInlinePrevented, shouldPreventInlineBecauseOfScope, preventInline};
+ghost use Rattle.definition.specs.Walk.{St, when, mark, declareM, declrAnalysis, overM, stays};
+ghost use Rattle.words.specs.Layout.{tree};
+ghost use Rattle.scopes.specs.State.{Good, stack, varTypeOf};
+ghost use Rattle.records.specs.Steps.{Grown};
+ghost use Rattle.bindings.specs.Kinds.{typeOf, aliasOf};
+ghost use Rattle.look.specs.Look.{idxHere};
+ghost use Rattle.nodes.specs.Nodes.{Planted, treeFrom, forestFrom};
+ghost use Rattle.state.specs.State.{rest};
+ghost use Rattle.declare_steps.specs.Steps.{initFrom, Sited, Valued, hasNone, placeHere, barredHere, worksWith, named, doneOf, toldOf, Moves, overNone, overConst, overCheap, overOther, wants, takeIdent, takeValue, takeOrMark, takeInit};
+use bindings::Alias;
+use bindings::Init;
+use bindings::VarDeclKind;
+use bindings::VarType;
+use bindings::declare_with;
+use look::Count;
+use look::barred;
+use look::find_binding_from_current;
+use look::has_same_this;
+use look::ident_at;
+use look::ident_prevented;
+use look::idx_val;
+use look::in_loop;
+use look::is_inline_prevented;
+use look::read_cnt;
+use look::should_prevent_inline_because_of_scope;
+use look::var_type;
+use nodes::has_this;
+use nodes::skip;
+use records::Step;
+use records::add_const;
+use scopes::prevent_inline;
+use words::kind_at;
+
+// A step that also tells whether something holds.
+pub enum Told {
+    Answer(bool),
+    Stopped(u32),
+}
+
+// Where the walk goes on.
+pub enum After {
+    At(usize),
+    Halted(u32),
+}
+
+// The type that a word stands for.
+fn type_of(code: u32) -> VarType
+    ensures { λ r. ⌜ typeOf r ≡ varTypeOf code ⌝ }
+{
+    if code == 0 {
+        return VarType::Param;
+    }
+    if code == 1 {
+        return VarType::Declared(VarDeclKind::Var);
+    }
+    if code == 2 {
+        return VarType::Declared(VarDeclKind::Let);
+    }
+    VarType::Declared(VarDeclKind::Const)
+}
+
+// The type of the binding of y in the current scope.
+fn alias_for(w: &[u32], y: u8) -> Alias
+    requires { ⌜ Good (now w) ⌝ }
+    ensures { λ r. ⌜ aliasOf r ≡ aliasFrom (idxHere y (stack (now (w .entry)))) ⌝ }
+{
+    let r = find_binding_from_current(w, y);
+    if r == 0 {
+        return Alias::NoAlias;
+    }
+    let t = var_type(w, r - 1);
+    Alias::AliasOf(type_of(t))
+}
+
+// Where x is among the bindings of the current scope, or would be.
+fn place_here(w: &[u32], x: u8) -> usize
+    requires { ⌜ Good (now w) ⌝ }
+    ensures { λ r. ⌜ (r ≡ placeHere x (stack (now (w .entry)))) × (r ≤ 256) ⌝ }
+{
+    let r = idx_val(w, x);
+    if 0 < r {
+        return r - 1;
+    }
+    let d = w[2] as usize;
+    if d == 0 {
+        return 0;
+    }
+    let a = w[7184 + (d - 1) * 4 + 1] as usize;
+    w[1] as usize - a
+}
+
+// Is there a barrier between x and the binding of y.
+fn barred_here(w: &[u32], x: u8, y: u8) -> bool
+    requires { ⌜ Good (now w) ⌝ }
+    ensures { λ r. ⌜ r ≡ barredHere x y (stack (now (w .entry))) ⌝ }
+{
+    let v = idx_val(w, y);
+    if v == 0 {
+        return false;
+    }
+    let idx = place_here(w, x);
+    barred(w, v - 1, idx)
+}
+
+// Neither of two types is a parameter's.
+fn works_with(kind: VarType, alias: Alias) -> bool
+    ensures { λ r. ⌜ r ≡ worksWith (typeOf kind) (aliasOf alias) ⌝ }
+{
+    match kind {
+        VarType::Param => false,
+        VarType::Declared(_) => match alias {
+            Alias::NoAlias => true,
+            Alias::AliasOf(t) => match t {
+                VarType::Param => false,
+                VarType::Declared(_) => true,
+            },
+        },
+    }
+}
+
+// Does a declaration of x as y mark both.
+fn barred_for(w: &[u32], x: u8, y: u8, kind: VarType, alias: Alias) -> bool
+    requires { ⌜ Good (now w) ⌝ }
+    ensures { λ r. ⌜ r ≡ (worksWith (typeOf kind) (aliasOf alias) && barredHere x y (stack (now (w .entry)))) ⌝ }
+{
+    if works_with(kind, alias) {
+        return barred_here(w, x, y);
+    }
+    false
+}
+
+// Is x prevented from the start, as the value of the tree at i.
+fn prevented_at(w: &[u32], x: u8, i: usize) -> bool
+    requires { ⌜ (Planted (now w)) × (i < getD (now w) 0 0) ⌝ }
+    ensures { λ r. ⌜ r ≡ (shouldPreventInlineBecauseOfScope x (stack (now (w .entry))) || isInlinePrevented (treeFrom (tree (now (w .entry))) i) (stack (now (w .entry)))) ⌝ }
+{
+    if should_prevent_inline_because_of_scope(w, x) {
+        return true;
+    }
+    is_inline_prevented(w, i)
+}
+
+// declare without an init.
+fn declare_bare(w: &mut [u32], x: u8, undefined: bool, kind: VarType) -> Step
+    requires { ⌜ Planted (now w) ⌝ }
+    ensures { λ r. ⌜ Grown (now (w .entry)) (now (w .exit)) (declare x noInit undefined (typeOf kind) (stack (now (w .entry)))) r ⌝ }
+{
+    let p = should_prevent_inline_because_of_scope(w, x);
+    let looped = in_loop(w);
+    declare_with(w, x, Init::NoInit, 0, 0, p, undefined, kind, Alias::NoAlias, looped, false, x)
+}
+
+// declare with the tree at i as its init, which is no identifier.
+fn declare_value(w: &mut [u32], x: u8, v: Init, i: usize, undefined: bool, kind: VarType) -> Step
+    requires { ⌜ (Planted (now w)) × (i < getD (now w) 0 0) × (Valued v) × (isIdent (treeFrom (tree (now w)) i) ≡ false) ⌝ }
+    ensures { λ r. ⌜ Grown (now (w .entry)) (now (w .exit)) (declare x (initFrom v (treeFrom (tree (now (w .entry))) i)) undefined (typeOf kind) (stack (now (w .entry)))) r ⌝ }
+{
+    let m = skip(w, i) - i;
+    let p = prevented_at(w, x, i);
+    let looped = in_loop(w);
+    declare_with(w, x, v, i, m, p, undefined, kind, Alias::NoAlias, looped, false, x)
+}
+
+// declare with the identifier at i as its init.
+fn declare_ident(w: &mut [u32], x: u8, v: Init, i: usize, undefined: bool, kind: VarType) -> Step
+    requires { ⌜ (Planted (now w)) × (i < getD (now w) 0 0) × (Valued v) × (isIdent (treeFrom (tree (now w)) i) ≡ true) ⌝ }
+    ensures { λ r. ⌜ Grown (now (w .entry)) (now (w .exit)) (declare x (initFrom v (treeFrom (tree (now (w .entry))) i)) undefined (typeOf kind) (stack (now (w .entry)))) r ⌝ }
+{
+    let m = skip(w, i) - i;
+    let p = prevented_at(w, x, i);
+    let looped = in_loop(w);
+    let y = ident_at(w, i);
+    let alias = alias_for(w, y);
+    let barred = barred_for(w, x, y, kind, alias);
+    declare_with(w, x, v, i, m, p, undefined, kind, alias, looped, barred, y)
+}
+
+// Is the tree at i an identifier.
+fn is_ident(w: &[u32], i: usize) -> bool
+    requires { ⌜ (Planted (now w)) × (i < getD (now w) 0 0) ⌝ }
+    ensures { λ r. ⌜ r ≡ isIdent (treeFrom (tree (now (w .entry))) i) ⌝ }
+{
+    kind_at(w, i) == 21
+}
+
+// A literal or an identifier.
+fn is_cheap(w: &[u32], i: usize) -> bool
+    requires { ⌜ (Planted (now w)) × (i < getD (now w) 0 0) ⌝ }
+    ensures { λ r. ⌜ r ≡ isCheap (treeFrom (tree (now (w .entry))) i) ⌝ }
+{
+    if kind_at(w, i) == 22 {
+        return true;
+    }
+    kind_at(w, i) == 21
+}
+
+fn no_value(v: Init) -> bool
+    ensures { λ r. ⌜ r ≡ hasNone v ⌝ }
+{
+    match v {
+        Init::NoInit => true,
+        Init::Recorded => false,
+        Init::Seen => false,
+    }
+}
+
+// declare: the init is nothing, or the tree at i.
+pub fn declare(w: &mut [u32], x: u8, v: Init, i: usize, undefined: bool, kind: VarType) -> Step
+    requires { ⌜ (Planted (now w)) × (Sited v i (getD (now w) 0 0)) ⌝ }
+    ensures { λ r. ⌜ Grown (now (w .entry)) (now (w .exit)) (declare x (initFrom v (treeFrom (tree (now (w .entry))) i)) undefined (typeOf kind) (stack (now (w .entry)))) r ⌝ }
+{
+    if no_value(v) {
+        return declare_bare(w, x, undefined, kind);
+    }
+    if is_ident(w, i) {
+        return declare_ident(w, x, v, i, undefined, kind);
+    }
+    declare_value(w, x, v, i, undefined, kind)
+}
+
+// declare's is_undefined.
+fn undefined_now(w: &[u32], v: Init, is_change: bool) -> bool
+    requires { ⌜ Good (now w) ⌝ }
+    ensures { λ r. ⌜ r ≡ (isVar (rest (now (w .entry)) .varDeclKind) && not «is_change» && hasNone v && rest (now (w .entry)) .inlining) ⌝ }
+{
+    if w[8] != 1 {
+        return false;
+    }
+    if is_change {
+        return false;
+    }
+    if no_value(v) {
+        return w[6] != 0;
+    }
+    false
+}
+
+// Inlining::declare.
+pub fn declare_m(w: &mut [u32], x: u8, v: Init, i: usize, is_change: bool, kind: VarType) -> Step
+    requires { ⌜ (Planted (now w)) × (Sited v i (getD (now w) 0 0)) ⌝ }
+    ensures { λ r. ⌜ Moves (now (w .entry)) (now (w .exit)) (declareM (named x) (initFrom v (treeFrom (tree (now (w .entry))) i)) «is_change» (typeOf kind) (rest (now (w .entry)))) (doneOf r (rest (now (w .exit)))) ⌝ }
+{
+    let undefined = undefined_now(w, v, is_change);
+    declare(w, x, v, i, undefined, kind)
+}
+
+// An answer to a step.
+fn answer(r: Step, b: bool) -> Told
+    ensures { λ t. ⌜ ((s : St) → toldOf t s ≡ andThen (doneOf r s) (λ u. ret b)) ⌝ }
+{
+    match r {
+        Step::Done => Told::Answer(b),
+        Step::Refused(n) => Told::Stopped(n),
+    }
+}
+
+// Marks every binding of x, and every binding whose value is x, if a test holds.
+fn prevent_if(w: &mut [u32], test: bool, x: u8)
+    requires { ⌜ Planted (now w) ⌝ }
+    ensures { λ _. ⌜ Moves (now (w .entry)) (now (w .exit)) (when test (mark (preventInline x)) (rest (now (w .entry)))) (done (rest (now (w .exit))) tt) ⌝ }
+{
+    if test {
+        prevent_inline(w, x);
+    }
+}
+
+// A declarator in Analysis, without an initialiser.
+fn over_none(w: &mut [u32], x: u8) -> Step
+    requires { ⌜ Planted (now w) ⌝ }
+    ensures { λ r. ⌜ Moves (now (w .entry)) (now (w .exit)) (overNone x (rest (now (w .entry)))) (doneOf r (rest (now (w .exit)))) ⌝ }
+{
+    let k = w[8];
+    if 3 <= k {
+        return Step::Done;
+    }
+    let kind = type_of(k);
+    declare_m(w, x, Init::NoInit, 0, true, kind)
+}
+
+// A constant, recorded in the first run.
+fn over_const(w: &mut [u32], x: u8, e: usize) -> Step
+    requires { ⌜ (Planted (now w)) × (e < getD (now w) 0 0) ⌝ }
+    ensures { λ r. ⌜ Moves (now (w .entry)) (now (w .exit)) (overConst x (treeFrom (tree (now (w .entry))) e) (rest (now (w .entry)))) (doneOf r (rest (now (w .exit)))) ⌝ }
+{
+    if w[7] == 0 {
+        return Step::Done;
+    }
+    if is_cheap(w, e) {
+        let m = skip(w, e) - e;
+        return add_const(w, x, e, m);
+    }
+    add_const(w, x, 0, 0)
+}
+
+// A literal or an identifier as initialiser.
+fn over_cheap(w: &mut [u32], x: u8, e: usize, kind: VarType) -> Step
+    requires { ⌜ (Planted (now w)) × (e < getD (now w) 0 0) ⌝ }
+    ensures { λ r. ⌜ Moves (now (w .entry)) (now (w .exit)) (overCheap x (typeOf kind) (treeFrom (tree (now (w .entry))) e) (rest (now (w .entry)))) (doneOf r (rest (now (w .exit)))) ⌝ }
+{
+    match declare_m(w, x, Init::Recorded, e, false, kind) {
+        Step::Refused(n) => Step::Refused(n),
+        Step::Done => {
+            let test = is_inline_prevented(w, e);
+            prevent_if(w, test, x);
+            Step::Done
+        }
+    }
+}
+
+// Another initialiser: one with a `this` is not walked again.
+fn over_other(w: &mut [u32], x: u8, e: usize, kind: VarType) -> Told
+    requires { ⌜ (Planted (now w)) × (e < getD (now w) 0 0) ⌝ }
+    ensures { λ r. ⌜ Moves (now (w .entry)) (now (w .exit)) (overOther x (typeOf kind) (treeFrom (tree (now (w .entry))) e) (rest (now (w .entry)))) (toldOf r (rest (now (w .exit)))) ⌝ }
+{
+    match declare_m(w, x, Init::Seen, e, false, kind) {
+        Step::Refused(n) => Told::Stopped(n),
+        Step::Done => {
+            let test = has_this(w, e);
+            prevent_if(w, test, x);
+            Told::Answer(test)
+        }
+    }
+}
+
+// A declarator in Analysis, with the initialiser at e.
+fn over_some(w: &mut [u32], x: u8, e: usize) -> Told
+    requires { ⌜ (Planted (now w)) × (e < getD (now w) 0 0) ⌝ }
+    ensures { λ r. ⌜ Moves (now (w .entry)) (now (w .exit)) (declrAnalysis (named x) (some (treeFrom (tree (now (w .entry))) e)) (rest (now (w .entry)))) (toldOf r (rest (now (w .exit)))) ⌝ }
+{
+    let k = w[8];
+    if 3 <= k {
+        let r = over_const(w, x, e);
+        return answer(r, false);
+    }
+    let kind = type_of(k);
+    if is_cheap(w, e) {
+        let r = over_cheap(w, x, e, kind);
+        return answer(r, false);
+    }
+    over_other(w, x, e, kind)
+}
+
+// A declarator of x in Analysis, whose name and initialiser are the n trees from i on: is the name's walk left out.
+pub fn over(w: &mut [u32], x: u8, n: usize, i: usize) -> Told
+    requires { ⌜ (Planted (now w)) × (n ≤ lengthF (plant (drop i (tree (now w))))) ⌝ }
+    ensures { λ r. ⌜ Moves (now (w .entry)) (now (w .exit)) (overM (named x) (forestFrom (tree (now (w .entry))) n i) (rest (now (w .entry)))) (toldOf r (rest (now (w .exit)))) ⌝ }
+{
+    if n < 2 {
+        let r = over_none(w, x);
+        return answer(r, false);
+    }
+    let e = skip(w, i);
+    over_some(w, x, e)
+}
+
+// In Inlining: is the initialiser, the first of the n trees from i on, left as it is.
+pub fn stays(w: &[u32], x: u8, n: usize, i: usize) -> bool
+    requires { ⌜ (Planted (now w)) × (n ≤ lengthF (plant (drop i (tree (now w))))) ⌝ }
+    ensures { λ r. ⌜ r ≡ stays (named x) (forestFrom (tree (now (w .entry))) n i) (stack (now (w .entry))) ⌝ }
+{
+    if ident_prevented(w, x) {
+        return true;
+    }
+    if n == 0 {
+        return false;
+    }
+    !has_same_this(w, x, i)
+}
+
+// An identifier as initialiser: x is declared again.
+fn take_ident(w: &mut [u32], x: u8, e: usize, kind: VarType) -> Step
+    requires { ⌜ (Planted (now w)) × (e < getD (now w) 0 0) ⌝ }
+    ensures { λ r. ⌜ Moves (now (w .entry)) (now (w .exit)) (takeIdent x (typeOf kind) (treeFrom (tree (now (w .entry))) e) (rest (now (w .entry)))) (doneOf r (rest (now (w .exit)))) ⌝ }
+{
+    if is_ident(w, e) {
+        return declare_m(w, x, Init::Recorded, e, false, kind);
+    }
+    Step::Done
+}
+
+// Is x, with its initialiser at e, read where the initialiser may go.
+fn wanted(w: &[u32], x: u8, e: usize) -> bool
+    requires { ⌜ (Planted (now w)) × (e < getD (now w) 0 0) ⌝ }
+    ensures { λ r. ⌜ r ≡ wants x (treeFrom (tree (now (w .entry))) e) (stack (now (w .entry))) ⌝ }
+{
+    if is_cheap(w, e) {
+        return true;
+    }
+    if ident_prevented(w, x) {
+        return false;
+    }
+    match read_cnt(w, x) {
+        Count::Nothing => false,
+        Count::Reads(n) => n == 1,
+    }
+}
+
+// x gets its initialiser as its value, if it is wanted.
+fn take_value(w: &mut [u32], x: u8, e: usize, kind: VarType) -> Told
+    requires { ⌜ (Planted (now w)) × (e < getD (now w) 0 0) ⌝ }
+    ensures { λ r. ⌜ Moves (now (w .entry)) (now (w .exit)) (takeValue x (typeOf kind) (treeFrom (tree (now (w .entry))) e) (rest (now (w .entry)))) (toldOf r (rest (now (w .exit)))) ⌝ }
+{
+    if wanted(w, x, e) {
+        let r = declare_m(w, x, Init::Recorded, e, false, kind);
+        return answer(r, true);
+    }
+    Told::Answer(false)
+}
+
+// A prevented initialiser prevents x.
+fn take_or_mark(w: &mut [u32], x: u8, e: usize, kind: VarType) -> Told
+    requires { ⌜ (Planted (now w)) × (e < getD (now w) 0 0) ⌝ }
+    ensures { λ r. ⌜ Moves (now (w .entry)) (now (w .exit)) (takeOrMark x (typeOf kind) (treeFrom (tree (now (w .entry))) e) (rest (now (w .entry)))) (toldOf r (rest (now (w .exit)))) ⌝ }
+{
+    if is_inline_prevented(w, e) {
+        prevent_if(w, true, x);
+        return Told::Answer(false);
+    }
+    take_value(w, x, e, kind)
+}
+
+// Is the initialiser at e to be taken out.
+fn take_init(w: &mut [u32], x: u8, e: usize, kind: VarType) -> Told
+    requires { ⌜ (Planted (now w)) × (e < getD (now w) 0 0) ⌝ }
+    ensures { λ r. ⌜ Moves (now (w .entry)) (now (w .exit)) (takeInit x (typeOf kind) (treeFrom (tree (now (w .entry))) e) (rest (now (w .entry)))) (toldOf r (rest (now (w .exit)))) ⌝ }
+{
+    match take_ident(w, x, e, kind) {
+        Step::Refused(n) => Told::Stopped(n),
+        Step::Done => take_or_mark(w, x, e, kind),
+    }
+}
