@@ -7,3 +7,5 @@ pub mod Marks
 pub mod AssignFirst
 pub mod AssignLast
 pub mod Patterns
+pub mod Turned
+pub mod Declares

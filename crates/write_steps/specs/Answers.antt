@@ -5,6 +5,7 @@ use mathlib.Core.Option.{none, some}
 use Prim.Native.Nat.{ℕ, _+_, _≤_}
 use lib.ListN.{getD}
 use Rattle.tree.specs.Base.{pick}
+use Rattle.tree.specs.Tree.{Core, core}
 use Rattle.tree.specs.Combine.{treeAt}
 use Rattle.definition.specs.Tree.{isCheap}
 use Rattle.words.specs.Layout.{run}
@@ -23,3 +24,7 @@ pub record Kept (w : List ℕ) (j m : ℕ) : Type 0 where
   pub fits : j + m ≤ getD w 0 0
   pub one : runOf (valueOf (run w 16 j m)) ≡ run w 16 j m
   pub value : valueOf (run w 16 j m) ≡ pick (isCheap (treeAt (abs w) j)) (some (treeAt (abs w) j)) none
+
+-- a node with another kind
+abbrev pub reKind : ℕ → Core → Core
+reKind k c = core k (c .form) (c .arity) (c .num)

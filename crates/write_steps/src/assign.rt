@@ -22,7 +22,7 @@ use scopes::prevent_inline;
 use words::kind_at;
 
 // Document 01's number of a refusal, 0 where there is none.
-fn number(s: Step) -> u32
+pub fn number(s: Step) -> u32
     ensures { λ r. ⌜ r ≡ numberOf s ⌝ }
 {
     match s {

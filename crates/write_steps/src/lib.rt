@@ -17,6 +17,7 @@ ghost use Rattle.nodes.specs.Nodes.{Planted};
 ghost use Rattle.state.specs.State.{abs, Act};
 
 pub mod assign;
+pub mod declared;
 
 use look::Step;
 use look::find_binding_from_current;
