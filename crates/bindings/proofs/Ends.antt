@@ -8,13 +8,13 @@ use lib.ListN.{length, getD, set, drop, length-set, length-drop}
 use lib.Seq.{getD-set-same, getD-set-other, getD-drop, ext-getD}
 use Rattle.tree.specs.Base.{pick}
 use Rattle.definition.specs.Scope.{VarInfo, Scope, Stack, isFn, isVar, put, hoist, hoistAll, onBindings, close}
-use Rattle.words.specs.Tab.{tab, tab-ext, length-tab, getD-tab, sum-zero}
+use Rattle.words.specs.Tab.{tab, length-tab, getD-tab, sum-zero}
 use Rattle.words.specs.Layout.{Agree, tree}
 use Rattle.words.proofs.Nodes.{beyond-same, tree-same}
 use Rattle.scopes.specs.State.{Good, Becomes, bindAt, binds, stack, heads, headsAt, scopeKindOf, dropInner, lenAt, clenAt}
 use Rattle.records.proofs.Count.{depth-is}
 use Rattle.records.proofs.Listed.{stack-none}
-use Rattle.bindings.specs.Hoist.{recordAt, hoistOne, hoistUp}
+use Rattle.bindings.specs.Hoist.{recordAt, hoistUp}
 use Rattle.bindings.proofs.Top.{topScope, under, stack-top, under-length, top-fits}
 use Rattle.bindings.proofs.Hoist.{record-same}
 

@@ -1,5 +1,5 @@
 -- The words of one binding overwritten, but its name and its value. Assumes nothing.
-use mathlib.Core.Path.{_≡_, refl, sym, ap, _∙_}
+use mathlib.Core.Path.{_≡_, refl, ap, _∙_}
 use mathlib.Core.List.{List}
 use mathlib.Core.Logic.{_⊎_, inl, inr, ⊎-elim}
 use Prim.Native.Nat.{ℕ, _+_, _*_, _≤_, _<_}
@@ -10,7 +10,7 @@ use Rattle.words.specs.Tab.{below-or-not}
 use Rattle.words.specs.Layout.{yes, Agree}
 use Rattle.words.specs.Moved.{Put5}
 use Rattle.words.proofs.Nodes.{beyond-same}
-use Rattle.scopes.specs.State.{Good, binds, consts, bindAt, runAt, varTypeOf, aliasAt, valueOf}
+use Rattle.scopes.specs.State.{Good, binds, consts, bindAt, varTypeOf, aliasAt, valueOf}
 use Rattle.scopes.proofs.Words.{Kept, Runs, runs-good, runs-at, bind-eq, bind-same}
 use Rattle.records.specs.Steps.{Listed, refill}
 use Rattle.records.proofs.Listed.{kept-listed, set-binds}

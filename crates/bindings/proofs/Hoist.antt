@@ -1,20 +1,20 @@
 -- One binding hoisted. Assumes nothing.
 use mathlib.Core.Path.{_≡_, refl, sym, ap, _∙_}
-use mathlib.Core.List.{List, [], _∷_, _++_}
-use mathlib.Core.Bool.{Bool, true, false, _||_}
+use mathlib.Core.List.{List, [], _∷_}
+use mathlib.Core.Bool.{true, false, _||_}
 use mathlib.Core.Option.{none}
-use Prim.Native.Nat.{ℕ, zero, suc, _+_, _-_, _*_, _≤_, _<_}
+use Prim.Native.Nat.{ℕ, zero, suc, _+_, _*_, _≤_, _<_}
 use native.Mathlib.Omega.{arith}
 use lib.ListN.{length, getD, set, length-set}
 use lib.Seq.{getD-set-same, set-set}
-use Rattle.definition.specs.Scope.{VarInfo, Scope, Stack, VarType, vVar, isVar, hoist, hoistAll, onBindings, withValue, change, append}
+use Rattle.definition.specs.Scope.{VarInfo, Stack, isVar, hoist, withValue, change, append}
 use Rattle.words.specs.Tab.{tab-zero}
 use Rattle.words.specs.Layout.{yes, Agree, run, coreFrom}
-use Rattle.scopes.specs.State.{Good, Becomes, bindAt, binds, consts, heads, stack, varTypeOf, aliasAt, bareOf, valueOf, place}
+use Rattle.scopes.specs.State.{Good, Becomes, bindAt, binds, consts, stack, varTypeOf, aliasAt, bareOf}
 use Rattle.scopes.proofs.Words.{bind-eq}
 use Rattle.records.specs.Steps.{Listed, refill}
 use Rattle.records.proofs.Count.{length-binds}
-use Rattle.records.proofs.Listed.{bind-there, change-at, putAt, listed-then, listed-becomes}
+use Rattle.records.proofs.Listed.{bind-there, change-at, listed-then, listed-becomes}
 use Rattle.bindings.specs.Hoist.{recordAt, hoistOne, hoistUp, Own}
 use Rattle.bindings.proofs.Top.{putTop, put-there, put-absent, unresTop}
 

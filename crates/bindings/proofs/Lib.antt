@@ -3,3 +3,4 @@ pub mod Top
 pub mod Fields
 pub mod Hoist
 pub mod Ends
+pub mod Declares

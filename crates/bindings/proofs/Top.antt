@@ -2,11 +2,12 @@
 use mathlib.Core.Path.{_≡_, refl, sym, ap, _∙_}
 use mathlib.Core.List.{List, [], _∷_}
 use mathlib.Core.Bool.{Bool, true, false}
-use Prim.Native.Nat.{ℕ, zero, suc, _+_, _-_, _*_, _≤_, _<_}
+use mathlib.Core.Option.{some}
+use Prim.Native.Nat.{ℕ, suc, _+_, _-_, _*_, _≤_, _<_}
 use native.Mathlib.Omega.{arith}
 use lib.ListN.{length, getD, take, drop, length-drop}
 use lib.Seq.{getD-drop}
-use Rattle.definition.specs.Scope.{VarInfo, Scope, Stack, hasIn, findBindingFromCurrent, isSome, put, change, append, onBindings}
+use Rattle.definition.specs.Scope.{VarInfo, Scope, Stack, hasIn, findIn, findBindingFromCurrent, isSome, put, change, append, onBindings}
 use Rattle.words.specs.Tab.{getD-tab}
 use Rattle.words.specs.Layout.{yes}
 use Rattle.scopes.specs.State.{Good, Fits, split, scopeOf, headAt, headsAt, heads, flags, binds, consts, stack, bindAt, unresAt, place}
@@ -41,7 +42,7 @@ module _ (w : List ℕ) (g : Good w) (z : 0 < getD w 2 0) where
   abbrev a : ℕ
   a = getD w (7184 + d * 4 + 1) 0
 
-  heads-top : heads w ≡ headAt w d ∷ headsAt w d
+  pub heads-top : heads w ≡ headAt w d ∷ headsAt w d
   unfolding heads
   heads-top = some-head w (getD w 2 0) z
 
@@ -75,16 +76,20 @@ module _ (w : List ℕ) (g : Good w) (z : 0 < getD w 2 0) where
     other : (j : ℕ) → a + j < r → a + j < getD w 1 0 → getD (drop a (binds w)) j laws.noBind .id ≡ x → ⊥
     other j h l q = miss (a + j) (omega arith) h (sym (ap (λ (b : VarInfo). b .id) (at j l)) ∙ q)
 
-    is-there : r < getD w 1 0 → (hasIn x (drop a (binds w)) ≡ true) × (place x (heads w) (binds w) ≡ suc r)
+    is-there : r < getD w 1 0 → (hasIn x (drop a (binds w)) ≡ true) × (place x (heads w) (binds w) ≡ suc r) × (findIn x (drop a (binds w)) ≡ some (bindAt w r))
     is-there h =
         let e : a + (r - a) ≡ r = omega arith in
         let name : getD (drop a (binds w)) (r - a) laws.noBind .id ≡ x = ap (λ (b : VarInfo). b .id) (at (r - a) (omega arith)) ∙ ap (λ (n : ℕ). getD w (4112 + n * 10) 0) e ∙ hit h in
-        let t = laws.in-hit x (drop a (binds w)) (r - a) (omega (arith, len)) name (λ j l. other j (omega arith) (omega arith)) in
-        (t .0, rw heads-top (laws.place-yes x (headAt w d) (headsAt w d) (binds w) (t .0) ∙ omega (arith, t .1)))
+        let t = laws.in-hit x (drop a (binds w)) (r - a) (omega (arith, len)) name (λ j l. other j (omega arith) (omega arith)) in (
+          t .0,
+          rw heads-top (laws.place-yes x (headAt w d) (headsAt w d) (binds w) (t .0) ∙ omega (arith, t .1)),
+          laws.in-found x (drop a (binds w)) (t .0) ∙ ap some (ap (λ (n : ℕ). getD (drop a (binds w)) n laws.noBind) (t .1) ∙ at (r - a) (omega arith) ∙ ap (λ (n : ℕ). bindAt w n) e),
+        )
 
     pub own : Own w x r
     own = record {
       most = most;
       there = λ h. (is-there h .1, rw stack-top (is-there h .0), hit h);
+      found = λ h. rw stack-top (is-there h .2);
       absent = λ h. rw stack-top (laws.in-miss x (drop a (binds w)) (λ j l. other j (omega (arith, len)) (omega (arith, len))));
     }

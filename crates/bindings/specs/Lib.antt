@@ -1,1 +1,3 @@
 pub mod Hoist
+pub mod Kinds
+pub mod Declare

@@ -1,14 +1,14 @@
 -- The words of constants: a value overwritten, a constant appended. Assumes nothing.
-use mathlib.Core.Path.{_≡_, refl, sym, ap, _∙_}
+use mathlib.Core.Path.{_≡_, refl, _∙_}
 use mathlib.Core.List.{List, [], _∷_, _++_}
 use mathlib.Core.Option.{none}
 use mathlib.Core.Logic.{_⊎_, inl, inr, ⊎-elim}
-use Prim.Native.Nat.{ℕ, suc, _+_, _*_, _≤_, _<_}
+use Prim.Native.Nat.{ℕ, _+_, _*_, _≤_, _<_}
 use native.Mathlib.Nat.{eq-or-lt-of-le}
 use native.Mathlib.Omega.{arith}
 use lib.ListN.{length, getD, set, length-set}
 use lib.Seq.{getD-set-same, getD-set-other}
-use Rattle.words.specs.Tab.{tab, tab-zero, tab-suc, tab-ext, set-tab, same-or-not, sum-part, sum-next, sum-ext}
+use Rattle.words.specs.Tab.{tab-zero, tab-suc, tab-ext, set-tab, same-or-not, sum-next}
 use Rattle.words.specs.Layout.{Agree, run, tree, beyond, coreFrom}
 use Rattle.words.proofs.Nodes.{beyond-same}
 use Rattle.scopes.specs.State.{heads, flags, binds, consts, constAt, clenAt, coff, crunAt, CFits, Good, Whole, valueOf, runOf}

@@ -3,30 +3,25 @@ use mathlib.Core.Path.{_≡_, refl, sym, ap, _∙_}
 use mathlib.Core.List.{List, [], _∷_, _++_}
 use mathlib.Core.Bool.{Bool, true, false, _||_}
 use mathlib.Core.Option.{Option, none, some}
-use mathlib.Core.Logic.{_⊎_, inl, inr, ⊎-elim}
 use Prim.Native.Nat.{ℕ, zero, suc, _+_, _-_, _*_, _≤_, _<_}
-use native.Mathlib.Nat.{eq-or-lt-of-le}
 use native.Mathlib.Omega.{arith}
 use borrow.Author.Tests.{eq-eqb, ne-eqb}
 use lib.ListN.{length, getD, set, take, drop, length-set, length-take, length-drop, length-append}
 use lib.Dec.{eqb, ltb}
-use lib.Seq.{getD-set-same, getD-set-other, drop-set-add, take-set-le, getD-drop, take-append-le, drop-append-le, getD-at, set-at}
+use lib.Seq.{drop-set-add, take-set-le, getD-drop, take-append-le, drop-append-le, getD-at, set-at}
 use Rattle.tree.specs.Base.{orElse}
 use Rattle.tree.specs.Tree.{Tree, Core}
 use Rattle.definition.specs.Tree.{countO}
-use Rattle.definition.specs.Scope.{VarInfo, Stack, Scope, constIn, putConst, addConst, findConstant, hasConstant, flat, isSome, recordedNodes, live}
-use Rattle.words.specs.Tab.{tab, tab-zero, tab-suc, tab-ext, length-tab, getD-tab, set-tab, take-tab, same-or-not, sum-part, sum-next, sum-ext}
-use Rattle.words.specs.Layout.{Agree, run, tree, beyond, coreFrom}
-use Rattle.words.proofs.Nodes.{beyond-same, run-same, run-length}
-use Rattle.scopes.specs.State.{Head, split, headAt, headsAt, heads, flags, binds, consts, stack, bindAt, constAt, clenAt, coff, crunAt, lenAt, off, Fits, CFits, Good, Others, Whole, valueOf, runOf}
+use Rattle.definition.specs.Scope.{VarInfo, Stack, constIn, putConst, addConst, findConstant, hasConstant, flat, isSome, recordedNodes, live}
+use Rattle.words.specs.Tab.{tab, tab-zero, length-tab, getD-tab, take-tab, sum-part}
+use Rattle.words.specs.Layout.{run, coreFrom}
+use Rattle.words.proofs.Nodes.{run-length}
+use Rattle.scopes.specs.State.{Head, split, headAt, headsAt, heads, flags, binds, consts, stack, constAt, clenAt, coff, crunAt, CFits, Good, valueOf}
 use Rattle.scopes.proofs.Split.{tested}
-use Rattle.scopes.proofs.Words.{heads-part, part-tree, whole-none}
-use Rattle.scopes.proofs.Grow.{some-head, part-off, part-run, part-binds, part-flags}
-use Rattle.records.specs.Steps.{Listed, Spliced, over}
+use Rattle.scopes.proofs.Grow.{some-head}
+use Rattle.records.specs.Steps.{Listed, over}
 use Rattle.records.specs.Consts.{Own}
-use Rattle.records.proofs.Count.{total, nodesB, nodesC, total-set, total-append, recorded-split, live-split, recorded-is, live-is, total-binds, total-consts, length-binds, length-consts, fits-binds, fits-consts, nodes-const}
-use Rattle.records.proofs.Listed.{count-tree}
-use Rattle.records.proofs.Store as store
+use Rattle.records.proofs.Count.{total, nodesC, total-set, total-append, recorded-split, live-split, recorded-is, live-is, total-binds, total-consts, length-binds, length-consts, fits-binds, fits-consts, nodes-const}
 
 abbrev pub Const : Type 0
 Const = ℕ × Option Tree

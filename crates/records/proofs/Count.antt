@@ -1,17 +1,16 @@
 -- What row 9 counts, by the lists of all bindings and constants, and by the words. Assumes nothing.
-use mathlib.Core.Path.{_≡_, refl, sym, ap, _∙_}
+use mathlib.Core.Path.{_≡_, refl, ap, _∙_}
 use mathlib.Core.List.{List, [], _∷_, _++_}
 use mathlib.Core.Option.{Option, none, some}
-use Prim.Native.Nat.{ℕ, zero, suc, _+_, _-_, _*_, _≤_, _<_, min}
+use Prim.Native.Nat.{ℕ, zero, suc, _+_, _*_, _≤_, _<_}
 use native.Mathlib.Omega.{arith}
 use lib.ListN.{length, getD, set, take, drop, length-take, length-drop}
 use Rattle.tree.specs.Tree.{Tree, Forest, node, nil, cons, Core, flat, flats, count, counts}
 use Rattle.definition.specs.Tree.{countO}
-use Rattle.definition.specs.Scope.{VarInfo, Stack, valuesIn, valuesOf, recordedNodes, live}
+use Rattle.definition.specs.Scope.{VarInfo, valuesIn, valuesOf, recordedNodes, live}
 use Rattle.words.specs.Tab.{tab, sum, length-tab, sum-ext}
-use Rattle.words.specs.Layout.{run}
 use Rattle.words.proofs.Nodes.{run-length}
-use Rattle.scopes.specs.State.{Head, split, Fits, CFits, Good, Whole, valueOf, runOf, runAt, crunAt, lenAt, clenAt, bindAt, constAt, off, coff, headsAt, heads, flags, binds, consts, stack}
+use Rattle.scopes.specs.State.{Head, split, Fits, CFits, Good, valueOf, runOf, runAt, crunAt, lenAt, clenAt, bindAt, constAt, off, coff, headsAt, heads, flags, binds, consts, stack}
 
 -- a sum over a list
 abbrev pub total : {A : Type 0} → (A → ℕ) → List A → ℕ
@@ -45,7 +44,7 @@ nodesB b = countO (b .value)
 abbrev pub nodesC : ℕ × Option Tree → ℕ
 nodesC c = countO (c .1)
 
-values-in : (bs : List VarInfo) → valuesIn bs ≡ total nodesB bs
+pub values-in : (bs : List VarInfo) → valuesIn bs ≡ total nodesB bs
 values-in [] = refl
 values-in (b ∷ bs) = ap (λ (n : ℕ). nodesB b + n) (values-in bs)
 

@@ -4,7 +4,7 @@ use mathlib.Core.List.{List, [], _∷_}
 use mathlib.Core.Bool.{Bool, true, false, _||_}
 use mathlib.Core.Option.{Option}
 use mathlib.Core.Logic.{_⊎_, inl, inr, ⊎-elim}
-use Prim.Native.Nat.{ℕ, zero, suc, _+_, _-_, _*_, _≤_, _<_}
+use Prim.Native.Nat.{ℕ, suc, _+_, _-_, _*_, _≤_, _<_}
 use native.Mathlib.Omega.{arith}
 use lib.ListN.{length, getD, set, length-set}
 use lib.Dec.{ltb}
@@ -18,9 +18,11 @@ use Rattle.words.proofs.Nodes.{run-length, tree-length, tree-at}
 use Rattle.scopes.specs.State.{Good, Others, Becomes, split, heads, flags, binds, consts, stack, bindAt, lenAt, off, runAt, valueOf, runOf, varTypeOf, aliasAt, place}
 use Rattle.scopes.proofs.Split as laws
 use Rattle.scopes.proofs.Words.{Kept, kept-heads, kept-flags, kept-consts, kept-tree, kept-good, bind-eq}
-use Rattle.records.specs.Steps.{Listed, Still, Spliced, over}
-use Rattle.records.proofs.Count.{depth-is, count-whole, nodesB, nodesC, total, total-set, recorded-split, live-split, recorded-is, live-is, total-binds, total-consts, length-binds, length-consts, fits-binds, fits-consts, nodes-bind}
+use Rattle.records.specs.Steps.{Listed, Still, Spliced, over, putAt, Grown}
+use Rattle.records.proofs.Count.{depth-is, count-whole, nodesB, total-set, recorded-split, live-split, recorded-is, live-is, total-binds, total-consts, length-binds, length-consts, fits-binds, fits-consts, nodes-bind}
 use Rattle.records.proofs.Store as store
+use Rattle.records.specs.declared.Step.{Step}
+use Rattle.records.specs.declared.Step.the-variants.{Done, Refused}
 
 pub others-then : {u v w : List ℕ} → Others u v → Others v w → Others u w
 others-then a b = record { low = λ j l h. b .low j l h ∙ a .low j l h; high = λ j l h. b .high j l h ∙ a .high j l h }
@@ -65,10 +67,6 @@ kept-listed g t good e = record {
   others = record { low = λ j a b. t .counts j (omega arith) b; high = λ j a b. t .tail j (omega arith) b };
   rest = t .rest;
 }
-
--- binding k overwritten by c
-abbrev pub putAt : List ℕ → ℕ → VarInfo → Stack
-putAt w k c = split (heads w) (flags w) (set (binds w) k c) (consts w)
 
 module _ (w : List ℕ) (k : ℕ) (h : k < getD w 1 0) where
   pub bind-there : (d : VarInfo) → getD (binds w) k d ≡ bindAt w k
@@ -204,3 +202,8 @@ stack-none w z = nothing (stack w) (depth-is w ∙ z)
     nothing : (st : Stack) → length st ≡ 0 → st ≡ []
     nothing [] e = refl
     nothing (s ∷ st) e = absurd (omega arith)
+
+-- a step, and then one that may be refused
+pub grown-after : {u v : List ℕ} {s : Stack} (w : List ℕ) (t : Stack) (r : Step) → Becomes u v s → Grown v w t r → Grown u w t r
+grown-after w t Done a b = (becomes-then a (b .0), b .1)
+grown-after w t (Refused n) a b = (b .0, b .1, still-after a (b .2))

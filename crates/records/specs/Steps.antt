@@ -4,12 +4,12 @@ use mathlib.Core.List.{List}
 use mathlib.Core.Bool.{Bool, true, false, _||_}
 use mathlib.Core.Option.{Option, none, some}
 use Prim.Native.Nat.{ℕ, _+_, _-_, _*_, _≤_, _<_}
-use lib.ListN.{length, getD}
+use lib.ListN.{length, getD, set}
 use lib.Dec.{ltb}
 use Rattle.tree.specs.Tree.{Tree}
 use Rattle.definition.specs.Scope.{VarInfo, Stack, recordedNodes, live}
 use Rattle.words.specs.Layout.{tree, beyond}
-use Rattle.scopes.specs.State.{varTypeOf, aliasAt, heads, flags, binds, consts, Good, Others, Becomes}
+use Rattle.scopes.specs.State.{split, varTypeOf, aliasAt, heads, flags, binds, consts, Good, Others, Becomes}
 use Rattle.words.specs.Layout.{yes}
 use Rattle.records.specs.declared.Step.{Step}
 use Rattle.records.specs.declared.Step.the-variants.{Done, Refused}
@@ -32,6 +32,10 @@ pub record Listed (w w′ : List ℕ) (bs : List VarInfo) (cs : List (ℕ × Opt
   pub tree : tree w′ ≡ tree w
   pub others : Others w w′
   pub rest : beyond w′ ≡ beyond w
+
+-- binding k overwritten by c
+abbrev pub putAt : List ℕ → ℕ → VarInfo → Stack
+putAt w k c = split (heads w) (flags w) (set (binds w) k c) (consts w)
 
 -- a binding's words but its name and its value
 abbrev pub refill : (kind alias reads prevented undef sensitive hoisted : ℕ) → VarInfo → VarInfo

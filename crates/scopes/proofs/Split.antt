@@ -59,10 +59,10 @@ take-touch-lt (suc a) (suc k) f (b ∷ bs) h = ap (λ (l : List VarInfo). b ∷ 
 
 -- a test that is known
 module _ (i : ℕ) (b : VarInfo) (bs : List VarInfo) where
-  has-yes : eqb (b .id) i ≡ true → hasIn i (b ∷ bs) ≡ true
+  pub has-yes : eqb (b .id) i ≡ true → hasIn i (b ∷ bs) ≡ true
   has-yes e = ap (λ (p : Bool). isSome {A = VarInfo} (elim p [ true ↦ some b | false ↦ findIn i bs ])) e
 
-  has-no : eqb (b .id) i ≡ false → hasIn i (b ∷ bs) ≡ hasIn i bs
+  pub has-no : eqb (b .id) i ≡ false → hasIn i (b ∷ bs) ≡ hasIn i bs
   has-no e = ap (λ (p : Bool). isSome {A = VarInfo} (elim p [ true ↦ some b | false ↦ findIn i bs ])) e
 
   index-yes : eqb (b .id) i ≡ true → indexIn i (b ∷ bs) ≡ 0
@@ -71,10 +71,10 @@ module _ (i : ℕ) (b : VarInfo) (bs : List VarInfo) where
   index-no : eqb (b .id) i ≡ false → indexIn i (b ∷ bs) ≡ suc (indexIn i bs)
   index-no e = ap (λ (p : Bool). elim p [ true ↦ 0 | false ↦ suc (indexIn i bs) ]) e
 
-  change-yes : (f : VarInfo → VarInfo) → eqb (b .id) i ≡ true → changeIn i f (b ∷ bs) ≡ f b ∷ bs
+  pub change-yes : (f : VarInfo → VarInfo) → eqb (b .id) i ≡ true → changeIn i f (b ∷ bs) ≡ f b ∷ bs
   change-yes f e = ap (λ (p : Bool). elim p [ true ↦ f b ∷ bs | false ↦ b ∷ changeIn i f bs ]) e
 
-  change-no : (f : VarInfo → VarInfo) → eqb (b .id) i ≡ false → changeIn i f (b ∷ bs) ≡ b ∷ changeIn i f bs
+  pub change-no : (f : VarInfo → VarInfo) → eqb (b .id) i ≡ false → changeIn i f (b ∷ bs) ≡ b ∷ changeIn i f bs
   change-no f e = ap (λ (p : Bool). elim p [ true ↦ f b ∷ bs | false ↦ b ∷ changeIn i f bs ]) e
 
 module _ (i : ℕ) (h : Head) (hs : List Head) (bs : List VarInfo) where
@@ -85,10 +85,10 @@ module _ (i : ℕ) (h : Head) (hs : List Head) (bs : List VarInfo) where
   place-no e = ap (λ (p : Bool). elim p [ true ↦ suc (h .start + indexIn i (drop (h .start) bs)) | false ↦ place i hs (take (h .start) bs) ]) e
 
 module _ (i : ℕ) (f : VarInfo → VarInfo) (s : Scope) (st : Stack) where
-  here-yes : hasIn i (s .bindings) ≡ true → change i f (s ∷ st) ≡ onBindings (changeIn i f) s ∷ st
+  pub here-yes : hasIn i (s .bindings) ≡ true → change i f (s ∷ st) ≡ onBindings (changeIn i f) s ∷ st
   here-yes e = ap (λ (p : Bool). elim p [ true ↦ onBindings (changeIn i f) s ∷ st | false ↦ s ∷ change i f st ]) e
 
-  here-no : hasIn i (s .bindings) ≡ false → change i f (s ∷ st) ≡ s ∷ change i f st
+  pub here-no : hasIn i (s .bindings) ≡ false → change i f (s ∷ st) ≡ s ∷ change i f st
   here-no e = ap (λ (p : Bool). elim p [ true ↦ onBindings (changeIn i f) s ∷ st | false ↦ s ∷ change i f st ]) e
 
 -- either way

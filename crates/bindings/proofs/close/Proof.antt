@@ -1,8 +1,8 @@
 -- Dropped, and then hoisted into what is innermost now. Assumes nothing.
-use Prim.Native.Nat.{ℕ, suc, _+_, _*_, _-_, _≤_, _<_}
-use mathlib.Core.Path.{_≡_, refl, sym, ap, _∙_}
+use Prim.Native.Nat.{_+_, _*_, _-_, _<_}
+use mathlib.Core.Path.{_∙_}
 use native.Mathlib.Omega.{arith}
-use lib.ListN.{length, getD, length-set}
+use lib.ListN.{getD}
 use Rattle.scopes.specs.State.{stack}
 use Rattle.records.proofs.Count.{depth-is}
 use Rattle.records.proofs.Listed.{becomes-then}
@@ -11,11 +11,6 @@ use Rattle.bindings.proofs.Ends as ends
 use borrow.Author.Needs.{needs}
 use Rattle.bindings.proofs.close.Statement.{statement}
 use Rattle.bindings.proofs.close.Tie as tie
-use Rattle.bindings.proofs.close.Reads as reads
-use Rattle.bindings.proofs.close.Lts as lts
-use Rattle.bindings.proofs.drop_all.Reads as drop-all-reads
-use Rattle.bindings.proofs.hoist_all.Reads as hoist-all-reads
-use Rattle.scopes.proofs.drop_scope.Reads as drop-scope-reads
 
 slice-read-d : tie.Need-slice-read-d
 slice-read-d c = search needs

@@ -1,14 +1,10 @@
 -- Three counts. Assumes nothing.
-use Prim.Native.Nat.{ℕ, suc, _+_, _*_, _-_, _≤_, _<_}
-use mathlib.Core.Path.{_≡_, refl, sym, ap, _∙_}
 use native.Mathlib.Omega.{arith}
-use lib.ListN.{length, getD, length-set}
+use lib.ListN.{length-set}
 use Rattle.bindings.proofs.Ends as ends
 use borrow.Author.Needs.{needs}
 use Rattle.bindings.proofs.drop_all.Statement.{statement}
 use Rattle.bindings.proofs.drop_all.Tie as tie
-use Rattle.bindings.proofs.drop_all.Reads as reads
-use Rattle.bindings.proofs.drop_all.Lts as lts
 
 slice-write-w : tie.Need-slice-write-w
 slice-write-w c = search needs

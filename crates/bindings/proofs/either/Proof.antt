@@ -1,14 +1,9 @@
 -- By the first. Assumes nothing.
-use Prim.Native.Nat.{ℕ, suc, _+_, _*_, _-_, _≤_, _<_}
-use mathlib.Core.Path.{_≡_, refl, sym, ap, _∙_}
-use native.Mathlib.Omega.{arith}
-use lib.ListN.{length, getD, length-set}
+use mathlib.Core.Path.{refl, sym}
 use Rattle.bindings.proofs.Hoist.{yes-of}
 use borrow.Author.Needs.{needs}
 use Rattle.bindings.proofs.either.Statement.{statement}
 use Rattle.bindings.proofs.either.Tie as tie
-use Rattle.bindings.proofs.either.Reads as reads
-use Rattle.bindings.proofs.either.Lts as lts
 
 returns : tie.Need-returns
 returns c = search needs

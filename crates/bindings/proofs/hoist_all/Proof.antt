@@ -1,8 +1,8 @@
 -- Binding by binding, the oldest first. Assumes nothing.
-use Prim.Native.Nat.{ℕ, suc, _+_, _*_, _-_, _≤_, _<_}
-use mathlib.Core.Path.{_≡_, refl, sym, ap, _∙_}
+use Prim.Native.Nat.{suc, _+_, _*_, _-_, _≤_}
+use mathlib.Core.Path.{_≡_, refl, ap, _∙_}
 use native.Mathlib.Omega.{arith}
-use lib.ListN.{length, getD, length-set}
+use lib.ListN.{length, getD}
 use Rattle.words.specs.Layout.{Agree}
 use Rattle.scopes.specs.State.{stack, Becomes}
 use Rattle.records.proofs.Count.{depth-is}
@@ -12,9 +12,6 @@ use Rattle.bindings.proofs.Hoist.{length-up, record-same}
 use borrow.Author.Needs.{needs}
 use Rattle.bindings.proofs.hoist_all.Statement.{statement}
 use Rattle.bindings.proofs.hoist_all.Tie as tie
-use Rattle.bindings.proofs.hoist_all.Reads as reads
-use Rattle.bindings.proofs.hoist_all.Lts as lts
-use Rattle.bindings.proofs.hoist_one.Reads as hoist-one-reads
 
 abbrev Inv-loop : tie.InvT-loop
 Inv-loop w₀ a e j₀ w j = (a ≤ j) × (j ≤ e) × (getD w 1 0 ≤ j) × Agree (4112 + j * 10) 6672 w₀ w × Becomes w₀ w (hoistUp (λ i. recordAt w₀ i) a (j - a) (stack w₀)) × (length w ≡ length w₀)

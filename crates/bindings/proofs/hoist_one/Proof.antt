@@ -1,8 +1,8 @@
 -- Only a `var`. Assumes nothing.
-use Prim.Native.Nat.{ℕ, suc, _+_, _*_, _-_, _≤_, _<_}
-use mathlib.Core.Path.{_≡_, refl, sym, ap, _∙_}
+use Prim.Native.Nat.{_+_, _*_}
+use mathlib.Core.Path.{refl, sym}
 use native.Mathlib.Omega.{arith}
-use lib.ListN.{length, getD, length-set}
+use lib.ListN.{getD}
 use Rattle.scopes.specs.State.{stack}
 use Rattle.records.proofs.Listed.{becomes-self}
 use Rattle.bindings.specs.Hoist.{recordAt, hoistOne}
@@ -10,9 +10,6 @@ use Rattle.bindings.proofs.Hoist.{hoist-none-is, no-var}
 use borrow.Author.Needs.{needs}
 use Rattle.bindings.proofs.hoist_one.Statement.{statement}
 use Rattle.bindings.proofs.hoist_one.Tie as tie
-use Rattle.bindings.proofs.hoist_one.Reads as reads
-use Rattle.bindings.proofs.hoist_one.Lts as lts
-use Rattle.bindings.proofs.hoist_var.Reads as hoist-var-reads
 
 mul-if1 : tie.Need-mul-if1
 mul-if1 c = search needs

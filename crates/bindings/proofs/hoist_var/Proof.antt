@@ -1,8 +1,8 @@
 -- In place, or appended. Assumes nothing.
-use Prim.Native.Nat.{ℕ, suc, _+_, _*_, _-_, _≤_, _<_}
-use mathlib.Core.Path.{_≡_, refl, sym, ap, _∙_}
+use Prim.Native.Nat.{ℕ, _+_, _*_}
+use mathlib.Core.Path.{refl, sym, ap, _∙_}
 use native.Mathlib.Omega.{arith}
-use lib.ListN.{length, getD, length-set}
+use lib.ListN.{getD}
 use mathlib.Core.Bool.{Bool, _||_}
 use mathlib.Core.Option.{none}
 use Rattle.words.specs.Layout.{yes}
@@ -14,13 +14,6 @@ use Rattle.bindings.proofs.Hoist.{run-none, twice, listed-count, gone, 
 use borrow.Author.Needs.{needs}
 use Rattle.bindings.proofs.hoist_var.Statement.{statement}
 use Rattle.bindings.proofs.hoist_var.Tie as tie
-use Rattle.bindings.proofs.hoist_var.Reads as reads
-use Rattle.bindings.proofs.hoist_var.Lts as lts
-use Rattle.bindings.proofs.either.Reads as either-reads
-use Rattle.bindings.proofs.own_binding.Reads as own-binding-reads
-use Rattle.bindings.proofs.rewrite.Reads as rewrite-reads
-use Rattle.records.proofs.set_run.Reads as set-run-reads
-use Rattle.scopes.proofs.append_record.Reads as append-record-reads
 
 mul-x : tie.Need-mul-x
 mul-x c = search needs

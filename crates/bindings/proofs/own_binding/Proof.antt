@@ -1,15 +1,11 @@
 -- A scan of the innermost scope. Assumes nothing.
-use Prim.Native.Nat.{ℕ, suc, _+_, _*_, _-_, _≤_, _<_}
-use mathlib.Core.Path.{_≡_, refl, sym, ap, _∙_}
+use Prim.Native.Nat.{_+_, _*_, _-_}
 use native.Mathlib.Omega.{arith}
-use lib.ListN.{length, getD, length-set}
+use lib.ListN.{getD}
 use Rattle.bindings.proofs.Top as top
 use borrow.Author.Needs.{needs}
 use Rattle.bindings.proofs.own_binding.Statement.{statement}
 use Rattle.bindings.proofs.own_binding.Tie as tie
-use Rattle.bindings.proofs.own_binding.Reads as reads
-use Rattle.bindings.proofs.own_binding.Lts as lts
-use Rattle.records.proofs.first_at.Reads as first-at-reads
 
 shared-slice-read-d : tie.Need-shared-slice-read-d
 shared-slice-read-d c = search needs

@@ -1,15 +1,10 @@
 -- Seven words. Assumes nothing.
-use Prim.Native.Nat.{ℕ, suc, _+_, _*_, _-_, _≤_, _<_}
-use mathlib.Core.Path.{_≡_, refl, sym, ap, _∙_}
 use native.Mathlib.Omega.{arith}
-use lib.ListN.{length, getD, length-set}
+use lib.ListN.{length-set}
 use Rattle.bindings.proofs.Fields as fields
 use borrow.Author.Needs.{needs}
 use Rattle.bindings.proofs.rewrite.Statement.{statement}
 use Rattle.bindings.proofs.rewrite.Tie as tie
-use Rattle.bindings.proofs.rewrite.Reads as reads
-use Rattle.bindings.proofs.rewrite.Lts as lts
-use Rattle.words.proofs.put5.Reads as put5-reads
 
 mul-put5 : tie.Need-mul-put5
 mul-put5 c = search needs

@@ -1,21 +1,12 @@
 -- In place, or appended. Assumes nothing.
-use Prim.Native.Nat.{ℕ, suc, _+_, _*_, _-_, _≤_, _<_}
-use mathlib.Core.Path.{_≡_, refl, sym, ap, _∙_}
-use native.Mathlib.Omega.{arith}
-use lib.ListN.{getD, length-set}
-use Rattle.words.specs.Tab as sums
-use Rattle.scopes.specs.State.{clenAt, stack, heads, flags, binds, consts, split, valueOf}
+use mathlib.Core.Path.{refl}
+use Rattle.scopes.specs.State.{valueOf}
 use Rattle.words.specs.Layout.{run}
 use mathlib.Core.List.{[]}
 use Rattle.records.proofs.Listed as listed
 use borrow.Author.Needs.{needs}
 use Rattle.records.proofs.add_const.Statement.{statement}
 use Rattle.records.proofs.add_const.Tie as tie
-use Rattle.records.proofs.add_const.Reads as reads
-use Rattle.records.proofs.add_const.Lts as lts
-use Rattle.records.proofs.append_const.Reads as append-const-reads
-use Rattle.records.proofs.own_const.Reads as own-const-reads
-use Rattle.records.proofs.replace_const.Reads as replace-const-reads
 
 slice-read-d : tie.Need-slice-read-d
 slice-read-d c = search needs

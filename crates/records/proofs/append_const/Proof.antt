@@ -1,10 +1,8 @@
 -- Appended without a value, which is then overwritten. Assumes nothing.
-use Prim.Native.Nat.{ℕ, suc, _+_, _*_, _-_, _≤_, _<_}
-use mathlib.Core.Path.{_≡_, refl, sym, ap, _∙_}
+use Prim.Native.Nat.{ℕ, _+_, _-_}
+use mathlib.Core.Path.{refl, sym, ap, _∙_}
 use native.Mathlib.Omega.{arith}
-use lib.ListN.{getD, length-set}
-use Rattle.words.specs.Tab as sums
-use Rattle.scopes.specs.State.{clenAt, stack, heads, flags, binds, consts, split, valueOf}
+use Rattle.scopes.specs.State.{stack, heads, flags, binds, consts, split, valueOf}
 use Rattle.words.specs.Layout.{run}
 use mathlib.Core.Bool.{_||_}
 use lib.Dec.{ltb}
@@ -16,11 +14,6 @@ use Rattle.records.proofs.Count as count
 use borrow.Author.Needs.{needs}
 use Rattle.records.proofs.append_const.Statement.{statement}
 use Rattle.records.proofs.append_const.Tie as tie
-use Rattle.records.proofs.append_const.Reads as reads
-use Rattle.records.proofs.append_const.Lts as lts
-use Rattle.records.proofs.passes.Reads as passes-reads
-use Rattle.records.proofs.push_const.Reads as push-const-reads
-use Rattle.records.proofs.set_const.Reads as set-const-reads
 
 slice-read-c : tie.Need-slice-read-c
 slice-read-c c = search needs

@@ -1,17 +1,12 @@
 -- The nodes of the earlier constants. Assumes nothing.
-use Prim.Native.Nat.{ℕ, _+_, _*_, _-_, _≤_, _<_}
-use mathlib.Core.Path.{_≡_, refl, sym, ap, _∙_}
+use mathlib.Core.Path.{_∙_}
 use native.Mathlib.Omega.{arith}
 use lib.ListN.{getD}
 use Rattle.words.specs.Tab as sums
 use Rattle.scopes.specs.State.{clenAt}
 use Rattle.records.proofs.Count.{words-const}
-use borrow.Author.Needs.{needs}
 use Rattle.records.proofs.const_offset.Statement.{statement}
 use Rattle.records.proofs.const_offset.Tie as tie
-use Rattle.records.proofs.const_offset.Reads as reads
-use Rattle.records.proofs.const_offset.Lts as lts
-use Rattle.records.proofs.lengths.Reads as lengths-reads
 
 lengths-requires : tie.Need-lengths-requires
 lengths-requires c κs =

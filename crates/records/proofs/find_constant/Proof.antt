@@ -2,7 +2,7 @@
 use Prim.Native.Nat.{ℕ, suc, _+_, _*_, _-_, _≤_, _<_}
 use mathlib.Core.Path.{_≡_, refl, sym, ap, _∙_}
 use native.Mathlib.Omega.{arith}
-use lib.ListN.{getD, length-set}
+use lib.ListN.{getD}
 use Rattle.records.proofs.Constants as consts
 use Rattle.words.specs.Tab as sums
 use Rattle.words.specs.Layout.{run}
@@ -11,10 +11,6 @@ use Rattle.scopes.specs.State.{CFits, headsAt, heads, stack, clenAt, valueOf}
 use borrow.Author.Needs.{needs}
 use Rattle.records.proofs.find_constant.Statement.{statement}
 use Rattle.records.proofs.find_constant.Tie as tie
-use Rattle.records.proofs.find_constant.Reads as reads
-use Rattle.records.proofs.find_constant.Lts as lts
-use Rattle.records.proofs.const_offset.Reads as const-offset-reads
-use Rattle.records.proofs.first_at.Reads as first-at-reads
 
 abbrev Inv-loop : tie.InvT-loop
 Inv-loop w x k₀ e₀ k e = (k ≤ 32) × (e ≤ getD w 3 0) × CFits (headsAt w k) e × (findConstant x (stack w) ≡ consts.findC x (headsAt w k) (consts.tabC w e))

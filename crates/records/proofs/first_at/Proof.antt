@@ -1,6 +1,6 @@
 -- A scan of a table. Assumes nothing.
 use Prim.Native.Nat.{ℕ, _+_, _*_, _-_, _≤_, _<_}
-use mathlib.Core.Path.{_≡_, refl, sym, ap, _∙_}
+use mathlib.Core.Path.{_≡_}
 use native.Mathlib.Omega.{arith}
 use lib.ListN.{getD}
 use Rattle.scopes.proofs.Words.{none-more}
@@ -8,8 +8,6 @@ use Rattle.records.proofs.Store.{stride}
 use borrow.Author.Needs.{needs}
 use Rattle.records.proofs.first_at.Statement.{statement}
 use Rattle.records.proofs.first_at.Tie as tie
-use Rattle.records.proofs.first_at.Reads as reads
-use Rattle.records.proofs.first_at.Lts as lts
 
 abbrev Inv-loop : tie.InvT-loop
 Inv-loop w p s a e x k₀ k = (a ≤ k) × (k ≤ e) × ((j : ℕ) → a ≤ j → j < k → getD w (p + j * s) 0 ≡ x → ⊥)

@@ -1,15 +1,9 @@
 -- A scan of all constants. Assumes nothing.
-use Prim.Native.Nat.{ℕ, suc, _+_, _*_, _-_, _≤_, _<_}
-use mathlib.Core.Path.{_≡_, refl, sym, ap, _∙_}
-use native.Mathlib.Omega.{arith}
-use lib.ListN.{getD, length-set}
+use mathlib.Core.Path.{sym}
 use Rattle.records.proofs.Constants as consts
 use borrow.Author.Needs.{needs}
 use Rattle.records.proofs.has_constant.Statement.{statement}
 use Rattle.records.proofs.has_constant.Tie as tie
-use Rattle.records.proofs.has_constant.Reads as reads
-use Rattle.records.proofs.has_constant.Lts as lts
-use Rattle.records.proofs.first_at.Reads as first-at-reads
 
 shared-slice-read-c : tie.Need-shared-slice-read-c
 shared-slice-read-c c = search needs

@@ -1,6 +1,6 @@
 -- The sum of the words of a table. Assumes nothing.
-use Prim.Native.Nat.{ℕ, _+_, _*_, _-_, _≤_, _<_}
-use mathlib.Core.Path.{_≡_, refl, sym, ap, _∙_}
+use Prim.Native.Nat.{ℕ, _+_, _*_, _-_, _≤_}
+use mathlib.Core.Path.{_≡_, sym}
 use native.Mathlib.Omega.{arith}
 use lib.ListN.{getD}
 use Rattle.words.specs.Tab as sums
@@ -9,8 +9,6 @@ use Rattle.records.proofs.Store.{stride}
 use borrow.Author.Needs.{needs}
 use Rattle.records.proofs.lengths.Statement.{statement}
 use Rattle.records.proofs.lengths.Tie as tie
-use Rattle.records.proofs.lengths.Reads as reads
-use Rattle.records.proofs.lengths.Lts as lts
 
 abbrev Inv-loop : tie.InvT-loop
 Inv-loop w p s k at₀ j₀ at j = (j ≤ k) × (at ≡ sum (λ i. getD w (p + i * s) 0) j) × (at ≤ 512)

@@ -1,14 +1,10 @@
 -- All records. Assumes nothing.
-use Prim.Native.Nat.{ℕ, _+_, _*_, _-_, _≤_, _<_}
-use mathlib.Core.Path.{_≡_, refl, sym, ap, _∙_}
+use mathlib.Core.Path.{sym}
 use native.Mathlib.Omega.{arith}
-use lib.ListN.{getD}
 use Rattle.records.proofs.Count.{live-is}
 use borrow.Author.Needs.{needs}
 use Rattle.records.proofs.live.Statement.{statement}
 use Rattle.records.proofs.live.Tie as tie
-use Rattle.records.proofs.live.Reads as reads
-use Rattle.records.proofs.live.Lts as lts
 
 shared-slice-read-result : tie.Need-shared-slice-read-result
 shared-slice-read-result c = search needs

@@ -1,15 +1,11 @@
 -- A scan of the innermost scope. Assumes nothing.
-use Prim.Native.Nat.{ℕ, suc, _+_, _*_, _-_, _≤_, _<_}
-use mathlib.Core.Path.{_≡_, refl, sym, ap, _∙_}
+use Prim.Native.Nat.{_+_, _*_, _-_}
 use native.Mathlib.Omega.{arith}
-use lib.ListN.{getD, length-set}
+use lib.ListN.{getD}
 use Rattle.records.proofs.Constants as consts
 use borrow.Author.Needs.{needs}
 use Rattle.records.proofs.own_const.Statement.{statement}
 use Rattle.records.proofs.own_const.Tie as tie
-use Rattle.records.proofs.own_const.Reads as reads
-use Rattle.records.proofs.own_const.Lts as lts
-use Rattle.records.proofs.first_at.Reads as first-at-reads
 
 shared-slice-read-d : tie.Need-shared-slice-read-d
 shared-slice-read-d c = search needs

@@ -1,18 +1,13 @@
 -- Row 9, before the change. Assumes nothing.
-use Prim.Native.Nat.{ℕ, _+_, _*_, _-_, _≤_, _<_}
-use mathlib.Core.Path.{_≡_, refl, sym, ap, _∙_}
+use Prim.Native.Nat.{_+_, _-_}
+use mathlib.Core.Path.{refl}
 use native.Mathlib.Omega.{arith}
-use lib.ListN.{getD}
 use borrow.Author.Tests.{lt-ltb, le-ltb}
 use Rattle.definition.specs.Scope.{recordedNodes}
 use Rattle.scopes.specs.State.{stack}
 use borrow.Author.Needs.{needs}
 use Rattle.records.proofs.passes.Statement.{statement}
 use Rattle.records.proofs.passes.Tie as tie
-use Rattle.records.proofs.passes.Reads as reads
-use Rattle.records.proofs.passes.Lts as lts
-use Rattle.records.proofs.live.Reads as live-reads
-use Rattle.records.proofs.recorded_nodes.Reads as recorded-nodes-reads
 
 recorded-nodes-requires : tie.Need-recorded-nodes-requires
 recorded-nodes-requires c κs = search needs

@@ -1,14 +1,10 @@
 -- Two words, and the count. Assumes nothing.
-use Prim.Native.Nat.{ℕ, suc, _+_, _*_, _-_, _≤_, _<_}
-use mathlib.Core.Path.{_≡_, refl, sym, ap, _∙_}
 use native.Mathlib.Omega.{arith}
-use lib.ListN.{getD, length-set}
+use lib.ListN.{length-set}
 use Rattle.records.proofs.ConstWords as words
 use borrow.Author.Needs.{needs}
 use Rattle.records.proofs.push_const.Statement.{statement}
 use Rattle.records.proofs.push_const.Tie as tie
-use Rattle.records.proofs.push_const.Reads as reads
-use Rattle.records.proofs.push_const.Lts as lts
 
 slice-read-c : tie.Need-slice-read-c
 slice-read-c c = search needs

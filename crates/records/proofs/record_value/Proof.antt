@@ -1,8 +1,8 @@
 -- A value recorded, or refused before the words change. Assumes nothing.
-use Prim.Native.Nat.{ℕ, suc, _+_, _*_, _-_, _≤_, _<_}
+use Prim.Native.Nat.{suc, _+_, _-_, _<_}
 use mathlib.Core.Path.{_≡_, refl, sym, ap, _∙_}
 use native.Mathlib.Omega.{arith}
-use lib.ListN.{getD, length-set}
+use lib.ListN.{getD}
 use native.Mathlib.Nat.{pos-of-ne-zero}
 use Rattle.definition.specs.Scope.{change, withValue, recordedNodes, live}
 use Rattle.words.specs.Layout.{run}
@@ -15,11 +15,6 @@ use Rattle.records.proofs.Listed as listed
 use borrow.Author.Needs.{needs}
 use Rattle.records.proofs.record_value.Statement.{statement}
 use Rattle.records.proofs.record_value.Tie as tie
-use Rattle.records.proofs.record_value.Reads as reads
-use Rattle.records.proofs.record_value.Lts as lts
-use Rattle.records.proofs.passes.Reads as passes-reads
-use Rattle.records.proofs.set_run.Reads as set-run-reads
-use Rattle.scopes.proofs.find_binding.Reads as find-binding-reads
 
 find-binding-requires : tie.Need-find-binding-requires
 find-binding-requires c κs = search needs

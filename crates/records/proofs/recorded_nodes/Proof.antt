@@ -1,16 +1,9 @@
 -- The nodes of all values. Assumes nothing.
-use Prim.Native.Nat.{ℕ, _+_, _*_, _-_, _≤_, _<_}
-use mathlib.Core.Path.{_≡_, refl, sym, ap, _∙_}
 use native.Mathlib.Omega.{arith}
-use lib.ListN.{getD}
 use Rattle.records.proofs.Count.{recorded-is}
 use borrow.Author.Needs.{needs}
 use Rattle.records.proofs.recorded_nodes.Statement.{statement}
 use Rattle.records.proofs.recorded_nodes.Tie as tie
-use Rattle.records.proofs.recorded_nodes.Reads as reads
-use Rattle.records.proofs.recorded_nodes.Lts as lts
-use Rattle.records.proofs.const_offset.Reads as const-offset-reads
-use Rattle.scopes.proofs.offset.Reads as offset-reads
 
 shared-slice-read-n : tie.Need-shared-slice-read-n
 shared-slice-read-n c = search needs

@@ -1,6 +1,6 @@
 -- Refused before the words change. Assumes nothing.
-use Prim.Native.Nat.{ℕ, suc, _+_, _*_, _-_, _≤_, _<_}
-use mathlib.Core.Path.{_≡_, refl, sym, ap, _∙_}
+use Prim.Native.Nat.{ℕ, _+_, _*_, _-_}
+use mathlib.Core.Path.{refl, sym, ap, _∙_}
 use native.Mathlib.Omega.{arith}
 use lib.ListN.{getD, set}
 use Rattle.words.specs.Tab as sums
@@ -15,10 +15,6 @@ use Rattle.records.proofs.Count as count
 use borrow.Author.Needs.{needs}
 use Rattle.records.proofs.replace_const.Statement.{statement}
 use Rattle.records.proofs.replace_const.Tie as tie
-use Rattle.records.proofs.replace_const.Reads as reads
-use Rattle.records.proofs.replace_const.Lts as lts
-use Rattle.records.proofs.passes.Reads as passes-reads
-use Rattle.records.proofs.set_const.Reads as set-const-reads
 
 mul-old : tie.Need-mul-old
 mul-old c = search needs

@@ -1,19 +1,12 @@
 -- A value overwritten, the later values shifted. Assumes nothing.
-use Prim.Native.Nat.{ℕ, suc, _+_, _*_, _-_, _≤_, _<_}
-use mathlib.Core.Path.{_≡_, refl, sym, ap, _∙_}
 use native.Mathlib.Omega.{arith}
 use lib.ListN.{getD, length-set}
 use Rattle.words.specs.Tab as sums
-use Rattle.scopes.specs.State.{clenAt, stack, heads, flags, binds, consts, split, valueOf}
-use Rattle.words.specs.Layout.{run}
+use Rattle.scopes.specs.State.{clenAt}
 use Rattle.records.proofs.ConstWords as words
 use borrow.Author.Needs.{needs}
 use Rattle.records.proofs.set_const.Statement.{statement}
 use Rattle.records.proofs.set_const.Tie as tie
-use Rattle.records.proofs.set_const.Reads as reads
-use Rattle.records.proofs.set_const.Lts as lts
-use Rattle.records.proofs.const_offset.Reads as const-offset-reads
-use Rattle.records.proofs.splice.Reads as splice-reads
 
 slice-read-n : tie.Need-slice-read-n
 slice-read-n c = search needs

@@ -1,6 +1,4 @@
 -- A value overwritten, the later values shifted. Assumes nothing.
-use Prim.Native.Nat.{ℕ, suc, _+_, _*_, _-_, _≤_, _<_}
-use mathlib.Core.Path.{_≡_, refl, sym, ap, _∙_}
 use native.Mathlib.Omega.{arith}
 use lib.ListN.{getD, length-set}
 use Rattle.words.specs.Tab as sums
@@ -9,10 +7,6 @@ use Rattle.records.proofs.Listed as listed
 use borrow.Author.Needs.{needs}
 use Rattle.records.proofs.set_run.Statement.{statement}
 use Rattle.records.proofs.set_run.Tie as tie
-use Rattle.records.proofs.set_run.Reads as reads
-use Rattle.records.proofs.set_run.Lts as lts
-use Rattle.records.proofs.splice.Reads as splice-reads
-use Rattle.scopes.proofs.offset.Reads as offset-reads
 
 slice-read-n : tie.Need-slice-read-n
 slice-read-n c = search needs

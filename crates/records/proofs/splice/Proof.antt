@@ -1,15 +1,10 @@
 -- Two shifts. Assumes nothing.
-use Prim.Native.Nat.{ℕ, _+_, _*_, _-_, _≤_, _<_}
-use mathlib.Core.Path.{_≡_, refl, sym, ap, _∙_}
+use mathlib.Core.Path.{_∙_}
 use native.Mathlib.Omega.{arith}
-use lib.ListN.{getD}
 use Rattle.records.proofs.Store.{spliced}
 use borrow.Author.Needs.{needs}
 use Rattle.records.proofs.splice.Statement.{statement}
 use Rattle.records.proofs.splice.Tie as tie
-use Rattle.records.proofs.splice.Reads as reads
-use Rattle.records.proofs.splice.Lts as lts
-use Rattle.words.proofs.shift.Reads as shift-reads
 
 add-shift : tie.Need-add-shift
 add-shift c = search needs
