@@ -24,6 +24,23 @@ fn byte(s: &[u8], i: usize) -> u8
     0
 }
 
+// The call at a place, unless one was refused before; the number of the refusal.
+fn next(w: &mut [u32], s: &[u8], i: usize, no: u32) -> u32
+    requires { ⌜ (Ready (now w)) × (i < 65536) ⌝ }
+    ensures { λ _. ⌜ Ready (now (w .exit)) ⌝ }
+{
+    if no != 0 {
+        return no;
+    }
+    call(
+        w,
+        byte(s, i),
+        byte(s, i + 1),
+        byte(s, i + 2),
+        byte(s, i + 3),
+    )
+}
+
 // Plays the sequence that begins at a place, up to its end or to a call that is refused; where the next one begins.
 fn play(w: &mut [u32], s: &[u8], from: usize) -> usize
     requires { ⌜ (16384 ≤ length (now w)) × (from < length (now s)) × (length (now s) ≤ 65536) ⌝ }
@@ -33,15 +50,7 @@ fn play(w: &mut [u32], s: &[u8], from: usize) -> usize
     let mut no: u32 = 0;
     let mut i = from;
     while byte(s, i) != 0 {
-        if no == 0 {
-            no = call(
-                w,
-                byte(s, i),
-                byte(s, i + 1),
-                byte(s, i + 2),
-                byte(s, i + 3),
-            );
-        }
+        no = next(w, s, i, no);
         i += 4;
     }
     show(w, no);

@@ -89,15 +89,14 @@ fn show_value(w: &[u32], base: u32, at: u32, n: u32) {
 // Binding k, whose value begins at node `at`; where the next one's begins.
 fn show_binding(w: &[u32], k: u32, at: u32) -> u32 {
     letter(b'b');
-    let mut f: u32 = 0;
-    while f < 4 {
-        put_word(of_binding(w, k, f));
-        f += 1;
-    }
-    while f < 8 {
-        put_bool(of_binding(w, k, f) != 0);
-        f += 1;
-    }
+    put_word(of_binding(w, k, 0));
+    put_word(of_binding(w, k, 1));
+    put_word(of_binding(w, k, 2));
+    put_word(of_binding(w, k, 3));
+    put_bool(of_binding(w, k, 4) != 0);
+    put_bool(of_binding(w, k, 5) != 0);
+    put_bool(of_binding(w, k, 6) != 0);
+    put_bool(of_binding(w, k, 7) != 0);
     put_bool(of_binding(w, k, 9) != 0);
     let n = of_binding(w, k, 8);
     show_value(w, 2064, at, n);
