@@ -3,7 +3,7 @@ use mathlib.Core.Path.{_≡_, refl, sym, ap, _∙_}
 use mathlib.Core.List.{List, [], _∷_, _++_}
 use mathlib.Core.Bool.{Bool}
 use mathlib.Core.Logic.{⊎-elim}
-use Prim.Native.Nat.{ℕ, zero, suc, _+_, _-_, _*_, _≤_, _<_}
+use Prim.Native.Nat.{ℕ, zero, suc, _+_, _-_, _≤_, _<_}
 use native.Mathlib.Omega.{arith}
 use lib.ListN.{length, getD}
 use Rattle.tree.specs.Tree.{Core, core, noCore, count}
@@ -13,7 +13,7 @@ use Rattle.words.specs.Layout.{run, tree}
 use Rattle.words.specs.Moved.{Cleared}
 use Rattle.words.proofs.Nodes.{tree-length}
 use Rattle.scopes.specs.State.{Good, Becomes, Names, heads, headsAt}
-use Rattle.nodes.specs.Nodes.{One, Planted, treeFrom, Apart}
+use Rattle.nodes.specs.Nodes.{treeFrom, Apart}
 use Rattle.nodes.proofs.Splice.{subtree-one}
 use Rattle.records.specs.Steps as records
 use Rattle.records.specs.declared.Step as rstep

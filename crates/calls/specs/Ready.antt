@@ -2,11 +2,11 @@
 -- Assumes nothing: these are definitions.
 use mathlib.Core.Path.{_≡_}
 use mathlib.Core.List.{List}
-use Prim.Native.Nat.{ℕ, _+_, _≤_, _<_}
+use Prim.Native.Nat.{ℕ, _+_, _≤_}
 use lib.ListN.{length, getD}
 use Rattle.tree.specs.Tree.{Core}
 use Rattle.words.specs.Layout.{run, tree}
-use Rattle.scopes.specs.State.{Good, valueOf, runOf}
+use Rattle.scopes.specs.State.{valueOf, runOf}
 use Rattle.nodes.specs.Nodes.{Planted}
 use Rattle.bindings.specs.declared.Init.{Init}
 use Rattle.bindings.specs.declared.Init.the-variants.{NoInit, Recorded, Seen}

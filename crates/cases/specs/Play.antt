@@ -26,37 +26,36 @@ abbrev pub p : ℕ → List ℕ → ℕ → List ℕ → Played
 p n c m a = record { size = n; calls = c; answerSize = m; answer = a }
 
 -- values, by number: identifiers 0 and 1, a literal, a member of 0, an array, a call of 2, and an array of all
-abbrev ident : ℕ → Tree
+abbrev pub ident : ℕ → Tree
 ident i = node 21 0 i nil
 
-abbrev member : Tree
+abbrev pub member : Tree
 member = node 37 0 4 (cons (ident 0) nil)
 
-abbrev array : Tree
+abbrev pub array : Tree
 array = node 27 0 0 (cons (node 22 0 7 nil) (cons (ident 1) nil))
 
-abbrev called : Tree
+abbrev pub called : Tree
 called = node 35 0 0 (cons (ident 2) nil)
 
-abbrev whole : Tree
+abbrev pub whole : Tree
 whole = node 27 0 0 (cons (ident 0) (cons (ident 1) (cons (node 22 0 3 nil) (cons member (cons array (cons called nil))))))
 
-abbrev value : ℕ → Tree
+abbrev pub value : ℕ → Tree
 value v = getD (whole ∷ ident 0 ∷ ident 1 ∷ node 22 0 3 nil ∷ member ∷ array ∷ called ∷ []) v whole
 
-abbrev valueO : ℕ → Option Tree
+abbrev pub valueO : ℕ → Option Tree
 valueO v = pick (eqb v 0) none (some (value v))
 
 -- bit k of a mark that was divided by 2 ^ k
-abbrev odd : ℕ → Bool
+abbrev pub odd : ℕ → Bool
 odd m = eqb (m % 2) 1
 
-abbrev initOf : ℕ → ℕ → Init
+abbrev pub initOf : ℕ → ℕ → Init
 initOf v m = pick (eqb v 0) noInit (pick (odd (m / 8)) (seen (value v)) (recorded (value v)))
 
 -- the calls by their numbers: an identifier, a value, a mark
-abbrev steps : List (ℕ → ℕ → ℕ → M Nothing)
-unfolding opening declare addWrite addRead close
+abbrev pub steps : List (ℕ → ℕ → ℕ → M Nothing)
 steps =
     (λ x v m. ret tt)
     ∷ (λ x v m. opening (getD (cond ∷ loop ∷ block ∷ fn false ∷ []) m (fn true)))
@@ -74,75 +73,75 @@ steps =
     ∷ (λ x v m. mark (change x defined))
     ∷ []
 
-abbrev play : List ℕ → M Nothing
+abbrev pub play : List ℕ → M Nothing
 play [] = ret tt
 play (c ∷ []) = ret tt
 play (c ∷ x ∷ []) = ret tt
 play (c ∷ x ∷ v ∷ []) = ret tt
 play (c ∷ x ∷ v ∷ m ∷ cs) = getD steps c (λ x v m. ret tt) x v m >> play cs
 
-abbrev start : St
+abbrev pub start : St
 start = record { stack = newScope (fn false) ∷ []; changed = false; inlining = false; isFirstRun = true; varDeclKind = vVar; patMode = declaring; inTest = false; conds = 0; nodes = 11 }
 
 -- what the program prints: cases by their numbers
-abbrev typeNo : VarType → ℕ
+abbrev pub typeNo : VarType → ℕ
 typeNo param = 0
 typeNo vVar = 1
 typeNo vLet = 2
 typeNo vConst = 3
 
-abbrev aliasNo : Option VarType → ℕ
+abbrev pub aliasNo : Option VarType → ℕ
 aliasNo none = 0
 aliasNo (some k) = suc (typeNo k)
 
-abbrev kindNo : ScopeKind → ℕ
+abbrev pub kindNo : ScopeKind → ℕ
 kindNo cond = 0
 kindNo loop = 1
 kindNo block = 2
 kindNo (fn b) = 3 + toNat b
 
 -- a value: how many nodes, then the kind and the number of each
-abbrev nodeNos : List Core → List ℕ
+abbrev pub nodeNos : List Core → List ℕ
 nodeNos [] = []
 nodeNos (c ∷ cs) = c .kind ∷ c .num ∷ nodeNos cs
 
-abbrev valueNos : Option Tree → List ℕ
+abbrev pub valueNos : Option Tree → List ℕ
 valueNos none = 0 ∷ []
 valueNos (some t) = count t ∷ nodeNos (flat t [])
 
 -- bindings, from the one at place j on, each with the barrier behind it
-abbrev bindingNos : (ℕ → Bool) → ℕ → List VarInfo → List ℕ
+abbrev pub bindingNos : (ℕ → Bool) → ℕ → List VarInfo → List ℕ
 bindingNos bars j [] = []
 bindingNos bars j (b ∷ bs) =
     b .id ∷ typeNo (b .kind) ∷ aliasNo (b .aliasOf) ∷ b .readCnt ∷ toNat (b .inlinePrevented) ∷ toNat (b .isUndefined) ∷ toNat (b .thisSensitive) ∷ toNat (b .hoisted)
     ∷ toNat (bars (suc j)) ∷ valueNos (b .value) ++ bindingNos bars (suc j) bs
 
-abbrev constNos : List (ℕ × Option Tree) → List ℕ
+abbrev pub constNos : List (ℕ × Option Tree) → List ℕ
 constNos [] = []
 constNos (c ∷ cs) = c .0 ∷ valueNos (c .1) ++ constNos cs
 
-abbrev flags : (ℕ → Bool) → List ℕ
+abbrev pub flags : (ℕ → Bool) → List ℕ
 flags t = toNat (t 0) ∷ toNat (t 1) ∷ toNat (t 2) ∷ toNat (t 3) ∷ []
 
 -- the scopes, root first
-abbrev scopeNos : Stack → List ℕ
+abbrev pub scopeNos : Stack → List ℕ
 scopeNos [] = []
 scopeNos (s ∷ st) = scopeNos st ++ kindNo (s .kind) ∷ toNat (s .inlineBarriers 0) ∷ bindingNos (s .inlineBarriers) 0 (s .bindings) ++ constNos (s .constants) ++ flags (s .unresolvedUsages)
 
 -- look-ups
-abbrev here : Stack → List VarInfo
+abbrev pub here : Stack → List VarInfo
 here [] = []
 here (s ∷ st) = s .bindings
 
-abbrev placeNo : Option (ℕ × VarInfo) → ℕ
+abbrev pub placeNo : Option (ℕ × VarInfo) → ℕ
 placeNo none = 0
 placeNo (some b) = suc (b .0)
 
-abbrev foundNos : Option VarInfo → List ℕ
+abbrev pub foundNos : Option VarInfo → List ℕ
 foundNos none = 0 ∷ []
 foundNos (some b) = 1 ∷ b .readCnt ∷ toNat (varInlinePrevented b) ∷ []
 
-abbrev lookNos : ℕ → Stack → List ℕ
+abbrev pub lookNos : ℕ → Stack → List ℕ
 lookNos x st =
     let b = findBinding x st in
     let s = scopeFor true x st in
@@ -152,23 +151,24 @@ lookNos x st =
     ∷ toNat (writePreventsInline x st) ∷ toNat (readPreventsInlining x st) ∷ toNat (shouldPreventInlineBecauseOfScope x st)
     ∷ toNat (hasSameThis b (some (ident 0))) ∷ toNat (hasSameThis b (some member)) ∷ []
 
-abbrev countNos : Stack → List ℕ
+abbrev pub countNos : Stack → List ℕ
 countNos st =
     toNat (inLoop st) ∷ length (here st) ∷ recordedNodes st ∷ live st ∷ toNat (isInlinePrevented (ident 0) st) ∷ toNat (isInlinePrevented (node 22 0 3 nil) st)
     ∷ toNat (isInlinePrevented member st) ∷ toNat (isInlinePrevented array st) ∷ toNat (isInlinePrevented called st) ∷ []
 
 -- a refusal's number; or 0 and the rest
-abbrev answerNos : Res St Nothing → List ℕ
+abbrev pub answerNos : Res St Nothing → List ℕ
 answerNos (stop n) = n ∷ []
 answerNos (done s t) = 0 ∷ scopeNos (s .stack) ++ lookNos 0 (s .stack) ++ lookNos 1 (s .stack) ++ lookNos 2 (s .stack) ++ lookNos 3 (s .stack) ++ countNos (s .stack)
 
 -- bytes two by two
-abbrev pairs : List ℕ → List ℕ
+abbrev pub pairs : List ℕ → List ℕ
 pairs [] = []
 pairs (a ∷ []) = a ∷ []
-pairs (a ∷ b ∷ bs) = a + 256 * b ∷ pairs bs
+pairs (a ∷ b ∷ bs) = (a + 256 * b) ∷ pairs bs
 
 unfoldable pub rightPlayed : Played → Bool
+unfolding opening declare addWrite addRead close
 rightPlayed x = sameText (answerNos (play (chunks (x .size) (x .calls)) start)) (pairs (chunks (x .answerSize) (x .answer)))
 
 -- the numbers of the sequences that end otherwise, from n on

@@ -1,7 +1,6 @@
 -- Within the slice, or not. Assumes nothing.
 use mathlib.Core.Path.{refl}
 use native.Mathlib.Omega.{arith}
-use borrow.Author.Needs.{needs}
 use Rattle.calls.proofs.byte.Statement.{statement}
 use Rattle.calls.proofs.byte.Tie as tie
 
