@@ -11,12 +11,15 @@ import os
 import random
 import sys
 
+sys.dont_write_bytecode = True
 from vectors import index, numbers
 
 OPEN, DECLARE, WRITE, RECORD, FIRST, CONST, CLOSE, READ, PREVENT, SENSITIVE, BARRIER, PARAMS, DEFINE = range(1, 14)
 WEIGHTS = {OPEN: 16, DECLARE: 26, WRITE: 9, RECORD: 7, FIRST: 4, CONST: 7, CLOSE: 12, READ: 12, PREVENT: 3, SENSITIVE: 4, BARRIER: 6, PARAMS: 2, DEFINE: 2}
 # values 1 to 7, none is 0: two identifiers, a literal, a member, an array, a call, a tree of 11 nodes
 WHOLE, ARRAY, LITERAL = 7, 5, 3
+# how often each is taken: identifiers make aliases
+VALUES = [3, 5, 5, 1, 2, 1, 1, 1]
 SEQUENCES = 400
 # calls in a table, tables in a file
 TABLE, PART = 700, 4
@@ -46,7 +49,7 @@ def sequence(rng):
         if call == CLOSE and depth == 1 and rng.random() < 0.97:
             call = OPEN
         depth += (call == OPEN) - (call == CLOSE)
-        out.append((call, rng.randrange(4), rng.randrange(8), mark(rng, call)))
+        out.append((call, rng.randrange(4), rng.choices(range(8), VALUES)[0], mark(rng, call)))
     return out
 
 
