@@ -4,7 +4,7 @@ set -u
 cd "$(dirname "$0")/.." || exit 1
 out=$(mktemp -d)
 trap 'rm -rf "$out"' EXIT
-cp crates/cases/specs/Vector.antt "$out"
+cp crates/cases/specs/{Vector,Play}.antt crates/cases/specs/Calls*.antt "$out"
 if python3 tools/vectors.py tests/vectors/small.txt "$out" && diff -r "$out" crates/cases/specs; then
     echo "1 passed, 0 failed"
 else

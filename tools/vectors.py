@@ -84,6 +84,14 @@ def tables(vectors):
         yield group
 
 
+def index(folder):
+    """Lib.antt of a folder: its other files, those of one name by their numbers."""
+    names = [n[:-5] for n in os.listdir(folder) if n.endswith(".antt") and n != "Lib.antt"]
+    names.sort(key=lambda n: (n.rstrip("0123456789"), len(n), n))
+    with open(os.path.join(folder, "Lib.antt"), "w", encoding="utf-8") as f:
+        f.write("".join("pub mod %s\n" % n for n in names))
+
+
 def main(text, folder):
     vectors = [vector(b) for b in blocks(text)]
     groups = list(tables(vectors))
@@ -103,8 +111,7 @@ def main(text, folder):
                 f.write("\n    ∷ ".join(group + ["[]"]) + "\n")
                 f.write("\npub right%d : wrong %d table%d ≡ []\nunfolding wrong\nright%d = refl\n" % (i + j, first, i + j, i + j))
                 first += len(group)
-    with open(os.path.join(folder, "Lib.antt"), "w", encoding="utf-8") as f:
-        f.write("".join("pub mod %s\n" % n for n in ["Vector"] + names))
+    index(folder)
     print("%d vectors in %d tables in %d files" % (len(vectors), len(groups), len(names)))
 
 

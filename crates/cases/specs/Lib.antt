@@ -1,5 +1,11 @@
-pub mod Vector
+pub mod Calls0
+pub mod Calls1
+pub mod Calls2
+pub mod Calls3
+pub mod Calls4
 pub mod Part0
 pub mod Part1
 pub mod Part2
 pub mod Part3
+pub mod Play
+pub mod Vector
