@@ -21,10 +21,10 @@ use Rattle.records.specs.declared.Step.the-variants as rcase
 use Rattle.look.specs.Answers as answers
 use Rattle.look.specs.declared.Step as lstep
 use Rattle.look.specs.declared.Step.the-variants as lcase
-use Rattle.bindings.specs.Kinds.{Sized}
 use Rattle.bindings.specs.declared.Init.{Init}
 use Rattle.bindings.specs.declared.Init.the-variants.{NoInit, Recorded, Seen}
-use Rattle.calls.specs.Ready.{Ready, ValueAt, Begun, Valued}
+use Rattle.declare_steps.specs.Steps.{Sited}
+use Rattle.calls.specs.Ready.{Ready, ValueAt, Begun}
 
 pub keep : {w u : List ℕ} → Ready w → Good u → tree u ≡ tree w → Ready u
 keep {w} {u} r g e =
@@ -124,11 +124,11 @@ begun-ready {w} b = record {
   nodes = rw (size b) (omega arith);
 }
 
--- an init that has a value has nodes
-pub sized : (v : Init) {m : ℕ} → Valued v → 0 < m → Sized v m
-sized NoInit h z = absurd h
-sized Recorded h z = z
-sized Seen h z = z
+-- an init with a node of the tree stands there
+pub sited : (v : Init) (i n : ℕ) → i < n → Sited v i n
+sited NoInit i n h = tt
+sited Recorded i n h = h
+sited Seen i n h = h
 
 -- a byte that is not 0 stands within the slice
 pub inside : {n i r : ℕ} → (n ≤ i → r ≡ 0) → (r ≡ 0 → ⊥) → i < n

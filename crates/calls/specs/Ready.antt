@@ -8,8 +8,6 @@ use Rattle.tree.specs.Tree.{Core}
 use Rattle.words.specs.Layout.{run, tree}
 use Rattle.scopes.specs.State.{valueOf, runOf}
 use Rattle.nodes.specs.Nodes.{Planted}
-use Rattle.bindings.specs.declared.Init.{Init}
-use Rattle.bindings.specs.declared.Init.the-variants.{NoInit, Recorded, Seen}
 
 pub record Ready (w : List ℕ) : Type 0 where
   pub planted : Planted w
@@ -27,9 +25,3 @@ pub record Begun (w : List ℕ) (xs : List Core) : Type 0 where
   pub scopes : getD w 2 0 ≡ 0
   pub constants : getD w 3 0 ≡ 0
   pub is : tree w ≡ xs
-
--- an init that has a value
-abbrev pub Valued : Init → Type 0
-Valued NoInit = ⊥
-Valued Recorded = Unit {0}
-Valued Seen = Unit {0}
