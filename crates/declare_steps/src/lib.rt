@@ -55,7 +55,7 @@ pub enum After {
 }
 
 // The type that a word stands for.
-fn type_of(code: u32) -> VarType
+pub fn type_of(code: u32) -> VarType
     ensures { λ r. ⌜ typeOf r ≡ varTypeOf code ⌝ }
 {
     if code == 0 {

@@ -70,136 +70,136 @@ unfolding Walk.identAnalysis WalkF.identAnalysisF WalkF.testRead
 sim-identAnalysis = sim-act WalkF.testRead (λ a. sim-act (λ t. mark (addRead (num t) (eqb (form t) 1))) (λ a. sim-skip))
 
 module _ {w : Walks} {v : WalkF.WalksF} (h : Sims w v) where
-  sim-stmts : (p : ℕ) → SimF (Walk.visitMutStmts w p) (WalkF.visitMutStmtsF v p)
+  pub sim-stmts : (p : ℕ) → SimF (Walk.visitMutStmts w p) (WalkF.visitMutStmtsF v p)
   unfolding Walk.visitMutStmts WalkF.visitMutStmtsF
   sim-stmts p =
       simF-ask (λ s. s .inlining) (λ b. simF-if b
       (simF-act (λ ts. modify (setInlining false)) (λ a. simF-then (sim-each (h .full p)) (simF-act (λ ts. modify (setInlining true)) (λ a. sim-each (h .full p)))))
       (sim-each (h .full p)))
 
-  sim-plain : (p : ℕ) → Sim (Walk.plain w p) (WalkF.plainF v p)
+  pub sim-plain : (p : ℕ) → Sim (Walk.plain w p) (WalkF.plainF v p)
   unfolding WalkF.plainF
   sim-plain p = sim-onKids (sim-each (h .full (suc p)))
 
-  sim-block : (p : ℕ) → Sim (Walk.visitMutBlockStmt w p) (WalkF.visitMutBlockStmtF v p)
+  pub sim-block : (p : ℕ) → Sim (Walk.visitMutBlockStmt w p) (WalkF.visitMutBlockStmtF v p)
   unfolding Walk.visitMutBlockStmt WalkF.visitMutBlockStmtF
   sim-block p = sim-within (opening block) restore (sim-onKids (sim-stmts (suc p)))
 
-  sim-script : (p : ℕ) → Sim (Walk.scriptWalk w p) (WalkF.scriptF v p)
+  pub sim-script : (p : ℕ) → Sim (Walk.scriptWalk w p) (WalkF.scriptF v p)
   unfolding Walk.scriptWalk WalkF.scriptF
   sim-script p = sim-onKids (sim-stmts (suc p))
 
-  sim-branch : (p : ℕ) (k : ScopeKind) → Sim (Walk.visitWithChild w p k) (WalkF.visitWithChildF v p k)
+  pub sim-branch : (p : ℕ) (k : ScopeKind) → Sim (Walk.visitWithChild w p k) (WalkF.visitWithChildF v p k)
   unfolding Walk.visitWithChild WalkF.visitWithChildF
   sim-branch p k = sim-within (opening k) restore (h .bare p)
 
-  sim-decl : (p : ℕ) → Sim (Walk.visitMutVarDecl w p) (WalkF.visitMutVarDeclF v p)
+  pub sim-decl : (p : ℕ) → Sim (Walk.visitMutVarDecl w p) (WalkF.visitMutVarDeclF v p)
   unfolding Walk.visitMutVarDecl WalkF.visitMutVarDeclF
   sim-decl p = sim-actN (λ c. modify (setVarDeclKind (declKindOf (c .form)))) (λ a. sim-plain p)
 
-  sim-name : (p : ℕ) → SimF (Walk.nameLast w p) (WalkF.nameLastF v p)
+  pub sim-name : (p : ℕ) → SimF (Walk.nameLast w p) (WalkF.nameLastF v p)
   sim-name p = sim-split (h .full (suc p)) sim-skips
 
-  sim-inlining : (p : ℕ) (k : VarType) (name : Tree) → SimR (Walk.declrInlining w p k name) (WalkF.declrInliningF v p k name)
+  pub sim-inlining : (p : ℕ) (k : VarType) (name : Tree) → SimR (Walk.declrInlining w p k name) (WalkF.declrInliningF v p k name)
   unfolding Walk.declrInlining WalkF.declrInliningF
   sim-inlining p k name = simR-ask (λ s ts. stays name ts (s .stack)) (λ b. simR-if b (simR-same sim-skips) (simR-cutFirst (takes k name) (sim-split (h .full (suc p)) sim-skips)))
 
-  sim-declrTo : (p : ℕ) (o : Option Tree) (b : Bool) (k : VarType) → SimR (Walk.declrTo w p o b k) (WalkF.declrToF v p o b k)
+  pub sim-declrTo : (p : ℕ) (o : Option Tree) (b : Bool) (k : VarType) → SimR (Walk.declrTo w p o b k) (WalkF.declrToF v p o b k)
   unfolding Walk.declrTo WalkF.declrToF
   sim-declrTo p none b k = simR-same (sim-name p)
   sim-declrTo p (some name) b k =
       simR-if b (simR-if (isConst k) (simR-same (sim-name p)) (simR-split sim-skip (sim-inlining p k name)))
       (simR-act (overM name) (λ over. simR-if over (simR-same sim-skips) (simR-same (sim-name p))))
 
-  sim-declr : (p : ℕ) → Sim (Walk.visitMutVarDeclarator w p) (WalkF.visitMutVarDeclaratorF v p)
+  pub sim-declr : (p : ℕ) → Sim (Walk.visitMutVarDeclarator w p) (WalkF.visitMutVarDeclaratorF v p)
   unfolding Walk.visitMutVarDeclarator WalkF.visitMutVarDeclaratorF
   sim-declr p =
       sim-reKids (simR-then (sim-split sim-skip (sim-each (h .full (suc p)))) (simR-act (λ ts. modify (setPatMode declaring)) (λ a.
       simR-ask (λ s ts. headBind ts) (λ o. simR-ask (λ s ts. s .inlining) (λ b. simR-ask (λ s ts. s .varDeclKind) (λ k. sim-declrTo p o b k))))))
 
-  sim-function : (p : ℕ) (b : Bool) → SimF (Walk.visitMutFunction w p b) (WalkF.visitMutFunctionF v p b)
+  pub sim-function : (p : ℕ) (b : Bool) → SimF (Walk.visitMutFunction w p b) (WalkF.visitMutFunctionF v p b)
   unfolding Walk.visitMutFunction WalkF.visitMutFunctionF
   sim-function p b = simF-within (opening (fn b)) restore (simF-act (λ ts. modify (setPatMode asParam)) (λ a. sim-eachBut (h .full (suc p)) (h .inner (suc p))))
 
-  sim-fun : (p : ℕ) → Sim (Walk.visitMutFnDecl w p) (WalkF.visitMutFnDeclF v p)
+  pub sim-fun : (p : ℕ) → Sim (Walk.visitMutFnDecl w p) (WalkF.visitMutFnDeclF v p)
   unfolding Walk.visitMutFnDecl WalkF.visitMutFnDeclF
   sim-fun p = sim-act (λ t. declareName (headT (kids t))) (λ a. sim-onKids (sim-split sim-skip (sim-function p true)))
 
-  sim-funExpr : (p : ℕ) → Sim (Walk.visitMutFnExpr w p) (WalkF.visitMutFnExprF v p)
+  pub sim-funExpr : (p : ℕ) → Sim (Walk.visitMutFnExpr w p) (WalkF.visitMutFnExprF v p)
   unfolding Walk.visitMutFnExpr WalkF.visitMutFnExprF
   sim-funExpr p = sim-node (λ s c. eqb (c .form) 1) (λ b. sim-if b (sim-act (λ t. writeName (headT (kids t))) (λ a. sim-onKids (sim-split sim-skip (sim-function p false)))) (sim-onKids (sim-function p false)))
 
-  sim-arrow : (p : ℕ) → Sim (Walk.visitMutArrowExpr w p) (WalkF.visitMutArrowExprF v p)
+  pub sim-arrow : (p : ℕ) → Sim (Walk.visitMutArrowExpr w p) (WalkF.visitMutArrowExprF v p)
   unfolding Walk.visitMutArrowExpr WalkF.visitMutArrowExprF
   sim-arrow p = sim-within (opening (fn false)) restore (sim-plain p)
 
-  sim-tested : (p : ℕ) → Sim (Walk.tested w p) (WalkF.testedF v p)
+  pub sim-tested : (p : ℕ) → Sim (Walk.tested w p) (WalkF.testedF v p)
   unfolding Walk.tested WalkF.testedF
   sim-tested p = sim-within (modify (setInTest true)) (λ old s. setInTest (old .inTest) s) (h .full p)
 
-  sim-ifs : (p : ℕ) → Sim (Walk.visitMutIfStmt w p) (WalkF.visitMutIfStmtF v p)
+  pub sim-ifs : (p : ℕ) → Sim (Walk.visitMutIfStmt w p) (WalkF.visitMutIfStmtF v p)
   unfolding Walk.visitMutIfStmt WalkF.visitMutIfStmtF
   sim-ifs p = sim-onKids (sim-split (sim-tested (suc p)) (sim-each (sim-branch (suc p) cond)))
 
-  sim-while : (p : ℕ) → Sim (Walk.visitMutWhileStmt w p) (WalkF.visitMutWhileStmtF v p)
+  pub sim-while : (p : ℕ) → Sim (Walk.visitMutWhileStmt w p) (WalkF.visitMutWhileStmtF v p)
   unfolding Walk.visitMutWhileStmt WalkF.visitMutWhileStmtF
   sim-while p = sim-act (λ t. writeForest true (butLast (kids t))) (λ a. sim-onKids (sim-eachBut (h .full (suc p)) (sim-branch (suc p) loop)))
 
-  sim-for : (p : ℕ) → Sim (Walk.visitMutForStmt w p) (WalkF.visitMutForStmtF v p)
+  pub sim-for : (p : ℕ) → Sim (Walk.visitMutForStmt w p) (WalkF.visitMutForStmtF v p)
   unfolding Walk.visitMutForStmt WalkF.visitMutForStmtF
   sim-for p =
       sim-act (λ t. writeForest true (butLast (kids t))) (λ a. sim-node (λ s c. eqb (c .form) 0) (λ b.
       sim-tap (λ u. when b storeInlineBarrierM) (sim-onKids (sim-eachBut (h .full (suc p)) (sim-branch (suc p) loop)))))
 
-  sim-forIn : (p : ℕ) → Sim (Walk.visitMutForInStmt w p) (WalkF.visitMutForInStmtF v p)
+  pub sim-forIn : (p : ℕ) → Sim (Walk.visitMutForInStmt w p) (WalkF.visitMutForInStmtF v p)
   unfolding Walk.visitMutForInStmt WalkF.visitMutForInStmtF
   sim-forIn p =
       sim-act (λ t. modify (setPatMode asParam)) (λ a. sim-onKids (sim-split (sim-tap (writeTree true) (h .full (suc p)))
       (simF-act (λ ts. writeForest true (butLast ts)) (λ a. sim-eachBut (h .full (suc p)) (sim-branch (suc p) loop)))))
 
-  sim-try : (p : ℕ) → Sim (Walk.visitMutTryStmt w p) (WalkF.visitMutTryStmtF v p)
+  pub sim-try : (p : ℕ) → Sim (Walk.visitMutTryStmt w p) (WalkF.visitMutTryStmtF v p)
   unfolding Walk.visitMutTryStmt WalkF.visitMutTryStmtF
   sim-try p = sim-onKids (sim-split (sim-act (writeTree true) (λ a. sim-skip)) (sim-each (sim-node (λ s c. eqb (c .kind) 17) (λ b. sim-if b (h .full (suc p)) sim-skip))))
 
-  sim-catchParam : (p : ℕ) → Sim (Walk.catchParam w p) (WalkF.catchParamF v p)
+  pub sim-catchParam : (p : ℕ) → Sim (Walk.catchParam w p) (WalkF.catchParamF v p)
   unfolding Walk.catchParam WalkF.catchParamF
   sim-catchParam p = sim-node (λ s c. c) (λ x. sim-tap (λ u s. when (eqb (x .kind) 20 && not (s .inlining)) (mark (preventInline (x .num))) s) (h .full p))
 
-  sim-catch : (p : ℕ) → Sim (Walk.visitMutCatchClause w p) (WalkF.visitMutCatchClauseF v p)
+  pub sim-catch : (p : ℕ) → Sim (Walk.visitMutCatchClause w p) (WalkF.visitMutCatchClauseF v p)
   unfolding Walk.visitMutCatchClause WalkF.visitMutCatchClauseF
   sim-catch p = sim-within (opening block) restore (sim-act (λ t. modify (setPatMode asCatch)) (λ a. sim-onKids (sim-eachBut (sim-catchParam (suc p)) (h .full (suc p)))))
 
-  sim-case : (p : ℕ) → Sim (Walk.visitMutSwitchCase w p) (WalkF.visitMutSwitchCaseF v p)
+  pub sim-case : (p : ℕ) → Sim (Walk.visitMutSwitchCase w p) (WalkF.visitMutSwitchCaseF v p)
   unfolding Walk.visitMutSwitchCase WalkF.visitMutSwitchCaseF
   sim-case p = sim-within (opening block) restore (sim-node (λ s c. eqb (c .form) 1) (λ b. sim-if b (sim-onKids (sim-split (h .full (suc p)) (sim-stmts (suc p)))) (sim-onKids (sim-stmts (suc p)))))
 
-  sim-pat : (p : ℕ) → Sim (Walk.visitMutPat w p) (WalkF.visitMutPatF v p)
+  pub sim-pat : (p : ℕ) → Sim (Walk.visitMutPat w p) (WalkF.visitMutPatF v p)
   unfolding Walk.visitMutPat WalkF.visitMutPatF
   sim-pat p = sim-act (λ t s. when (isBind t) (patBy (s .patMode) t) s) (λ a. sim-skip)
 
-  sim-unary : (p : ℕ) → Sim (Walk.visitMutUnaryExpr w p) (WalkF.visitMutUnaryExprF v p)
+  pub sim-unary : (p : ℕ) → Sim (Walk.visitMutUnaryExpr w p) (WalkF.visitMutUnaryExprF v p)
   unfolding Walk.visitMutUnaryExpr WalkF.visitMutUnaryExprF
   sim-unary p = sim-node (λ s c. eqb (c .form) 6) (λ b. sim-if b (sim-act (λ t. writeForest true (kids t)) (λ a. sim-skip)) (sim-plain p))
 
-  sim-update : (p : ℕ) → Sim (Walk.visitMutUpdateExpr w p) (WalkF.visitMutUpdateExprF v p)
+  pub sim-update : (p : ℕ) → Sim (Walk.visitMutUpdateExpr w p) (WalkF.visitMutUpdateExprF v p)
   unfolding Walk.visitMutUpdateExpr WalkF.visitMutUpdateExprF
   sim-update p = sim-act (λ t. writeForest true (kids t)) (λ a. sim-skip)
 
-  sim-call : (b : Bool) (p : ℕ) → Sim (Walk.visitMutCallExpr b w p) (WalkF.visitMutCallExprF b v p)
+  pub sim-call : (b : Bool) (p : ℕ) → Sim (Walk.visitMutCallExpr b w p) (WalkF.visitMutCallExprF b v p)
   unfolding Walk.visitMutCallExpr WalkF.visitMutCallExprF
   sim-call b p =
       sim-tap (λ u. storeInlineBarrierM) (sim-onKids (sim-split (sim-tap (λ c s. when (not (s .inlining)) (mark (markThisSensitive (identOf (some c)))) s) (h .full (suc p)))
       (simF-act (λ ts. when b (writeForest false ts)) (λ a. sim-each (h .full (suc p))))))
 
-  sim-assignKids : (p f : ℕ) → SimF (Walk.assignKids w p f) (WalkF.assignKidsF v p f)
+  pub sim-assignKids : (p f : ℕ) → SimF (Walk.assignKids w p f) (WalkF.assignKidsF v p f)
   unfolding Walk.assignKids WalkF.assignKidsF
   sim-assignKids p f = simF-act (assignFirst f) (λ a. simF-tap assignLast (sim-split sim-skip (sim-each (h .full (suc p)))))
 
-  sim-assign : (p : ℕ) → Sim (Walk.visitMutAssignExpr w p) (WalkF.visitMutAssignExprF v p)
+  pub sim-assign : (p : ℕ) → Sim (Walk.visitMutAssignExpr w p) (WalkF.visitMutAssignExprF v p)
   unfolding Walk.visitMutAssignExpr WalkF.visitMutAssignExprF
   sim-assign p = sim-act (λ t. modify (setPatMode assigning)) (λ a. sim-node (λ s c. c .form) (λ f. sim-onKids (sim-assignKids p f)))
 
-  sim-handle : (k : Handler) (p : ℕ) → Sim (Walk.handle k w p) (WalkF.handleF k v p)
+  pub sim-handle : (k : Handler) (p : ℕ) → Sim (Walk.handle k w p) (WalkF.handleF k v p)
   unfolding Walk.handle WalkF.handleF
   sim-handle hPlain p = sim-plain p
   sim-handle hScript p = sim-script p
@@ -223,53 +223,53 @@ module _ {w : Walks} {v : WalkF.WalksF} (h : Sims w v) where
   sim-handle hFunExpr p = sim-funExpr p
   sim-handle hArrow p = sim-arrow p
 
-  sim-own : (p : ℕ) → Sim (Walk.own w p) (WalkF.ownF v p)
+  pub sim-own : (p : ℕ) → Sim (Walk.own w p) (WalkF.ownF v p)
   unfolding Walk.own WalkF.ownF
   sim-own p = sim-node (λ s c. getD handlers (c .kind) hPlain) (λ k. sim-handle k p)
 
   -- the steps after a node's own handler
 
-  sim-logical : (p : ℕ) → Sim (Walk.logical w p) (WalkF.logicalF v p)
+  pub sim-logical : (p : ℕ) → Sim (Walk.logical w p) (WalkF.logicalF v p)
   unfolding Walk.logical WalkF.logicalF
   sim-logical p =
       sim-node (λ s c. eqb (c .kind) 32 && ltb (c .form) 2) (λ b. sim-if b
       (sim-onKids (sim-split sim-skip (sim-each (sim-within deeper shallower (sim-within (opening cond) restore (h .bare (suc p))))))) sim-skip)
 
-  sim-inline : (p : ℕ) (b : VarInfo) (o : Option Tree) → Sim (λ t. Walk.inlineValue w p t b o) (WalkF.inlineValueF v p b o)
+  pub sim-inline : (p : ℕ) (b : VarInfo) (o : Option Tree) → Sim (λ t. Walk.inlineValue w p t b o) (WalkF.inlineValueF v p b o)
   unfolding Walk.inlineValue
   sim-inline p b none = sim-if (b .isUndefined) (sim-act (λ t. replace p t voidZero) (λ a. sim-put voidZero)) sim-skip
   sim-inline p b (some e) = sim-act (λ t. when (not (sameIdent t e)) (modify (setChanged true))) (λ a. sim-act (λ t. replace p t e) (λ a. sim-then (sim-put e) (sim-logical p)))
 
-  sim-found : (p : ℕ) (o : Option VarInfo) → Sim (foundBy w p o) (WalkF.foundF v p o)
+  pub sim-found : (p : ℕ) (o : Option VarInfo) → Sim (foundBy w p o) (WalkF.foundF v p o)
   sim-found p none = sim-skip
   sim-found p (some b) = sim-if (varInlinePrevented b) sim-skip (sim-inline p b (b .value))
 
-  sim-identInlining : (p : ℕ) → Sim (Walk.identInlining w p) (WalkF.identInliningF v p)
+  pub sim-identInlining : (p : ℕ) → Sim (Walk.identInlining w p) (WalkF.identInliningF v p)
   unfolding Walk.identInlining WalkF.identInliningF
   sim-identInlining p = sim-node (λ s c. findBinding (c .num) (s .stack)) {f = foundBy w p} (sim-found p)
 
-  sim-const : (p : ℕ) (o : Option Tree) → Sim (λ t. Walk.byConst w p t o) (WalkF.byConstF v p o)
+  pub sim-const : (p : ℕ) (o : Option Tree) → Sim (λ t. Walk.byConst w p t o) (WalkF.byConstF v p o)
   unfolding Walk.byConst
   sim-const p none = sim-node (λ s c. s .inlining) (λ b. sim-if b (sim-identInlining p) sim-identAnalysis)
   sim-const p (some e) = sim-act (λ t. modify (setChanged true)) (λ a. sim-act (λ t. replace p t e) (λ a. sim-then (sim-put e) (h .full p)))
 
-  sim-afterIdent : (p : ℕ) → Sim (Walk.afterIdent w p) (WalkF.afterIdentF v p)
+  pub sim-afterIdent : (p : ℕ) → Sim (Walk.afterIdent w p) (WalkF.afterIdentF v p)
   unfolding Walk.afterIdent WalkF.afterIdentF
   sim-afterIdent p = sim-node (λ s c. pick (s .isFirstRun) (findConstant (c .num) (s .stack)) none) (sim-const p)
 
-  sim-afterOther : (p : ℕ) (b : Bool) → Sim (otherBy w p b) (WalkF.afterBy v p false b)
+  pub sim-afterOther : (p : ℕ) (b : Bool) → Sim (otherBy w p b) (WalkF.afterBy v p false b)
   sim-afterOther p true = sim-node (λ s c. s .inlining) (λ b. sim-if b (sim-afterAssign p) sim-skip)
   sim-afterOther p false = sim-logical p
 
-  sim-afterBy : (p : ℕ) (b : Bool) → Sim (afterBy w p b) (λ i st. WalkF.afterBy v p b (isAssign (Combine.nodeAt st i)) i st)
+  pub sim-afterBy : (p : ℕ) (b : Bool) → Sim (afterBy w p b) (λ i st. WalkF.afterBy v p b (isAssign (Combine.nodeAt st i)) i st)
   sim-afterBy p true = sim-afterIdent p
   sim-afterBy p false = sim-node (λ s c. isAssign c) {f = otherBy w p} (sim-afterOther p)
 
-  sim-after : (p : ℕ) → Sim (Walk.after w p) (WalkF.afterF v p)
+  pub sim-after : (p : ℕ) → Sim (Walk.after w p) (WalkF.afterF v p)
   unfolding Walk.after WalkF.afterF
   sim-after p = sim-node (λ s c. eqb (c .kind) 21) {f = afterBy w p} (sim-afterBy p)
 
-  sim-full : (p : ℕ) → Sim (Walk.visitMutExpr w p) (WalkF.visitMutExprF v p)
+  pub sim-full : (p : ℕ) → Sim (Walk.visitMutExpr w p) (WalkF.visitMutExprF v p)
   unfolding Walk.visitMutExpr WalkF.visitMutExprF
   sim-full p = sim-then (sim-own p) (sim-after p)
 

@@ -6,9 +6,10 @@ use native.Mathlib.Omega.{arith}
 use lib.ListN.{length, take, drop, length-take, length-drop, length-append, take-append-drop}
 use lib.Seq.{drop-drop, length-take-le}
 use Rattle.tree.specs.Tree.{Tree, Forest, nil, cons, Core, lengthF, count, counts, flat, flats, plant, takeF, dropF}
-use Rattle.tree.specs.Combine.{Res, stop, done, M, Flat, treeAt, forestAt, Walk, Walks, carry}
-use Rattle.tree.proofs.Place.{onto, past, pasts, length-past, length-pasts, onto-past, onto-pasts, take-onto, drop-onto, onto-append, length-onto, at, drop-here, drops-here, forest-here, plant-flats, appendF}
-use Rattle.tree.proofs.Sims.{Sim, SimF, landT, landF, Ends}
+use Rattle.tree.specs.Combine as TreeWalks
+use Rattle.tree.specs.Combine.{Res, stop, done, M, andThen, ret, Flat, treeAt, forestAt, Walk, Walks, carry, skip, splitF}
+use Rattle.tree.proofs.Place.{onto, past, pasts, length-past, length-pasts, onto-past, onto-pasts, take-onto, drop-onto, onto-append, length-onto, at, drop-here, drops-here, tree-here, forest-here, plant-flats, appendF}
+use Rattle.tree.proofs.Sims.{Sim, SimF, sim-skip, sim-split, landT, landF, Ends}
 use Rattle.tree.proofs.Whole.{Whole, whole-drop, length-takeF, length-dropF, flats-take-drop, unplant, whole-onto, length-appendF}
 use Rattle.shape.specs.Shape.{Room, Shape}
 
@@ -79,3 +80,57 @@ module _ {S : Type 0} where
               where
                 inside-onto : (us : Forest) (pre post : List Core) → length (pasts us pre) ≤ length (onto pre (flats us post))
                 inside-onto us pre post = rw (sym (onto-pasts us pre post), onto-append (pasts us pre) post, length-append, length-onto) (omega arith)
+
+    -- the trees after the walk
+    record Landed (s : Split (st .nodes) n i) (st′ : Flat S) (j : ℕ) : Type 0 where
+      us : Forest
+      nodes : st′ .nodes ≡ onto (s .pre) (flats us (s .post))
+      end : j ≡ length (pasts us (s .pre))
+      size : lengthF us ≡ n
+
+    landed : (s : Split (st .nodes) n i) {st′ : Flat S} {j : ℕ} → g n i st ≡ done st′ j → Landed s st′ j
+    landed s {st′} {j} e = by (f (s .ts) (st .rest)) (h .size (st .rest) (s .ts)) (sym (h .run (s .pre) (s .post) (st .rest) (s .ts)) ∙ ap (λ (q : Flat S). g (lengthF (s .ts)) (length (s .pre)) q) (sym (same-state st (onto (s .pre) (flats (s .ts) (s .post))) (s .is))) ∙ ap (λ (m : ℕ). g m (length (s .pre)) st) (s .size) ∙ ap (λ (m : ℕ). g n m st) (s .far) ∙ e)
+      where
+        by : (q : Res S Forest) → Ends (λ us. lengthF us ≡ lengthF (s .ts)) q → landF (s .pre) (s .post) q ≡ done st′ j → Landed s st′ j
+        by (stop m) k z = absurd (let y : _≡_ {A = ℕ} 0 1 = cc in omega arith)
+        by (done s′ us) k z = record { us = us; nodes = cc; end = cc; size = k ∙ s .size }
+
+    -- as many trees begin there again
+    pub room-stays : {st′ : Flat S} {j : ℕ} → g n i st ≡ done st′ j → Room (st′ .nodes) n i
+    room-stays {st′} {j} e = go (split (st .nodes) n i w r)
+      where
+        go : Split (st .nodes) n i → Room (st′ .nodes) n i
+        go s =
+            let l = landed s e in
+            let there : drop i (st′ .nodes) ≡ flats (l .us) (s .post) = ap₂ {C = List Core} drop (sym (s .far)) (l .nodes) ∙ drop-onto (s .pre) (flats (l .us) (s .post)) in
+            let them : lengthF (plant (drop i (st′ .nodes))) ≡ lengthF (l .us) + lengthF (plant (s .post)) = ap (λ (xs : List Core). lengthF (plant xs)) there ∙ ap lengthF (plant-flats (l .us) (s .post)) ∙ length-appendF (l .us) (plant (s .post)) in
+            record { low = let q = shape-trees e in omega (arith, q .inside); trees = omega (arith, them, l .size) }
+
+    -- the walk ends where they end
+    pub trees-end : {st′ : Flat S} {j : ℕ} → g n i st ≡ done st′ j → j ≡ i + counts (forestAt st′ n i)
+    trees-end {st′} {j} e = go (split (st .nodes) n i w r)
+      where
+        go : Split (st .nodes) n i → j ≡ i + counts (forestAt st′ n i)
+        go s =
+            let l = landed s e in
+            let forest : forestAt st′ n i ≡ l .us = ap (λ (m : ℕ). forestAt st′ m i) (sym (l .size)) ∙ ap (λ (m : ℕ). forestAt st′ (lengthF (l .us)) m) (sym (s .far)) ∙ ap (λ (q : Flat S). forestAt q (lengthF (l .us)) (length (s .pre))) (same-state st′ (onto (s .pre) (flats (l .us) (s .post))) (l .nodes)) ∙ forest-here (l .us) (s .pre) (s .post) (st′ .rest) in
+            omega (arith, l .end, length-pasts (l .us) (s .pre), s .far, ap counts forest)
+
+  -- a walk of all but the first tree leaves that one
+  module _ {k : Forest → M S Forest} {k′ : Walks S} (h : SimF k k′) (st : Flat S) (n i : ℕ) (w : Whole (st .nodes)) (r : Room (st .nodes) n i) where
+    pub first-stays : {st′ : Flat S} {j : ℕ} → 0 < n → splitF skip k′ n i st ≡ done st′ j → treeAt st′ i ≡ treeAt st i
+    first-stays {st′} {j} z e = go (split (st .nodes) n i w r)
+      where
+        go : Split (st .nodes) n i → treeAt st′ i ≡ treeAt st i
+        go s = by (s .ts) (s .size) (s .is) (sym (sim-split sim-skip h .run (s .pre) (s .post) (st .rest) (s .ts)) ∙ ap (λ (q : Flat S). splitF skip k′ (lengthF (s .ts)) (length (s .pre)) q) (sym (same-state st (onto (s .pre) (flats (s .ts) (s .post))) (s .is))) ∙ ap (λ (m : ℕ). splitF skip k′ m (length (s .pre)) st) (s .size) ∙ ap (λ (m : ℕ). splitF skip k′ n m st) (s .far) ∙ e)
+          where
+            tree-of : (q : Flat S) (t : Tree) (xs : List Core) → q .nodes ≡ onto (s .pre) (flat t xs) → treeAt q i ≡ t
+            tree-of q t xs e = ap (λ (m : ℕ). treeAt q m) (sym (s .far)) ∙ ap (λ (q : Flat S). treeAt q (length (s .pre))) (same-state q (onto (s .pre) (flat t xs)) e) ∙ tree-here t (s .pre) xs (q .rest)
+
+            at-end : (t : Tree) (r : Res S Forest) → landF (s .pre) (s .post) (andThen r (λ us s₂. done s₂ (cons t us))) ≡ done st′ j → treeAt st′ i ≡ t
+            at-end t (stop m) q = absurd (let y : _≡_ {A = ℕ} 0 1 = cc in omega arith)
+            at-end t (done s′ us) q = let nodes′ : st′ .nodes ≡ onto (s .pre) (flat t (flats us (s .post))) = cc in tree-of st′ t (flats us (s .post)) nodes′
+
+            by : (ts : Forest) → lengthF ts ≡ n → st .nodes ≡ onto (s .pre) (flats ts (s .post)) → landF (s .pre) (s .post) (TreeWalks.split ret k ts (st .rest)) ≡ done st′ j → treeAt st′ i ≡ treeAt st i
+            by nil o x q = absurd (omega (arith, o, z))
+            by (cons t ts) o x q = at-end t (k ts (st .rest)) q ∙ sym (tree-of st t (flats ts (s .post)) x)

@@ -1,0 +1,3 @@
+// mod.rs: the walks.
+pub mod steps;
+pub mod walk;

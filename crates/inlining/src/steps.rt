@@ -1,0 +1,53 @@
+// Small steps of the walks.
+ghost use mathlib.Core.Path.{_≡_};
+ghost use Rattle.words.specs.Layout.{tree};
+ghost use Rattle.scopes.specs.State.{varTypeOf};
+ghost use Rattle.definition.specs.Walk.{declKindOf};
+ghost use Rattle.nodes.specs.Nodes.{Planted};
+ghost use Rattle.state.specs.State.{abs};
+ghost use Rattle.declare_steps.specs.Steps.{Spot, named, declrAfter};
+ghost use Rattle.walk_laws.specs.Did.{Did, Here, Headed};
+use declare_steps::After;
+use declare_steps::declr_after;
+use declare_steps::type_of;
+use ident_steps::Next;
+use words::kind_at;
+
+// The kind of a declaration by its form.
+pub fn decl_kind(f: u32) -> u32
+    ensures { λ r. ⌜ varTypeOf r ≡ declKindOf f ⌝ }
+{
+    if f == 0 {
+        return 1;
+    }
+    if f == 1 {
+        return 2;
+    }
+    3
+}
+
+// Is the first of the n trees from i on, if there is one, no binding.
+pub fn nameless(w: &[u32], n: usize, i: usize) -> bool
+    requires { ⌜ Here (now w) n i 0 0 ⌝ }
+    ensures { λ r. ⌜ Headed (now (w .entry)) n i r ⌝ }
+{
+    if n == 0 {
+        return true;
+    }
+    let k = kind_at(w, i);
+    if k == 20 {
+        return false;
+    }
+    true
+}
+
+// The end of a declarator of x in Inlining, whose declaration is of the given kind.
+pub fn declr_end(w: &mut [u32], x: u8, kind: u32, q: usize, n: usize, i: usize, j: usize) -> Next
+    requires { ⌜ (Planted (now w)) × (Spot (tree (now w)) q n i j) ⌝ }
+    ensures { λ r. ⌜ Did (now (w .entry)) (now (w .exit)) r (declrAfter q (varTypeOf kind) (named x) n i j (abs (now (w .entry)))) ⌝ }
+{
+    match declr_after(w, x, type_of(kind), q, n, i, j) {
+        After::At(k) => Next::At(k),
+        After::Halted(m) => Next::Refused(m),
+    }
+}

@@ -1,0 +1,6 @@
+pub mod Declrs
+pub mod Heres
+pub mod Idents
+pub mod Laws
+pub mod Rooms
+pub mod Ways

@@ -1,0 +1,74 @@
+-- What a walk of the port promises: its answer, and the state that the words then stand for, are those of the walk on the list of nodes.
+-- Assumes nothing: these are definitions.
+use mathlib.Core.Path.{_≡_}
+use mathlib.Core.List.{List}
+use Prim.Native.Nat.{ℕ, suc, _+_, _≤_, _<_}
+use mathlib.Core.Option.{Option, none, some}
+use lib.Dec.{eqb}
+use Rattle.tree.specs.Combine.{Res, stop, done, _>>=_, _>>_, andThen, ret, iff, Flat, nodeAt, treeAt, forestAt, setArity, Walk as One, Walks as Many, onRest, act, actF, skip, many, splitF, eachButF, onKidsF}
+use Rattle.tree.specs.Tree.{Tree}
+use Rattle.words.specs.Layout.{tree, nodeOf}
+use mathlib.Core.Bool.{Bool, true, false, not}
+use Rattle.definition.specs.Scope.{VarType, markThisSensitive, identOf}
+use Rattle.definition.specs.Walk.{St, asCatch, setPatMode, modify, mark, when, writeForest, headBind}
+use Rattle.flat.specs.WalkF.{WalksF, visitMutStmtsF, catchParamF, declrToF}
+use Rattle.nodes.specs.Nodes.{Planted}
+use Rattle.shape.specs.Shape.{Room}
+use Rattle.state.specs.State.{abs, Ok}
+use Rattle.ident_steps.specs.declared.Next.{Next}
+use Rattle.ident_steps.specs.declared.Next.the-variants.{At, Refused}
+
+-- a refusal's number is document 01's; after a refusal nothing is said of the state
+abbrev pub Lands : Next → List ℕ → Res (Flat St) ℕ → Type 0
+Lands (At j) u (stop m) = ⊥
+Lands (At j) u (done st k) = (j ≡ k) × (abs u ≡ st)
+Lands (Refused n) u (stop m) = n ≡ m
+Lands (Refused n) u (done st k) = ⊥
+
+pub record Did (w u : List ℕ) (r : Next) (x : Res (Flat St) ℕ) : Type 0 where
+  pub ok : Ok w u
+  pub lands : Lands r u x
+
+-- n trees begin at i, at depth p of the tree, and d levels are left below it
+pub record Here (w : List ℕ) (n i p d : ℕ) : Type 0 where
+  pub planted : Planted w
+  pub room : Room (tree w) n i
+  pub depth : p + d ≤ 201
+
+-- the first of n trees from i on is a binding
+pub record Bound (w : List ℕ) (n i : ℕ) : Type 0 where
+  pub some : 0 < n
+  pub kind : nodeOf w i .kind ≡ 20
+
+-- is the first of n trees from i on, if there is one, no binding
+abbrev pub Headed : List ℕ → ℕ → ℕ → Bool → Type 0
+Headed w n i true = headBind (forestAt (abs w) n i) ≡ none
+Headed w n i false = (headBind (forestAt (abs w) n i) ≡ some (treeAt (abs w) i)) × Bound w n i
+
+-- parts of handlers that are functions of their own in the port
+
+-- visitMutVarDeclaratorF of the node q, behind the first walk: its name and initialiser by what was found, then their number
+abbrev pub declrEndF : WalksF → ℕ → ℕ → Option Tree → Bool → VarType → Many St
+declrEndF v p q o b k n i = λ st. andThen (declrToF v p o b k n i st) (λ r st₁. done (setArity q (r .0) st₁) (r .1))
+
+-- visitMutCallExprF without its barrier
+abbrev pub argsF : Bool → WalksF → ℕ → One St
+argsF call v p i = onKidsF (splitF (λ i₁. do
+  j ← v .full (suc p) i₁
+  act (λ c s. when (not (s .inlining)) (mark (markThisSensitive (identOf (some c)))) s) i₁
+  ret j) (λ n i₁. actF (λ ts. when call (writeForest false ts)) n i₁ >> many (v .full (suc p)) n i₁)) i
+
+-- of visitMutTryStmtF: a part behind the block, and all
+abbrev pub clauseF : WalksF → ℕ → One St
+clauseF v p i = λ st. iff (eqb (nodeAt st i .kind) 17) (v .full p i) (skip i) st
+
+abbrev pub clausesF : WalksF → ℕ → Many St
+clausesF v p n i = many (λ i₁ st. iff (eqb (nodeAt st i₁ .kind) 17) (v .full p i₁) (skip i₁) st) n i
+
+-- visitMutCatchClauseF inside its scope
+abbrev pub caughtF : WalksF → ℕ → One St
+caughtF v p i = onRest (modify (setPatMode asCatch)) >> onKidsF (eachButF (catchParamF v (suc p)) (v .full (suc p))) i
+
+-- visitMutSwitchCaseF inside its scope
+abbrev pub itemsF : WalksF → ℕ → One St
+itemsF v p i = λ st. iff (eqb (nodeAt st i .form) 1) (onKidsF (splitF (v .full (suc p)) (visitMutStmtsF v (suc p))) i) (onKidsF (visitMutStmtsF v (suc p)) i) st
