@@ -1,0 +1,4 @@
+pub mod Runs
+pub mod Starts
+pub mod Files
+pub mod Entries

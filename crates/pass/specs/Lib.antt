@@ -1,0 +1,4 @@
+pub mod Entry
+pub mod Inline
+pub mod Run
+pub mod Start
