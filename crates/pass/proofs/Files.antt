@@ -71,7 +71,7 @@ names-from s m (x ∷ xs) h (suc j) = names-from s (suc m) xs (λ k l. h (suc k)
 
 -- a script that was read
 module _ (bs : List ℕ) (s : Script) (h : read bs ≡ script s) where
-  is-found : Found bs s (u32 bs 8) (u32 bs 16) (u32 bs 28)
+  pub is-found : Found bs s (u32 bs 8) (u32 bs 16) (u32 bs 28)
   is-found = found bs s h
 
   core-names : Names (coreNodes s)
