@@ -46,7 +46,7 @@ place-same x (y ∷ ys) h = go (sameId x y) refl h (place-same x ys)
     go false e l k = k (le-of-suc-le-suc l)
 
 -- an identifier that was entered has one
-place-enter : (ids : List Raw) (x : Raw) → hasId x ≡ true → placeOf x (enter ids x) < length (enter ids x)
+pub place-enter : (ids : List Raw) (x : Raw) → hasId x ≡ true → placeOf x (enter ids x) < length (enter ids x)
 place-enter ids x h = go (known x ids) refl
   where
     go : (b : Bool) → known x ids ≡ b → placeOf x (enter ids x) < length (enter ids x)

@@ -141,12 +141,12 @@ one-tree (cons t nil) e = record { tree = t; is = refl }
 one-tree (cons t (cons u us)) e = absurd (suc-ne-zero _ (suc-inj e))
 
 -- a script that passed row 6 has one core tree, whose nodes are its core nodes
-record Planted (s : Script) : Type 0 where
-  tree : Tree
-  planted : plant (coreNodes s) ≡ cons tree nil
-  nodes : flat tree [] ≡ coreNodes s
+pub record Planted (s : Script) : Type 0 where
+  pub tree : Tree
+  pub planted : plant (coreNodes s) ≡ cons tree nil
+  pub nodes : flat tree [] ≡ coreNodes s
 
-planted-ok : (s : Script) → T (nodesOk s) → Planted s
+pub planted-ok : (s : Script) → T (nodesOk s) → Planted s
 unfolding nodesOk coreNodes
 planted-ok s t = record { tree = o .tree; planted = o .is; nodes = ap (λ (ts : Forest). flats ts []) (sym (o .is)) ∙ unplant (coreNodes s) (c .1) }
   where

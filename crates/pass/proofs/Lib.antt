@@ -1,0 +1,7 @@
+pub mod Runs
+pub mod Starts
+pub mod Files
+pub mod Entries
+pub mod Demands
+pub mod Rooted
+pub mod Listings

@@ -1,0 +1,6 @@
+pub mod Demand
+pub mod Entry
+pub mod Inline
+pub mod Roots
+pub mod Run
+pub mod Start

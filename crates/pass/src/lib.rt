@@ -1,0 +1,126 @@
+// The whole pass over a tree file, from its bytes to the result's, as C functions.
+pub mod inline;
+pub mod root;
+pub mod run;
+pub mod start;
+
+ghost use mathlib.Core.Path.{_≡_};
+ghost use Rattle.tree.specs.Base.{toNat};
+ghost use Rattle.pass.specs.Entry.{enough, InlineIs};
+ghost use Rattle.pass.specs.Roots.{RootsIs};
+use crate::inline::inline_file;
+use crate::root::write_roots;
+use crate::run::Ran;
+use words::clear;
+use writer::Written;
+use writer::write;
+
+// A refusal's number; or 0, the result's length, the runs done, and 1 if the last one left the mark.
+#[repr(C)]
+pub struct Inlined {
+    pub refused: u32,
+    pub length: usize,
+    pub runs: u32,
+    pub changed: u32,
+}
+
+// A refusal's number; or 0, and how many root bindings there are.
+#[repr(C)]
+pub struct Roots {
+    pub refused: u32,
+    pub count: usize,
+}
+
+// Row 1: 1 to 16 runs, and at least 16,384 words.
+fn enough(runs: u32, words: usize) -> bool
+    ensures { λ r. ⌜ r ≡ enough runs words ⌝ }
+{
+    (1 <= runs) & (runs <= 16) & (16384 <= words)
+}
+
+fn number(b: bool) -> u32
+    ensures { λ r. ⌜ r ≡ toNat b ⌝ }
+{
+    if b { 1 } else { 0 }
+}
+
+// Rows 1 to 10. What is written is the result's file.
+#[no_mangle]
+pub extern "C" fn negbosun_inline(
+    file: &[u8],
+    result: &mut [u8],
+    words: &mut [u32],
+    runs: u32,
+) -> Inlined
+    ensures { λ r. ⌜ InlineIs (now (file .entry)) (now (result .entry)) (now (result .exit)) (now (words .entry)) (now (words .exit)) runs r ⌝ }
+{
+    if !enough(runs, words.len()) {
+        return Inlined {
+            refused: 1,
+            length: 0,
+            runs: 0,
+            changed: 0,
+        };
+    }
+    let ran = inline_file(file, words, runs);
+    match ran {
+        Ran::Done { runs, changed } => {
+            let written = write(file, words, result);
+            clear(words);
+            match written {
+                Written::Done(length) => Inlined {
+                    refused: 0,
+                    length,
+                    runs,
+                    changed: number(changed),
+                },
+                Written::Refused(refused) => Inlined {
+                    refused,
+                    length: 0,
+                    runs: 0,
+                    changed: 0,
+                },
+            }
+        }
+        Ran::Refused(refused) => Inlined {
+            refused,
+            length: 0,
+            runs: 0,
+            changed: 0,
+        },
+    }
+}
+
+// Rows 1 to 10, of the pass over the file. What is written are the root bindings, four words for each: text number, context's low and high
+// half, prevented mark.
+#[no_mangle]
+pub extern "C" fn negbosun_roots(
+    file: &[u8],
+    roots: &mut [u32],
+    words: &mut [u32],
+    runs: u32,
+) -> Roots
+    ensures { λ r. ⌜ RootsIs (now (file .entry)) (now (roots .entry)) (now (roots .exit)) (now (words .entry)) (now (words .exit)) runs r ⌝ }
+{
+    if !enough(runs, words.len()) {
+        return Roots {
+            refused: 1,
+            count: 0,
+        };
+    }
+    let ran = inline_file(file, words, runs);
+    match ran {
+        Ran::Done {
+            runs: _,
+            changed: _,
+        } => {
+            let written = write_roots(file, words, roots);
+            clear(words);
+            match written {
+                Written::Done(count) => Roots { refused: 0, count },
+                Written::Refused(refused) => Roots { refused, count: 0 },
+            }
+        }
+        Ran::Refused(refused) => Roots { refused, count: 0 },
+    }
+}
