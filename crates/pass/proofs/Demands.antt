@@ -1,5 +1,5 @@
 -- Demand 3 of the port. Assumes nothing.
-use mathlib.Core.Path.{_≡_, refl, sym, ap, subst}
+use mathlib.Core.Path.{_≡_, refl, ap, subst}
 use mathlib.Core.Bool.{Bool, true, false, _&&_}
 use mathlib.Core.List.{List}
 use Prim.Native.Nat.{ℕ, _*_}
@@ -12,7 +12,7 @@ use Rattle.definition.specs.Script.{Answer, no!, yes!, passFile}
 use Rattle.definition.specs.Paired.{Alike, AlikeEntry}
 use Rattle.laws.proofs.Demand.{demand3, demand3-entry}
 use Rattle.pass.specs.Roots as roots
-use Rattle.pass.specs.Demand.{AlikeEnds, Demand3Inline, AlikeListing, Demand3Roots}
+use Rattle.pass.specs.Demand.{Demand3Inline, AlikeListing, Demand3Roots}
 
 -- of the words only whether they are enough matters
 entry-words : (runs n m : ℕ) (bs : List ℕ) (room : ℕ) → leb 16384 n ≡ leb 16384 m → entry runs n bs room ≡ entry runs m bs room

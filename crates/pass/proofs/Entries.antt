@@ -1,32 +1,32 @@
 -- The ends of the C function of the pass: row 1, rows 2 to 9, row 10, and the whole result. Assumes nothing.
-use mathlib.Core.Path.{_≡_, refl, sym, ap, ap₂, _∙_, subst}
+use mathlib.Core.Path.{_≡_, refl, sym, ap, _∙_, subst}
 use mathlib.Core.Bool.{Bool, true, false, _&&_, not}
 use mathlib.Core.List.{List, [], _∷_, map}
-use Prim.Native.Nat.{ℕ, suc, _+_, _≤_, _<_}
+use Prim.Native.Nat.{ℕ, _≤_}
 use native.Mathlib.Omega.{arith}
 use borrow.Author.Tests.{leb-true}
 use lib.Dec.{leb}
 use lib.ListN.{length, getD}
 use Rattle.tree.specs.Base.{toNat}
-use Rattle.tree.specs.Tree.{Core, count, flat, plant, firstT}
+use Rattle.tree.specs.Tree.{Core, plant, firstT}
 use Rattle.words.specs.Layout.{tree}
 use Rattle.words.specs.Moved.{Cleared}
 use Rattle.words.proofs.Nodes.{tree-length}
 use Rattle.format.specs.declared.Raw.{Raw}
 use Rattle.format.specs.Script.{Script}
 use Rattle.format.specs.Core.{Out, back}
-use Rattle.format.specs.Read.{Read, bad, script, u32, read}
+use Rattle.format.specs.Read.{Read, bad, script, read}
 use Rattle.format.specs.Write.{file}
 use Rattle.roundtrip.specs.Fits.{Bytes}
 use Rattle.treefile.specs.Idents.{Listed}
 use Rattle.writer.specs.declared.Written.{Written}
 use Rattle.writer.specs.declared.Written.the-variants as Written
 use Rattle.writer.specs.Written.{Answer as Said, refused as no-room, wrote, says, inRoom, written as writes, left as leaves, resultBytes, Wrote}
-use Rattle.writer.proofs.Tied.{resultScript, wrote-file}
-use Rattle.definition.specs.Script.{Root, yes!, rootOf}
+use Rattle.writer.proofs.Tied.{wrote-file}
+use Rattle.definition.specs.Script.{rootOf}
 use Rattle.definition.specs.Entry.{Entry, refused, passed, written, entry}
 use Rattle.definition.specs.Walk.{rootMarks}
-use Rattle.flat.specs.WalkF.{OutcomeF, refusedF, resultF, runsF}
+use Rattle.flat.specs.WalkF.{OutcomeF, refusedF}
 use Rattle.flat.specs.PassF.{answerF, passF, entryReadF, entryF}
 use Rattle.flat.proofs.File.{entry-same}
 use Rattle.scopes.specs.State.{stack}

@@ -8,7 +8,7 @@ use native.Mathlib.Omega.{arith}
 use borrow.Author.Tests.{le-leb, eq-eqb}
 use lib.Dec.{T, eqb, leb}
 use lib.ListN.{length, getD, take, drop}
-use Rattle.tree.specs.Tree.{Forest, Core, noCore, flat, plant, firstT}
+use Rattle.tree.specs.Tree.{Forest, Core, flat, firstT}
 use Rattle.tree.specs.Combine.{Flat}
 use Rattle.words.specs.Tab.{tab-ext}
 use Rattle.words.specs.Layout.{tree}
@@ -16,7 +16,7 @@ use Rattle.words.specs.Moved.{Cleared}
 use Rattle.format.specs.declared.Raw.{Raw}
 use Rattle.format.specs.Script.{Script, isLit, hasId, enterAll, idents, placeOf, zeroNode}
 use Rattle.format.specs.Core.{coreNode, coreFrom, coreNodes}
-use Rattle.format.specs.Read.{Read, bad, script, u32, read, nodesOk}
+use Rattle.format.specs.Read.{Read, bad, script, u32, read}
 use Rattle.roundtrip.proofs.Nodes.{nodes-length}
 use Rattle.roundtrip.proofs.Round.{Found, found}
 use Rattle.treefile.specs.declared.header.Header.{Header}
@@ -24,34 +24,31 @@ use Rattle.treefile.specs.declared.read.Answer.{Answer}
 use Rattle.treefile.specs.declared.read.Answer.the-variants as Answer
 use Rattle.treefile.specs.Idents.{numbered, idsOf, Listed}
 use Rattle.treefile.specs.Load.{Kept}
-use Rattle.treefile.specs.Reading.{Held, told, After, WordsAre, ReadIs}
+use Rattle.treefile.specs.Reading.{told, After, WordsAre, ReadIs}
 use Rattle.treefile.proofs.Cores.{core-lit, core-id, core-plain, place-final, ids-more}
 use Rattle.copy.proofs.Again.{place-enter}
-use Rattle.copy.proofs.Ends.{WasRead, was-read}
+use Rattle.copy.proofs.Ends.{WasRead}
 use Rattle.definition.specs.Walk.{St}
 use Rattle.flat.specs.WalkF.{OutcomeF, refusedF, runsF}
 use Rattle.flat.specs.PassF.{startF}
 use Rattle.flat.proofs.File.{planted-ok}
 use Rattle.scopes.specs.State.{Named, Names}
-use Rattle.nodes.specs.Nodes.{One, Planted}
-use Rattle.state.specs.State.{abs, Ok}
+use Rattle.nodes.specs.Nodes.{One}
+use Rattle.state.specs.State.{abs}
 use Rattle.pass.specs.declared.run.Ran.{Ran}
 use Rattle.pass.specs.declared.run.Ran.the-variants as Ran
 use Rattle.pass.specs.Run.{outcome, RunsIs}
 use Rattle.pass.specs.Start.{Loaded, Started}
-use Rattle.pass.specs.Inline.{begin, readRuns, Final, FileIs}
+use Rattle.pass.specs.Inline.{begin, readRuns, FileIs}
 
 -- the core of a node has the number of an identifier, if it has one
+differ : true ≡ false → ⊥
+differ q = let y : _≡_ {A = ℕ} 0 1 = cc in omega arith
+
 no-id : (k : ℕ) → (eqb k 20 || eqb k 21) ≡ false → (k ≡ 20) ⊎ (k ≡ 21) → ⊥
 no-id k h (inl e) = differ (sym (ap (λ (b : Bool). b || eqb k 21) (eq-eqb k 20 e)) ∙ h)
-  where
-    differ : true ≡ false → ⊥
-    differ q = let y : _≡_ {A = ℕ} 0 1 = cc in omega arith
 no-id k h (inr e) = go (eqb k 20) (ap (λ (b : Bool). eqb k 20 || b) (sym (eq-eqb k 21 e)) ∙ h)
   where
-    differ : true ≡ false → ⊥
-    differ q = let y : _≡_ {A = ℕ} 0 1 = cc in omega arith
-
     go : (b : Bool) → (b || true) ≡ false → ⊥
     go true q = differ q
     go false q = differ q

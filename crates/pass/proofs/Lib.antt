@@ -5,3 +5,4 @@ pub mod Entries
 pub mod Demands
 pub mod Rooted
 pub mod Listings
+pub mod Rows

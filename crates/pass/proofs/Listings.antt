@@ -2,17 +2,16 @@
 use mathlib.Core.Path.{_≡_, refl, sym, ap, _∙_, subst}
 use mathlib.Core.Bool.{Bool, true, false}
 use mathlib.Core.List.{List, map}
-use Prim.Native.Nat.{ℕ, _+_, _*_, _≤_}
+use Prim.Native.Nat.{ℕ}
 use native.Mathlib.Omega.{arith}
-use lib.Dec.{leb}
 use lib.ListN.{length, getD}
 use Rattle.words.specs.Moved.{Cleared}
 use Rattle.format.specs.declared.Raw.{Raw}
-use Rattle.format.specs.Script.{Script, zeroNode}
+use Rattle.format.specs.Script.{zeroNode}
 use Rattle.format.specs.Read.{Read, bad, script, read}
 use Rattle.writer.specs.declared.Written.{Written}
 use Rattle.writer.specs.declared.Written.the-variants as Written
-use Rattle.definition.specs.Script.{Root, Answer, no!, rootOf, passFile}
+use Rattle.definition.specs.Script.{Root, Answer, rootOf, passFile}
 use Rattle.definition.specs.Walk.{rootMarks}
 use Rattle.flat.specs.WalkF.{OutcomeF, refusedF}
 use Rattle.flat.specs.PassF.{answerF, passF, passReadF, passFileF}
@@ -22,7 +21,6 @@ use Rattle.copy.specs.Copy.{WordsAre}
 use Rattle.pass.specs.declared.run.Ran.{Ran}
 use Rattle.pass.specs.declared.run.Ran.the-variants as Ran
 use Rattle.pass.specs.declared.Roots.{Roots}
-use Rattle.pass.specs.Run.{outcome}
 use Rattle.pass.specs.Inline.{readRuns, Final, FileIs}
 use Rattle.pass.specs.Entry.{enough}
 use Rattle.pass.specs.Roots.{Known, rootsIn, Listing, refused, listed, inRoom, answered, listing, left, SaysSo, WroteRoots, numbers, RootsIs}

@@ -1,14 +1,14 @@
 -- The root's bindings in the words, and as they are written. Assumes nothing.
-use mathlib.Core.Path.{_≡_, refl, sym, ap, ap₂, _∙_, subst}
+use mathlib.Core.Path.{_≡_, refl, sym, ap, _∙_, subst}
 use mathlib.Core.Bool.{Bool, true, false}
-use mathlib.Core.List.{List, [], _∷_, _++_, map, map-append, append-nil, append-assoc}
+use mathlib.Core.List.{List, [], _∷_, _++_, map, map-append}
 use mathlib.Core.Option.{Option}
-use Prim.Native.Nat.{ℕ, zero, suc, _+_, _-_, _*_, _/_, _%_, _≤_, _<_}
+use Prim.Native.Nat.{ℕ, zero, suc, _+_, _-_, _*_, _≤_, _<_}
 use native.Mathlib.Omega.{arith}
 use borrow.Author.Tests.{le-leb, lt-leb}
 use lib.Dec.{leb}
-use lib.ListN.{length, getD, take, drop, set, length-append, length-map}
-use lib.Seq.{sets, sets-eq, take-length, length-take-le}
+use lib.ListN.{length, getD, take, drop, set}
+use lib.Seq.{sets, sets-eq, length-take-le}
 use Rattle.tree.specs.Base.{toNat}
 use Rattle.tree.specs.Tree.{Tree}
 use Rattle.words.specs.Tab.{tab, tab-zero, tab-suc, length-tab, take-tab, getD-tab, getD-tab-out}
@@ -22,8 +22,8 @@ use Rattle.writer.proofs.Stores.{first, then}
 use Rattle.definition.specs.Scope.{VarInfo}
 use Rattle.definition.specs.Script.{Root}
 use Rattle.definition.specs.Walk.{rootMarks}
-use Rattle.scopes.specs.State.{Head, headAt, headsAt, heads, Fits, bindAt, binds, flags, consts, split, stack, Good}
-use Rattle.pass.specs.Roots.{marksTo, rootAt, rootsIn, rootWords, rootList, Listing, refused, listed, inRoom, left, WroteRoots}
+use Rattle.scopes.specs.State.{headAt, headsAt, heads, Fits, bindAt, binds, flags, consts, split, stack, Good}
+use Rattle.pass.specs.Roots.{marksTo, rootAt, rootsIn, rootWords, rootList, refused, listed, inRoom, WroteRoots}
 
 -- identifier and mark of each binding
 abbrev marks : List VarInfo → List (ℕ × Bool)

@@ -9,7 +9,7 @@ use Rattle.tree.specs.Tree.{Core}
 use Rattle.tree.specs.Combine.{Res, stop, done, andThen, Flat}
 use Rattle.words.specs.Layout.{yes, tree}
 use Rattle.definition.specs.Walk.{St, rootMarks, setInlining, setChanged, setIsFirstRun}
-use Rattle.flat.specs.WalkF.{walksF, ownF, runF, runsF, againF, onSt, OutcomeF, refusedF, resultF}
+use Rattle.flat.specs.WalkF.{walksF, ownF, runF, runsF, againF, onSt, OutcomeF, resultF}
 use Rattle.nodes.specs.Nodes.{Planted}
 use Rattle.scopes.specs.State.{stack}
 use Rattle.state.specs.State.{rest, abs, Ok, Turns}
@@ -19,7 +19,7 @@ use Rattle.ident_steps.specs.declared.Next.the-variants.{At, Refused}
 use Rattle.pass.specs.declared.run.Ran.{Ran}
 use Rattle.pass.specs.declared.run.Ran.the-variants as Ran
 use Rattle.walk_laws.specs.Did.{Lands, Did}
-use Rattle.pass.specs.Run.{outcome, RunsIs}
+use Rattle.pass.specs.Run.{RunsIs}
 
 -- a walk's answer with the words it left, as a result
 abbrev told : Next → List ℕ → Res (Flat St) ℕ

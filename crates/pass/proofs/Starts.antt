@@ -1,17 +1,16 @@
 -- The first state. Assumes nothing.
 use mathlib.Core.Path.{_≡_, refl, sym, ap, _∙_}
-use mathlib.Core.Bool.{Bool, true, false}
+use mathlib.Core.Bool.{true, false}
 use mathlib.Core.List.{List, [], _∷_}
-use Prim.Native.Nat.{ℕ, _≤_, _<_}
+use Prim.Native.Nat.{ℕ}
 use native.Mathlib.Omega.{arith}
 use lib.ListN.{length, getD}
 use lib.Dec.{leb}
-use Rattle.words.specs.Tab.{tab, sum}
-use Rattle.words.specs.Layout.{yes, tree, beyond}
+use Rattle.words.specs.Tab.{sum}
+use Rattle.words.specs.Layout.{yes, tree}
 use Rattle.words.specs.Moved.{Put5, Zeroed}
 use Rattle.words.proofs.Nodes.{tree-same, beyond-same}
 use Rattle.definition.specs.Scope.{Stack, fn, newScope}
-use Rattle.definition.specs.Walk.{St, setStack}
 use Rattle.flat.specs.PassF.{startF}
 use Rattle.scopes.specs.State.{Good, Becomes, heads, headsAt, stack, varTypeOf}
 use Rattle.records.specs.declared.Step.{Step}

@@ -1,7 +1,7 @@
 -- The words of a script that was read become the state before the first run. Assumes nothing: these are definitions.
 use mathlib.Core.Path.{_≡_}
 use mathlib.Core.List.{List}
-use Prim.Native.Nat.{ℕ, _≤_, _<_}
+use Prim.Native.Nat.{ℕ, _≤_}
 use lib.ListN.{length, getD}
 use Rattle.words.specs.Layout.{Agree, tree, beyond}
 use Rattle.flat.specs.PassF.{startF}

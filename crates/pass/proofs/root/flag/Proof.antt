@@ -1,6 +1,5 @@
 -- A word as a mark. Assumes nothing.
 use Rattle.pass.proofs.Rooted as rooted
-use borrow.Author.Needs.{needs}
 use Rattle.pass.proofs.root.flag.Statement.{statement}
 use Rattle.pass.proofs.root.flag.Tie as tie
 
