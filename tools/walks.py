@@ -1,10 +1,10 @@
 #!/usr/bin/env python3
-"""Writes the proof files of the cycle of walks (crates/inlining): the lines that a check prints for it, split into a module for each member,
+"""Writes the proof files of the cycle of walks (crates/walk): the lines that a check prints for it, split into a module for each member,
 with the answers of tools/walks_answers.py. It writes text for the checker, which alone judges it.
 
-    mv crates/inlining/proofs/walk/+* elsewhere            # so that the check prints the lines
-    rt dev inlining > PRINTED 2>&1
-    rt dev inlining --generated GENERATED
+    mv crates/walk/proofs/+* elsewhere            # so that the check prints the lines
+    rt dev walk > PRINTED 2>&1
+    rt dev walk --generated GENERATED
     tools/walks.py PRINTED GENERATED && rt fmt
 
 In an answer `@thing` stands for the path to that thing at the need; a need with no answer keeps its hole.
@@ -17,7 +17,7 @@ def printed(log):
     """the lines that the check prints for the cycle's file"""
     out, on = [], False
     for l in open(log).read().split('\n'):
-        if l.startswith('help: write '): on = '/proofs/walk/+' in l
+        if l.startswith('help: write '): on = '/proofs/+' in l
         elif on and (l.startswith('    ') or not l.strip()): out.append(l[4:])
         elif l.strip(): on = False
     return '\n'.join(out) + '\n'
@@ -34,8 +34,8 @@ decls.append('\n'.join(cur))
 spec = next(d for d in decls if d.startswith('pub +'))
 cyc = re.match(r'pub (\S+)-spec', spec).group(1)
 members = [m for m in cyc.split('+') if m]
-base = 'Rattle.inlining.proofs.walk.' + cyc
-folder = 'crates/inlining/proofs/walk/' + cyc
+base = 'Rattle.walk.proofs.' + cyc
+folder = 'crates/walk/proofs/' + cyc
 alias = {}
 for u in uses:
     m = re.search(r' as (\S+)\n', u)
@@ -45,7 +45,7 @@ order = sorted(members, key=len, reverse=True)
 def places(member):
     """for each need, the things bound on the way to it, nearest first, by how many `.before` lead there"""
     recs, cur, d = {}, None, {}
-    lts = open('%s/Rattle.inlining.proofs/proofs/walk/%s/Lts-%s.antt' % (sys.argv[2], cyc, member)).read()
+    lts = open('%s/Rattle.walk.proofs/proofs/%s/Lts-%s.antt' % (sys.argv[2], cyc, member)).read()
     for line in lts.split('\n'):
         m = re.match(r'\s+pub record (\S+)(?: .*)? : Type 0 where', line)
         if m: cur = m.group(1); recs.setdefault(cur, []); continue

@@ -21,7 +21,7 @@ USES = [
     ('use Rattle.flat.specs.WalkF.{walksF, inCondF, visitMutStmtsF, plainF, visitMutBlockStmtF, scriptF, visitWithChildF, visitMutVarDeclF, visitMutFunctionF, visitMutFnDeclF, visitMutFnExprF, visitMutArrowExprF, testedF, visitMutIfStmtF, visitMutWhileStmtF, visitMutForStmtF, visitMutForInStmtF, visitMutTryStmtF, catchParamF, visitMutCatchClauseF, visitMutSwitchCaseF, visitMutUnaryExprF, visitMutUpdateExprF, visitMutCallExprF, visitMutAssignExprF, assignKidsF, handleF, ownF, logicalF, afterF}', ['walksF', 'visitMutCallExprF', 'visitMutUnaryExprF']),
     ('use Rattle.flat.proofs.Sim.{sims, sim-own, sim-name, sim-branch, sim-tested, sim-catchParam, sim-stmts}', ['sims']),
     ('use Rattle.ident_steps.specs.declared.Next.the-variants.{At, Refused}', ['At', 'Refused']),
-    ('use Rattle.walk_laws.specs.Did.{Did, clauseF, clausesF, caughtF, itemsF, argsF}', ['clausesF', 'Did', 'clauseF', 'caughtF', 'itemsF', 'argsF']),
+    ('use Rattle.walk_laws.specs.Did.{Did, clauseF, clausesF, caughtF, itemsF}', ['clausesF', 'Did', 'clauseF', 'caughtF', 'itemsF']),
     ('use Rattle.walk_laws.proofs.Laws as laws', ['laws']),
     ('use Rattle.walk_laws.proofs.Heres as heres', ['heres']),
     ('use Rattle.walk_laws.proofs.Ways as ways', ['ways']),
@@ -30,8 +30,8 @@ USES = [
     ('use Rattle.nodes.specs.Nodes.{valueFrom}', ['valueFrom']),
 ]
 
-ranks = {'full': 0, 'bare': 0, 'inner': 0}
-for n, ms in ((1, 'many arm part bind test name'), (2, 'cond arms parts binds params loops tail stmts init'), (3, 'conds body kids func args whiles ifs fors forin tries caught'),
+ranks = {'full': 0}
+for n, ms in ((1, 'many arm name'), (2, 'arms parts binds params loops tail stmts init'), (3, 'conds body kids func whiles ifs fors forin tries'),
               (4, 'logic items block arrow decl declr fdecl fexpr catch unary call assign'), (5, 'case ident'), (6, 'own after')):
     for m in ms.split(): ranks[m] = n
 def RANK(m):
@@ -43,7 +43,7 @@ WALK = {
     'arms': ('visitWithChildF (walksF {d}) {p} (scopeKindOf {kind})', 'sim-branch (sims {d}) {p} (scopeKindOf {kind})', 'arm'),
     'parts': ('clauseF (walksF {d}) {p}', 'sim-node (λ s c. eqb (c .kind) 17) (λ b. sim-if b (sims {d} .full {p}) sim-skip)', 'part'),
     'binds': ('catchParamF (walksF {d}) {p}', 'sim-catchParam (sims {d}) {p}', 'bind'),
-    'conds': ('λ r. inCondF (walksF {d} .bare {p} r)', 'sim-within deeper shallower (sim-within (opening vCond) restore (sims {d} .bare {p}))', 'cond'),
+    'conds': ('λ r. inCondF (walksF {d} .bare {p} r)', 'sim-within deeper shallower (sim-within (opening vCond) restore (sims {d} .bare {p}))', ''),
 }
 ARGS = dict(d='(@args .d)', p='(@args .p)', kind='(@args .kind)')
 def LOOPS(m):
@@ -58,10 +58,54 @@ TOLD, GOT = '(@enum-told .given .1)', '(@r .given .1)'
 N, I1, P1 = '(@arity-at .result)', '(@args .i + 1)', '(@args .p + 1)'
 A = {}
 
+AT = '(@loop .at)'
 def loop(m):
     f, sim, call = WALK[m]
     f, sim = '(' + f.format(**ARGS) + ')', '(sim-each (' + sim.format(**ARGS) + '))'
     at = '%s (@args .i) (@loop .k) (@args .n) (@loop .inv .2)' % f
+    here = '(heres.here-behind %s %s refl (@loop .k) (@loop-test .taken) (@loop .inv .2))' % (sim, H)
+    STEPS = {
+        'loop-holds': '(omega arith, refl, laws.many-none %s (@args .i) (@pre .1 .planted))' % f,
+        'add-k': 'omega (arith, @loop-test .taken, @fits .n)',
+        'add-k-2': 'omega (arith, @loop-test .taken, @fits .n)',
+        'loop-less': 'omega (arith, @loop-test .taken)',
+        'loop-less-2': 'omega (arith, @loop-test .taken)',
+    }
+    again = lambda kept, e, x: '(omega (arith, @loop-test .taken), %s @loop .inv .1, ways.many-next %s %s (%s))' % (kept, at, e, x)
+    if m == 'parts':
+        A[m] = dict(STEPS, **{
+            'kind-at-requires': 'heres.at-node ' + here,
+            'skip-requires': 'heres.at-skip ' + here,
+            'loop-again': again('', 'refl', 'ways.iff-no _ _ (ways.kind-no %s 17 (@kind-at .ensures) (@if1 .taken)) (ways.did-skip %s (%s .planted) (@skip .ensures .0))' % (here, AT, here)),
+            'full-requires': '(%s, %s)' % (M, here),
+            'returns': 'ways.many-stop %s (@loop-test .taken) %s (ways.iff-yes _ _ (ways.kind-yes %s (@kind-at .ensures) (@if1 .left)) (@full .ensures))' % (at, TOLD, here),
+            'loop-again-2': again('@full .kept .0 ∙', GOT, 'ways.iff-yes _ _ (ways.kind-yes %s (@kind-at .ensures) (@if1 .left)) (@full .ensures)' % here),
+            'returns-2': 'ways.many-end %s (@loop .inv .0) (@loop-test .left)' % at,
+        })
+        return
+    if m == 'binds':
+        A[m] = dict(STEPS, **{
+            'kind-at-requires': 'heres.at-node ' + here,
+            'num-at-requires': 'heres.at-node ' + here,
+            'full-requires': '(%s, %s)' % (M, here),
+            'returns': 'ways.many-stop %s (@loop-test .taken) %s (ways.bound-stop (walksF (@args .d)) (@args .p) %s %s (@full .ensures))' % (at, TOLD, AT, TOLD),
+            'mark-caught-requires': 'heres.name-low %s (@kind-at .ensures) (@num-at .ensures) (@full .ensures .ok .planted)' % here,
+            'loop-again': again('@mark-caught .kept .0 ∙ @full .kept .0 ∙', 'refl', 'ways.bound-then (walksF (@args .d)) %s (@kind-at .ensures) (@num-at .ensures) %s (@full .ensures) (@mark-caught .ensures)' % (here, GOT)),
+            'returns-2': 'ways.many-end %s (@loop .inv .0) (@loop-test .left)' % at,
+        })
+        return
+    if m == 'conds':
+        b = '(visitWithChildF (walksF (@args .d)) (@args .p) vCond %s)' % AT
+        A[m] = dict(STEPS, **{
+            'deeper-requires': here + ' .planted',
+            'returns': ('visitWithChildF', 'ways.many-stop %s (@loop-test .taken) refl (ways.cond-full %s (@deeper .ensures) (@if1 .taken))' % (at, b)),
+            'arm-requires': '(%s, heres.here-rest deeper (@if1 .left) (@deeper .ensures) %s)' % (M, here),
+            'returns-2': ('visitWithChildF', 'ways.many-stop %s (@loop-test .taken) %s (ways.cond-stop %s (@deeper .ensures) (@if1 .left) %s (@arm .ensures))' % (at, TOLD, b, TOLD)),
+            'set-conds-requires': '@arm .ensures .ok .planted',
+            'loop-again': ('visitWithChildF', again('@set-conds .kept .0 ∙ @arm .kept .0 ∙ @deeper .kept .0 ∙', 'refl', 'ways.cond-then %s (@deeper .ensures) (@if1 .left) %s (@arm .ensures) (@set-conds .ensures)' % (b, GOT))),
+            'returns-3': 'ways.many-end %s (@loop .inv .0) (@loop-test .left)' % at,
+        })
+        return
     A[m] = {
         'loop-holds': '(omega arith, refl, laws.many-none %s (@args .i) (@pre .1 .planted))' % f,
         call + '-requires': '(%s, heres.here-behind %s %s refl (@loop .k) (@loop-test .taken) (@loop .inv .2))' % (M, sim, H),
@@ -85,13 +129,6 @@ A['full'] = {
     'after-requires': '(%s, heres.here-still %s (%s) (@enum-told .given .1) refl (@own .ensures))' % (ML, OWN, UP),
     'returns-3': 'ways.full-then %s (@if1 .left) (@enum-told .given .1) (@own .ensures) (@after .ensures)' % L,
 }
-for m, call in (('bare', 'own'), ('inner', 'body')):
-    A[m] = {
-        'returns': 'ways.%s-none %s (@pre .1 .planted) (@if1 .taken)' % (m, L),
-        call + '-requires': '(%s, %s)' % (ML, UP),
-        'returns-2': 'ways.%s-of %s (@if1 .left) (@%s .ensures)' % (m, L, call),
-    }
-
 # visit_mut_stmts
 S = '%s (@args .p) (@args .n) (@args .i)' % V
 T1 = '(heres.here-turn (@set-inlining .ensures) %s)' % H
@@ -125,9 +162,18 @@ def scope(m, kind, call, body, unf):
         'returns-3': (unf, 'ways.scope-then %s (@enter .ensures) (@if1 .left) %s (@%s .ensures) (@leave .ensures)' % (k, GOT, call)),
     }
 scope('block', 'vBlock', 'body', 'scriptF %s (@args .p) (@args .i)' % V, 'visitMutBlockStmtF scriptF')
-scope('arm', '(scopeKindOf (@args .kind))', 'bare', 'walksF (@args .d) .bare (@args .p) (@args .i)', 'visitWithChildF')
+AK0 = '(scopeKindOf (@args .kind)) (walksF (@args .d) .bare (@args .p) (@args .i)) (@enter .ensures) (@if1 .left)'
+A['arm'] = {
+    'enter-requires': '@pre .1 .planted',
+    'returns': ('visitWithChildF', 'ways.scope-full (scopeKindOf (@args .kind)) (walksF (@args .d) .bare (@args .p) (@args .i)) (@enter .ensures) (@if1 .taken)'),
+    'returns-2': ('visitWithChildF', 'ways.scope-stop %s refl (ways.bare-none (@args .p) (@args .i) (@args .d) (@enter .ensures .ok .planted) (@if2 .taken))' % AK0),
+    'sub-own': 'omega (arith, @if2 .left)',
+    'own-requires': '(omega (arith, @pre .0, @if2 .left), heres.here-up (@if2 .left) (heres.here-rest (opening (scopeKindOf (@args .kind))) (@if1 .left) (@enter .ensures) %s))' % H,
+    'returns-3': ('visitWithChildF', 'ways.scope-stop %s %s (ways.bare-of (@args .p) (@args .i) (@args .d) (@if2 .left) (@own .ensures))' % (AK0, TOLD)),
+    'leave-requires': '@own .ensures .ok .planted',
+    'returns-4': ('visitWithChildF', 'ways.scope-then %s %s (ways.bare-of (@args .p) (@args .i) (@args .d) (@if2 .left) (@own .ensures)) (@leave .ensures)' % (AK0, GOT)),
+}
 scope('arrow', '(vFn false)', 'kids', 'plainF %s (@args .p) (@args .i)' % V, 'visitMutArrowExprF')
-scope('catch', 'vBlock', 'caught', 'caughtF %s (@args .p) (@args .i)' % V, 'visitMutCatchClauseF')
 scope('case', 'vBlock', 'items', 'itemsF %s (@args .p) (@args .i)' % V, 'visitMutSwitchCaseF')
 
 # all but the last, and the last
@@ -140,7 +186,18 @@ def each_but(m, last, body, extra):
         last + '-requires': '(%s, heres.here-behind (sim-each (sims (@args .d) .full (@args .p))) %s %s (@args .n - 1) (omega (arith, @if1 .left)) (@many .ensures))' % (M, H, GOT),
         'returns-3': 'ways.but-then %s (@if1 .left) %s (@many .ensures) (@%s .ensures)' % (k, GOT, last),
     }
-each_but('params', 'inner', 'walksF (@args .d) .inner (@args .p)', '')
+PK = '(walksF (@args .d) .full (@args .p)) (walksF (@args .d) .inner (@args .p)) (@args .n) (@args .i)'
+J0 = '(@r .given .0 .0)'
+PH = '(heres.here-behind (sim-each (sims (@args .d) .full (@args .p))) %s %s (@args .n - 1) (omega (arith, @if1 .left)) (@many .ensures))' % (H, GOT)
+A['params'] = {
+    'returns': 'ways.but-none %s (@if1 .taken) (@pre .1 .planted)' % PK,
+    'many-requires': '(%s, heres.here-less %s)' % (M, H),
+    'returns-2': 'ways.but-stop %s (@if1 .left) %s (@many .ensures)' % (PK, TOLD),
+    'returns-3': 'ways.but-then %s (@if1 .left) %s (@many .ensures) (ways.inner-none (@args .p) %s (@args .d) (@many .ensures .ok .planted) (@if2 .taken))' % (PK, GOT, J0),
+    'sub-body': 'omega (arith, @if2 .left)',
+    'body-requires': '(omega (arith, @pre .0, @if2 .left), heres.here-up (@if2 .left) %s)' % PH,
+    'returns-4': 'ways.but-then %s (@if1 .left) %s (@many .ensures) (ways.inner-of (@args .p) %s (@args .d) (@if2 .left) (@body .ensures))' % (PK, GOT, J0),
+}
 each_but('loops', 'arm', 'visitWithChildF %s (@args .p) vLoop' % V, '')
 
 SKIP = '(ways.did-skip (%s) (%s) (@skip .ensures .0))'
@@ -151,33 +208,19 @@ A['tail'] = {
     'returns-2': 'ways.split-then skip (many (walksF (@args .d) .full (@args .p))) (@args .n) (@args .i) (@if1 .left) refl %s (@many .ensures)' % (SKIP % ('@args .i', '@pre .1 .planted')),
 }
 
-B = '(walksF (@args .d) .full (@args .p) (@args .i))'
-A['test'] = {
-    'set-in-test-requires': '@pre .1 .planted',
-    'full-requires': '(%s, heres.here-turn (@set-in-test .ensures) %s)' % (M, H),
-    'returns': ('testedF', 'ways.test-stop %s (@set-in-test .ensures) %s (@full .ensures)' % (B, TOLD)),
-    'set-in-test-requires-2': '@full .ensures .ok .planted',
-    'returns-2': ('testedF', 'ways.test-then %s (@set-in-test .ensures) %s (@full .ensures) (@set-in-test2 .ensures)' % (B, GOT)),
-}
-B = '(visitWithChildF %s (@args .p) vCond (@args .i))' % V
-A['cond'] = {
-    'deeper-requires': '@pre .1 .planted',
-    'returns': ('visitWithChildF', 'ways.cond-full %s (@deeper .ensures) (@if1 .taken)' % B),
-    'arm-requires': '(%s, heres.here-act _ (@if1 .left) (@deeper .ensures) %s)' % (M, H),
-    'returns-2': ('visitWithChildF', 'ways.cond-stop %s (@deeper .ensures) (@if1 .left) %s (@arm .ensures)' % (B, TOLD)),
-    'set-conds-requires': '@arm .ensures .ok .planted',
-    'returns-3': ('visitWithChildF', 'ways.cond-then %s (@deeper .ensures) (@if1 .left) %s (@arm .ensures) (@set-conds .ensures)' % (B, GOT)),
-}
-
 # an if statement: its test, and its branches as children
 G = 'λ q. splitF (testedF %s q) (many (visitWithChildF %s q vCond))' % (V, V)
 K = '(testedF %s %s) (many (visitWithChildF %s %s vCond)) %s %s' % (V, P1, V, P1, N, I1)
+B = '(walksF (@args .d) .full %s %s)' % (P1, I1)
+TH = '(heres.here-turn (@set-in-test .ensures) %s)' % KIDS
 A['ifs'] = {
     'returns': ('visitMutIfStmtF', kids(G, H, 'ways.split-none %s (@if1 .taken) (@pre .1 .planted)' % K)),
-    'test-requires': '(%s, heres.here-one (@if1 .left) %s)' % (M, KIDS),
-    'returns-2': ('visitMutIfStmtF', kids(G, H, 'ways.split-stop %s (@if1 .left) %s (@test .ensures)' % (K, TOLD))),
-    'arms-requires': '(%s, heres.here-next (sim-tested (sims (@args .d)) %s) %s %s (@if1 .left) (@test .ensures))' % (M, P1, KIDS, GOT),
-    'returns-3': ('visitMutIfStmtF', kids(G, H, 'ways.split-then %s (@if1 .left) %s (@test .ensures) (@arms .ensures)' % (K, GOT))),
+    'set-in-test-requires': '@pre .1 .planted',
+    'full-requires': '(%s, heres.here-one (@if1 .left) %s)' % (M, TH),
+    'returns-2': ('visitMutIfStmtF testedF', kids(G, H, 'ways.split-stop %s (@if1 .left) %s (ways.test-stop %s (@set-in-test .ensures) %s (@full .ensures))' % (K, TOLD, B, TOLD))),
+    'set-in-test-requires-2': '@full .ensures .ok .planted',
+    'arms-requires': '(%s, heres.here-turn (@set-in-test2 .ensures) (heres.here-next (sims (@args .d) .full %s) %s %s (@if1 .left) (@full .ensures)))' % (M, P1, TH, GOT),
+    'returns-3': ('visitMutIfStmtF testedF', kids(G, H, 'ways.split-then %s (@if1 .left) refl (ways.test-then %s (@set-in-test .ensures) %s (@full .ensures) (@set-in-test2 .ensures)) (@arms .ensures)' % (K, B, GOT))),
 }
 
 # a while statement: its heads written, then walked
@@ -241,19 +284,6 @@ A['fexpr'] = dict(split_skip('', lambda x: FY % ('laws.act-then _ (@if2 .left) (
     'write-name-requires': 'heres.at-skip ' + H,
     'returns-2': ('visitMutFnExprF', FY % 'laws.act-stop _ (@if2 .taken) (@write-name .ensures)'),
 })
-# a catch clause of a try statement, and a parameter of it
-A['part'] = {
-    'skip-requires': 'heres.at-skip ' + H,
-    'returns': 'ways.iff-no _ _ (ways.kind-no %s 17 (@kind-at .ensures) (@if1 .taken)) (ways.did-skip (@args .i) (@pre .1 .planted) (@skip .ensures .0))' % H,
-    'full-requires': '(%s, %s)' % (M, H),
-    'returns-2': 'ways.iff-yes _ _ (ways.kind-yes %s (@kind-at .ensures) (@if1 .left)) (@full .ensures)' % H,
-}
-A['bind'] = {
-    'full-requires': '(%s, %s)' % (M, H),
-    'returns': ('catchParamF', 'laws.did-stop _ _ %s (@full .ensures)' % TOLD),
-    'mark-caught-requires': 'heres.name-low %s (@kind-at .ensures) (@num-at .ensures) (@full .ensures .ok .planted)' % H,
-    'returns-2': 'ways.bound-then %s %s (@kind-at .ensures) (@num-at .ensures) %s (@full .ensures) (@mark-caught .ensures)' % (V, H, GOT),
-}
 # a try statement
 TF = '(λ i₁. act (writeTree true) i₁ >> skip i₁)'
 TG = 'λ q. splitF %s (λ n i₁. clausesF %s q n i₁)' % (TF, V)
@@ -277,14 +307,25 @@ CK = '(catchParamF %s %s) (walksF (@args .d) .full %s) %s %s' % (V, P1, P1, N, I
 MT = lambda mode, m, x: 'ways.modify-then (setPatMode %s) (%s) (@set-pat-mode .ensures) (%s)' % (mode, m, x)
 SP = '(suc (@args .p))'
 CM = 'onKidsF (eachButF (catchParamF %s %s) (walksF (@args .d) .full %s)) (@args .i)' % (V, SP, SP)
-A['caught'] = {
-    'set-pat-mode-requires': '@pre .1 .planted',
-    'arity-at-requires': 'heres.at-node ' + HT,
-    'returns': MT('asCatch', CM, kids(CG, HT, 'ways.but-none %s (@if1 .taken) (%s .planted)' % (CK, HT))),
-    'binds-requires': '(%s, heres.here-less %s)' % (M, KT),
-    'returns-2': MT('asCatch', CM, kids(CG, HT, 'ways.but-stop %s (@if1 .left) %s (@binds .ensures)' % (CK, TOLD))),
-    'full-requires': '(%s, heres.here-behind (sim-each (sim-catchParam (sims (@args .d)) %s)) %s %s (%s - 1) (omega (arith, @if1 .left)) (@binds .ensures))' % (M, P1, KT, GOT, N),
-    'returns-3': MT('asCatch', CM, kids(CG, HT, 'ways.but-then %s (@if1 .left) %s (@binds .ensures) (@full .ensures)' % (CK, GOT))),
+INB = '(heres.here-rest (opening vBlock) (@if1 .left) (@enter .ensures) %s)' % H
+HT2 = '(heres.here-turn (@set-pat-mode .ensures) %s)' % INB
+KT2 = '(heres.here-kids %s %s)' % (HT2, AR)
+SCOPE = 'vBlock (caughtF %s (@args .p) (@args .i)) (@enter .ensures)' % V
+IN = lambda x: '(%s)' % MT('asCatch', CM, 'ways.on-kids (%s) %s %s (%s)' % (CG, HT2, AR, x))
+TOLD2, GOT2 = '(@enum-told2 .given .1)', '(@s .given .1)'
+A['catch'] = {
+    'enter-requires': '@pre .1 .planted',
+    'returns': ('visitMutCatchClauseF', 'ways.scope-full %s (@if1 .taken)' % SCOPE),
+    'set-pat-mode-requires': '@enter .ensures .ok .planted',
+    'arity-at-requires': 'heres.at-node ' + HT2,
+    'leave-requires': '@set-pat-mode .ensures .ok .planted',
+    'returns-2': ('visitMutCatchClauseF', 'ways.scope-then %s (@if1 .left) refl %s (@leave .ensures)' % (SCOPE, IN('ways.but-none %s (@if2 .taken) (%s .planted)' % (CK, HT2)))),
+    'binds-requires': '(%s, heres.here-less %s)' % (M, KT2),
+    'returns-3': ('visitMutCatchClauseF', 'ways.scope-stop %s (@if1 .left) %s %s' % (SCOPE, TOLD, IN('ways.but-stop %s (@if2 .left) %s (@binds .ensures)' % (CK, TOLD)))),
+    'full-requires': '(%s, heres.here-behind (sim-each (sim-catchParam (sims (@args .d)) %s)) %s %s (%s - 1) (omega (arith, @if2 .left)) (@binds .ensures))' % (M, P1, KT2, GOT, N),
+    'returns-4': ('visitMutCatchClauseF', 'ways.scope-stop %s (@if1 .left) %s %s' % (SCOPE, TOLD2, IN('ways.but-then %s (@if2 .left) %s (@binds .ensures) (@full .ensures)' % (CK, GOT)))),
+    'leave-requires-2': '@full .ensures .ok .planted',
+    'returns-5': ('visitMutCatchClauseF', 'ways.scope-then %s (@if1 .left) %s %s (@leave2 .ensures)' % (SCOPE, GOT2, IN('ways.but-then %s (@if2 .left) %s (@binds .ensures) (@full .ensures)' % (CK, GOT)))),
 }
 # a switch case's inside
 IG = 'λ q. splitF (walksF (@args .d) .full q) (visitMutStmtsF %s q)' % V
@@ -306,12 +347,6 @@ A['unary'] = {
     'returns-2': ('visitMutUnaryExprF visitMutUpdateExprF', 'ways.iff-yes _ _ (ways.form-yes %s (@form-at .ensures) (@if1 .left)) (@update .ensures)' % H),
 }
 J = '(@r .given .0 .0)'
-A['call'] = {
-    'args-requires': '(%s, %s)' % (M, H),
-    'returns': ('visitMutCallExprF', 'laws.did-stop _ _ %s (@args2 .ensures)' % TOLD),
-    'store-barrier-requires': '@args2 .ensures .ok .planted',
-    'returns-2': ('visitMutCallExprF', 'laws.did-then %s _ %s (@args2 .ensures) (ways.act-end %s refl (@store-barrier .ensures))' % (J, GOT, J)),
-}
 # a for statement
 U = 'visitMutForStmtF'
 FW = lambda x: (U, 'laws.act-then _ (@if1 .left) (@write-kids-but-last .ensures) (%s)' % x)
@@ -359,15 +394,21 @@ ON = lambda x: 'ways.on-kids (λ q. splitF %s %s) %s %s (%s)' % (F1('q'), G1('q'
 S1 = '(sims (@args .d) .full %s)' % P1
 NXT = '(heres.here-tree %s %s refl (@mark-callee .ensures) (heres.here-next %s %s %s (@if1 .left) (@full .ensures)))' % (CALLEE, I1, S1, KIDS, GOT)
 FST = '(laws.did-then %s _ %s (@full .ensures) (ways.act-end %s refl (@mark-callee .ensures)))' % (J, GOT, J)
-A['args'] = {
-    'returns': ON('ways.split-none %s (@if1 .taken) (@pre .1 .planted)' % KK),
+CALL = lambda x: ('visitMutCallExprF', x)
+ARGS_ = ON('ways.split-then %s (@if1 .left) refl %s (laws.act-then _ (@if2 .left) (@write-args .ensures) (@many .ensures))' % (KK, FST))
+A['call'] = {
+    'arity-at-requires': 'heres.at-node ' + H,
+    'store-barrier-requires': '@pre .1 .planted',
+    'returns': CALL('laws.did-then %s _ refl (%s) (ways.act-end %s refl (@store-barrier .ensures))' % (I1, ON('ways.split-none %s (@if1 .taken) (@pre .1 .planted)' % KK), I1)),
     'full-requires': '(%s, heres.here-one (@if1 .left) %s)' % (M, KIDS),
-    'returns-2': ON('ways.split-stop %s (@if1 .left) %s (laws.did-stop _ _ %s (@full .ensures))' % (KK, TOLD, TOLD)),
+    'returns-2': CALL('laws.did-stop _ _ %s (%s)' % (TOLD, ON('ways.split-stop %s (@if1 .left) %s (laws.did-stop _ _ %s (@full .ensures))' % (KK, TOLD, TOLD)))),
     'mark-callee-requires': 'heres.at-skip (heres.here-still %s (heres.here-one (@if1 .left) %s) %s refl (@full .ensures))' % (S1, KIDS, GOT),
     'write-args-requires': 'heres.at-trees ' + NXT,
-    'returns-3': ON('ways.split-then %s (@if1 .left) refl %s (laws.act-stop _ (@if2 .taken) (@write-args .ensures))' % (KK, FST)),
+    'returns-3': CALL('laws.did-stop _ _ refl (%s)' % ON('ways.split-then %s (@if1 .left) refl %s (laws.act-stop _ (@if2 .taken) (@write-args .ensures))' % (KK, FST))),
     'many-requires': '(%s, heres.here-act _ (@if2 .left) (@write-args .ensures) %s)' % (M, NXT),
-    'returns-4': ON('ways.split-then %s (@if1 .left) refl %s (laws.act-then _ (@if2 .left) (@write-args .ensures) (@many .ensures))' % (KK, FST)),
+    'returns-4': CALL('laws.did-stop _ _ %s (%s)' % (TOLD2, ARGS_)),
+    'store-barrier-requires-2': '@many .ensures .ok .planted',
+    'returns-5': CALL('laws.did-then (@s .given .0 .0) _ %s (%s) (ways.act-end (@s .given .0 .0) refl (@store-barrier2 .ensures))' % (GOT2, ARGS_)),
 }
 first_step('forin', HT, KT, 'writeTree true', 'λ ts. writeForest true (butLast ts)', 'write-tree', 'write-but-last', 'loops', lambda q: 'eachButF (walksF (@args .d) .full %s) (visitWithChildF %s %s vLoop)' % (q, V, q), lambda x, m: MT('asParam', m, x), 'visitMutForInStmtF')
 A['forin'].update({'set-pat-mode-requires': '@pre .1 .planted', 'arity-at-requires': 'heres.at-node ' + HT})
@@ -581,6 +622,6 @@ def answers0(m, need):
     if need.startswith('enum-') or need.startswith('cast-'): return 'search needs'
     if need.startswith('add-') and m != 'func': return 'omega (arith, %s .depth, heres.at-node %s .1)' % (first, first)
     if need.startswith('sub-') : return 'omega (arith, %s .left)' % {'fdecl': '@if2', 'fexpr': '@if3', 'items': '@if2', 'logic': '@if3'}.get(m, '@if1')
-    if need in ('arity-at-requires', 'form-at-requires', 'kind-at-requires', 'num-at-requires') and m in ('kids', 'body', 'ifs', 'args', 'tries', 'items', 'own', 'after', 'logic', 'fexpr', 'decl', 'unary', 'bind', 'part'):
+    if need in ('arity-at-requires', 'form-at-requires', 'kind-at-requires', 'num-at-requires') and m in ('kids', 'body', 'ifs', 'tries', 'items', 'own', 'after', 'logic', 'fexpr', 'decl', 'unary'):
         return 'heres.at-node ' + H
     return None

@@ -5,10 +5,10 @@ ghost use Rattle.state.specs.State.{abs};
 ghost use Rattle.walk_laws.specs.Did.{Did};
 ghost use Rattle.pass.specs.Run.{RunsIs};
 use ident_steps::Next;
-use inlining::walk::program;
 use state::set_changed;
 use state::set_inlining;
 use state::set_is_first_run;
+use walk::program;
 
 // Runs done and the last one's mark, or a refusal's number.
 pub enum Ran {

@@ -260,6 +260,10 @@ pub act-end : {w u : List ℕ} {n : ℕ} {r : Res (Flat St) Nothing} (j : ℕ) �
 act-end j z a = act-then (λ x st. done st j) z a (did-here j (a .ok .planted))
 
 -- a catch clause's parameter
+pub bound-stop : (v : WalksF) (p i : ℕ) {w u : List ℕ} {a : Next} {m : ℕ} → a ≡ Refused m → Did w u a (v .full p i (abs w)) → Did w u a (catchParamF v p i (abs w))
+unfolding catchParamF
+bound-stop v p i {m = m} e d = did-stop m _ e d
+
 pub bound-then : (v : WalksF) {w u y : List ℕ} {a : Next} {i p d k x j : ℕ} → Here w 1 i p d → k ≡ nodeOf w i .kind → x ≡ nodeOf w i .num → a ≡ At j → Did w u a (v .full p i (abs w)) → Act u y 0 (onRest (λ s. when (eqb k 20 && not (s .inlining)) (mark (preventInline x)) s) (abs u)) → Did w y (At j) (catchParamF v p i (abs w))
 unfolding catchParamF
 bound-then v {w} {u} {y} {a} {i} {p} {k = k} {j = j} h e s q d t = did-then j _ q d (act-end j refl (subst (λ (m : ℕ). Act u y 0 (onRest (λ s. when (eqb m 20 && not (s .inlining)) (mark (preventInline (nodeAt (abs w) i .num))) s) (abs u))) (sym (kind-is h e)) (subst (λ (m : ℕ). Act u y 0 (onRest (λ s. when (eqb k 20 && not (s .inlining)) (mark (preventInline m)) s) (abs u))) (sym (num-is h s)) t)))

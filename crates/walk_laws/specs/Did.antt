@@ -51,13 +51,6 @@ Headed w n i false = (headBind (forestAt (abs w) n i) ≡ some (treeAt (abs w) i
 abbrev pub declrEndF : WalksF → ℕ → ℕ → Option Tree → Bool → VarType → Many St
 declrEndF v p q o b k n i = λ st. andThen (declrToF v p o b k n i st) (λ r st₁. done (setArity q (r .0) st₁) (r .1))
 
--- visitMutCallExprF without its barrier
-abbrev pub argsF : Bool → WalksF → ℕ → One St
-argsF call v p i = onKidsF (splitF (λ i₁. do
-  j ← v .full (suc p) i₁
-  act (λ c s. when (not (s .inlining)) (mark (markThisSensitive (identOf (some c)))) s) i₁
-  ret j) (λ n i₁. actF (λ ts. when call (writeForest false ts)) n i₁ >> many (v .full (suc p)) n i₁)) i
-
 -- of visitMutTryStmtF: a part behind the block, and all
 abbrev pub clauseF : WalksF → ℕ → One St
 clauseF v p i = λ st. iff (eqb (nodeAt st i .kind) 17) (v .full p i) (skip i) st

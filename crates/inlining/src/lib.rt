@@ -1,3 +1,0 @@
-// mod.rs: the walks.
-pub mod steps;
-pub mod walk;

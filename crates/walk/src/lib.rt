@@ -1,0 +1,832 @@
+// mod.rs: its walks over the tree's nodes in the working words. They call each other in a cycle; the depth that is left falls at every call.
+pub mod steps;
+
+ghost use Prim.Native.Nat.{_+_, _≤_};
+ghost use mathlib.Core.Path.{_≡_};
+ghost use mathlib.Core.Bool.{true};
+ghost use mathlib.Core.Option.{some};
+ghost use Rattle.tree.specs.Combine.{many, splitF, eachButF, skip, treeAt};
+ghost use Rattle.words.specs.Layout.{yes, nodeOf};
+ghost use Rattle.nodes.specs.Nodes.{Planted};
+ghost use Rattle.scopes.specs.State.{scopeKindOf};
+ghost use Rattle.definition.specs.Scope.{loop};
+ghost use Rattle.flat.specs.WalkF.{walksF, visitMutStmtsF, plainF, visitMutBlockStmtF, scriptF, visitWithChildF, visitMutVarDeclF, visitMutFunctionF, visitMutFnDeclF, visitMutFnExprF, visitMutArrowExprF, visitMutIfStmtF, visitMutWhileStmtF, visitMutForStmtF, visitMutForInStmtF, visitMutTryStmtF, catchParamF, visitMutCatchClauseF, visitMutSwitchCaseF, visitMutPatF, visitMutUnaryExprF, visitMutUpdateExprF, visitMutCallExprF, visitMutAssignExprF, ownF, logicalF, afterF, inCondF, nameLastF, visitMutVarDeclaratorF, afterIdentF};
+ghost use Rattle.state.specs.State.{abs, rest};
+ghost use Rattle.walk_laws.specs.Did.{Did, Here, clausesF, itemsF, declrEndF, Bound};
+use declare_steps::Told;
+use declare_steps::over;
+use declare_steps::stays;
+use ident_steps::Found;
+use ident_steps::Next;
+use ident_steps::assign::after_assign;
+use ident_steps::constant;
+use ident_steps::deeper;
+use ident_steps::enter;
+use ident_steps::fate;
+use ident_steps::ident_analysis;
+use ident_steps::inline_constant;
+use ident_steps::inline_undefined;
+use ident_steps::inline_value;
+use ident_steps::leave;
+use look::ident_at;
+use nodes::skip;
+use records::Constant;
+use state::set_conds;
+use state::set_in_test;
+use state::set_inlining;
+use state::set_pat_mode;
+use state::set_var_decl_kind;
+use steps::decl_kind;
+use steps::declr_end;
+use steps::nameless;
+use words::arity_at;
+use words::form_at;
+use words::kind_at;
+use words::num_at;
+use write_steps::assign::assign_first;
+use write_steps::assign::assign_last;
+use write_steps::declared::declare_name;
+use write_steps::declared::pat_step;
+use write_steps::mark_callee;
+use write_steps::mark_caught;
+use write_steps::store_barrier;
+use write_steps::write_args;
+use write_steps::write_but_last;
+use write_steps::write_kids;
+use write_steps::write_kids_but_last;
+use write_steps::write_name;
+use write_steps::write_tree;
+
+// A node as its parent's default walk calls it: its own handler, then the steps of visit_mut_expr.
+fn full(w: &mut [u32], p: usize, l: usize, i: usize) -> Next
+    requires { ⌜ Here (now w) 1 i p l ⌝ }
+    ensures { λ r. ⌜ Did (now (w .entry)) (now (w .exit)) r (walksF l .full p i (abs (now (w .entry)))) ⌝ }
+{
+    if l == 0 {
+        return Next::Refused(8);
+    }
+    let r = own(w, p, l - 1, i);
+    let Next::At(_) = r else {
+        return r;
+    };
+    after(w, p, l - 1, i)
+}
+
+// visit_mut_children_with of a list: n trees from i on.
+fn many(w: &mut [u32], p: usize, d: usize, n: usize, i: usize) -> Next
+    requires { ⌜ Here (now w) n i p d ⌝ }
+    ensures { λ r. ⌜ Did (now (w .entry)) (now (w .exit)) r (many (walksF d .full p) n i (abs (now (w .entry)))) ⌝ }
+{
+    let mut at = i;
+    let mut k: usize = 0;
+    while k < n {
+        let r = full(w, p, d, at);
+        let Next::At(j) = r else {
+            return r;
+        };
+        at = j;
+        k += 1;
+    }
+    Next::At(at)
+}
+
+// visit_mut_stmts: plainly in Analysis; in Inlining both ways.
+fn stmts(w: &mut [u32], p: usize, d: usize, n: usize, i: usize) -> Next
+    requires { ⌜ Here (now w) n i p d ⌝ }
+    ensures { λ r. ⌜ Did (now (w .entry)) (now (w .exit)) r (visitMutStmtsF (walksF d) p n i (abs (now (w .entry)))) ⌝ }
+{
+    if w[6] == 0 {
+        return many(w, p, d, n, i);
+    }
+    set_inlining(w, 0);
+    let r = many(w, p, d, n, i);
+    let Next::At(_) = r else {
+        return r;
+    };
+    set_inlining(w, 1);
+    many(w, p, d, n, i)
+}
+
+// The statements of a script, or of a function's body.
+fn body(w: &mut [u32], p: usize, d: usize, i: usize) -> Next
+    requires { ⌜ Here (now w) 1 i p (d + 1) ⌝ }
+    ensures { λ r. ⌜ Did (now (w .entry)) (now (w .exit)) r (scriptF (walksF d) p i (abs (now (w .entry)))) ⌝ }
+{
+    let n = arity_at(w, i) as usize;
+    stmts(w, p + 1, d, n, i + 1)
+}
+
+// visit_mut_children_with.
+fn kids(w: &mut [u32], p: usize, d: usize, i: usize) -> Next
+    requires { ⌜ Here (now w) 1 i p (d + 1) ⌝ }
+    ensures { λ r. ⌜ Did (now (w .entry)) (now (w .exit)) r (plainF (walksF d) p i (abs (now (w .entry)))) ⌝ }
+{
+    let n = arity_at(w, i) as usize;
+    many(w, p + 1, d, n, i + 1)
+}
+
+// visit_mut_block_stmt.
+fn block(w: &mut [u32], p: usize, d: usize, i: usize) -> Next
+    requires { ⌜ Here (now w) 1 i p (d + 1) ⌝ }
+    ensures { λ r. ⌜ Did (now (w .entry)) (now (w .exit)) r (visitMutBlockStmtF (walksF d) p i (abs (now (w .entry)))) ⌝ }
+{
+    let inl = w[6];
+    let decl = w[8];
+    let mode = w[9];
+    let test = w[10];
+    let e = enter(w, 2);
+    if e != 0 {
+        return Next::Refused(e);
+    }
+    let r = body(w, p, d, i);
+    let Next::At(j) = r else {
+        return r;
+    };
+    leave(w, inl, decl, mode, test);
+    Next::At(j)
+}
+
+// visit_with_child.
+fn arm(w: &mut [u32], p: usize, d: usize, kind: u32, i: usize) -> Next
+    requires { ⌜ Here (now w) 1 i p d ⌝ }
+    ensures { λ r. ⌜ Did (now (w .entry)) (now (w .exit)) r (visitWithChildF (walksF d) p (scopeKindOf kind) i (abs (now (w .entry)))) ⌝ }
+{
+    let inl = w[6];
+    let decl = w[8];
+    let mode = w[9];
+    let test = w[10];
+    let e = enter(w, kind);
+    if e != 0 {
+        return Next::Refused(e);
+    }
+    if d == 0 {
+        return Next::Refused(8);
+    }
+    let r = own(w, p, d - 1, i);
+    let Next::At(j) = r else {
+        return r;
+    };
+    leave(w, inl, decl, mode, test);
+    Next::At(j)
+}
+
+// visit_with_child of each of a list.
+fn arms(w: &mut [u32], p: usize, d: usize, kind: u32, n: usize, i: usize) -> Next
+    requires { ⌜ Here (now w) n i p d ⌝ }
+    ensures { λ r. ⌜ Did (now (w .entry)) (now (w .exit)) r (many (visitWithChildF (walksF d) p (scopeKindOf kind)) n i (abs (now (w .entry)))) ⌝ }
+{
+    let mut at = i;
+    let mut k: usize = 0;
+    while k < n {
+        let r = arm(w, p, d, kind, at);
+        let Next::At(j) = r else {
+            return r;
+        };
+        at = j;
+        k += 1;
+    }
+    Next::At(at)
+}
+
+// visit_mut_var_decl.
+fn decl(w: &mut [u32], p: usize, d: usize, i: usize) -> Next
+    requires { ⌜ Here (now w) 1 i p (d + 1) ⌝ }
+    ensures { λ r. ⌜ Did (now (w .entry)) (now (w .exit)) r (visitMutVarDeclF (walksF d) p i (abs (now (w .entry)))) ⌝ }
+{
+    let f = form_at(w, i);
+    let k = decl_kind(f);
+    set_var_decl_kind(w, k);
+    kids(w, p, d, i)
+}
+
+// A declarator's name is walked last; what stands behind it is left.
+fn name(w: &mut [u32], p: usize, d: usize, n: usize, i: usize) -> Next
+    requires { ⌜ (Here (now w) 1 i p (d + 1)) × (n ≡ nodeOf (now w) i .arity) ⌝ }
+    ensures { λ r. ⌜ Did (now (w .entry)) (now (w .exit)) r (nameLastF (walksF d) p n (i + 1) (abs (now (w .entry)))) ⌝ }
+{
+    if n == 0 {
+        return Next::At(i + 1);
+    }
+    let r = full(w, p + 1, d, i + 1);
+    let Next::At(_) = r else {
+        return r;
+    };
+    Next::At(skip(w, i))
+}
+
+// A declarator in Inlining: its initialiser is walked again, and recorded or not.
+fn init(w: &mut [u32], p: usize, d: usize, n: usize, i: usize) -> Next
+    requires { ⌜ (Here (now w) 1 i p (d + 1)) × (n ≡ nodeOf (now w) i .arity) × (Bound (now w) n (i + 1)) ⌝ }
+    ensures { λ r. ⌜ Did (now (w .entry)) (now (w .exit)) r (declrEndF (walksF d) p i (some (treeAt (abs (now (w .entry))) (i + 1))) true (rest (now (w .entry)) .varDeclKind) n (i + 1) (abs (now (w .entry)))) ⌝ }
+{
+    let kind = w[8];
+    if 3 <= kind {
+        return name(w, p, d, n, i);
+    }
+    let x = ident_at(w, i + 1);
+    let j = skip(w, i + 1);
+    if stays(w, x, n - 1, j) {
+        return Next::At(skip(w, i));
+    }
+    if n == 1 {
+        return declr_end(w, x, kind, i, 0, j, j);
+    }
+    let r = full(w, p + 1, d, j);
+    let Next::At(_) = r else {
+        return r;
+    };
+    let end = skip(w, i);
+    declr_end(w, x, kind, i, n - 1, j, end)
+}
+
+// visit_mut_var_declarator.
+fn declr(w: &mut [u32], p: usize, d: usize, i: usize) -> Next
+    requires { ⌜ Here (now w) 1 i p (d + 1) ⌝ }
+    ensures { λ r. ⌜ Did (now (w .entry)) (now (w .exit)) r (visitMutVarDeclaratorF (walksF d) p i (abs (now (w .entry)))) ⌝ }
+{
+    let n = arity_at(w, i) as usize;
+    let r = tail(w, p + 1, d, n, i + 1);
+    let Next::At(_) = r else {
+        return r;
+    };
+    set_pat_mode(w, 3);
+    if nameless(w, n, i + 1) {
+        return name(w, p, d, n, i);
+    }
+    if w[6] != 0 {
+        return init(w, p, d, n, i);
+    }
+    let x = ident_at(w, i + 1);
+    match over(w, x, n, i + 1) {
+        Told::Stopped(m) => Next::Refused(m),
+        Told::Answer(gone) => {
+            if gone {
+                return Next::At(skip(w, i));
+            }
+            name(w, p, d, n, i)
+        }
+    }
+}
+
+// visit_mut_function: its parameters and its body.
+fn params(w: &mut [u32], p: usize, d: usize, n: usize, i: usize) -> Next
+    requires { ⌜ Here (now w) n i p d ⌝ }
+    ensures { λ r. ⌜ Did (now (w .entry)) (now (w .exit)) r (eachButF (walksF d .full p) (walksF d .inner p) n i (abs (now (w .entry)))) ⌝ }
+{
+    if n == 0 {
+        return Next::At(i);
+    }
+    let r = many(w, p, d, n - 1, i);
+    let Next::At(j) = r else {
+        return r;
+    };
+    if d == 0 {
+        return Next::Refused(8);
+    }
+    body(w, p, d - 1, j)
+}
+
+// visit_mut_function.
+fn func(w: &mut [u32], p: usize, d: usize, named: u32, n: usize, i: usize) -> Next
+    requires { ⌜ (Here (now w) n i (p + 1) d) × (named ≤ 1) ⌝ }
+    ensures { λ r. ⌜ Did (now (w .entry)) (now (w .exit)) r (visitMutFunctionF (walksF d) p (yes named) n i (abs (now (w .entry)))) ⌝ }
+{
+    let inl = w[6];
+    let decl = w[8];
+    let mode = w[9];
+    let test = w[10];
+    let e = enter(w, 3 + named);
+    if e != 0 {
+        return Next::Refused(e);
+    }
+    set_pat_mode(w, 1);
+    let r = params(w, p + 1, d, n, i);
+    let Next::At(j) = r else {
+        return r;
+    };
+    leave(w, inl, decl, mode, test);
+    Next::At(j)
+}
+
+// visit_mut_fn_decl.
+fn fdecl(w: &mut [u32], p: usize, d: usize, i: usize) -> Next
+    requires { ⌜ Here (now w) 1 i p (d + 1) ⌝ }
+    ensures { λ r. ⌜ Did (now (w .entry)) (now (w .exit)) r (visitMutFnDeclF (walksF d) p i (abs (now (w .entry)))) ⌝ }
+{
+    let e = declare_name(w, i);
+    if e != 0 {
+        return Next::Refused(e);
+    }
+    let n = arity_at(w, i) as usize;
+    if n == 0 {
+        return Next::At(i + 1);
+    }
+    let j = skip(w, i + 1);
+    func(w, p, d, 1, n - 1, j)
+}
+
+// visit_mut_fn_expr.
+fn fexpr(w: &mut [u32], p: usize, d: usize, i: usize) -> Next
+    requires { ⌜ Here (now w) 1 i p (d + 1) ⌝ }
+    ensures { λ r. ⌜ Did (now (w .entry)) (now (w .exit)) r (visitMutFnExprF (walksF d) p i (abs (now (w .entry)))) ⌝ }
+{
+    let n = arity_at(w, i) as usize;
+    let f = form_at(w, i);
+    if f != 1 {
+        return func(w, p, d, 0, n, i + 1);
+    }
+    let e = write_name(w, i);
+    if e != 0 {
+        return Next::Refused(e);
+    }
+    if n == 0 {
+        return Next::At(i + 1);
+    }
+    let j = skip(w, i + 1);
+    func(w, p, d, 0, n - 1, j)
+}
+
+// visit_mut_arrow_expr.
+fn arrow(w: &mut [u32], p: usize, d: usize, i: usize) -> Next
+    requires { ⌜ Here (now w) 1 i p (d + 1) ⌝ }
+    ensures { λ r. ⌜ Did (now (w .entry)) (now (w .exit)) r (visitMutArrowExprF (walksF d) p i (abs (now (w .entry)))) ⌝ }
+{
+    let inl = w[6];
+    let decl = w[8];
+    let mode = w[9];
+    let test = w[10];
+    let e = enter(w, 3);
+    if e != 0 {
+        return Next::Refused(e);
+    }
+    let r = kids(w, p, d, i);
+    let Next::At(j) = r else {
+        return r;
+    };
+    leave(w, inl, decl, mode, test);
+    Next::At(j)
+}
+
+// visit_mut_if_stmt.
+fn ifs(w: &mut [u32], p: usize, d: usize, i: usize) -> Next
+    requires { ⌜ Here (now w) 1 i p (d + 1) ⌝ }
+    ensures { λ r. ⌜ Did (now (w .entry)) (now (w .exit)) r (visitMutIfStmtF (walksF d) p i (abs (now (w .entry)))) ⌝ }
+{
+    let n = arity_at(w, i) as usize;
+    if n == 0 {
+        return Next::At(i + 1);
+    }
+    let old = w[10];
+    set_in_test(w, 1);
+    let r = full(w, p + 1, d, i + 1);
+    let Next::At(j) = r else {
+        return r;
+    };
+    set_in_test(w, old);
+    arms(w, p + 1, d, 0, n - 1, j)
+}
+
+// What stands before a loop's body, and the body as a child.
+fn loops(w: &mut [u32], p: usize, d: usize, n: usize, i: usize) -> Next
+    requires { ⌜ Here (now w) n i p d ⌝ }
+    ensures { λ r. ⌜ Did (now (w .entry)) (now (w .exit)) r (eachButF (walksF d .full p) (visitWithChildF (walksF d) p loop) n i (abs (now (w .entry)))) ⌝ }
+{
+    if n == 0 {
+        return Next::At(i);
+    }
+    let r = many(w, p, d, n - 1, i);
+    let Next::At(j) = r else {
+        return r;
+    };
+    arm(w, p, d, 1, j)
+}
+
+// visit_mut_while_stmt and visit_mut_do_while_stmt.
+fn whiles(w: &mut [u32], p: usize, d: usize, i: usize) -> Next
+    requires { ⌜ Here (now w) 1 i p (d + 1) ⌝ }
+    ensures { λ r. ⌜ Did (now (w .entry)) (now (w .exit)) r (visitMutWhileStmtF (walksF d) p i (abs (now (w .entry)))) ⌝ }
+{
+    let e = write_kids_but_last(w, i);
+    if e != 0 {
+        return Next::Refused(e);
+    }
+    let n = arity_at(w, i) as usize;
+    loops(w, p + 1, d, n, i + 1)
+}
+
+// visit_mut_for_stmt.
+fn fors(w: &mut [u32], p: usize, d: usize, i: usize) -> Next
+    requires { ⌜ Here (now w) 1 i p (d + 1) ⌝ }
+    ensures { λ r. ⌜ Did (now (w .entry)) (now (w .exit)) r (visitMutForStmtF (walksF d) p i (abs (now (w .entry)))) ⌝ }
+{
+    let e = write_kids_but_last(w, i);
+    if e != 0 {
+        return Next::Refused(e);
+    }
+    let f = form_at(w, i);
+    let n = arity_at(w, i) as usize;
+    let r = loops(w, p + 1, d, n, i + 1);
+    let Next::At(j) = r else {
+        return r;
+    };
+    if f == 0 {
+        store_barrier(w);
+    }
+    Next::At(j)
+}
+
+// visit_mut_for_in_stmt and visit_mut_for_of_stmt.
+fn forin(w: &mut [u32], p: usize, d: usize, i: usize) -> Next
+    requires { ⌜ Here (now w) 1 i p (d + 1) ⌝ }
+    ensures { λ r. ⌜ Did (now (w .entry)) (now (w .exit)) r (visitMutForInStmtF (walksF d) p i (abs (now (w .entry)))) ⌝ }
+{
+    set_pat_mode(w, 1);
+    let n = arity_at(w, i) as usize;
+    if n == 0 {
+        return Next::At(i + 1);
+    }
+    let r = full(w, p + 1, d, i + 1);
+    let Next::At(j) = r else {
+        return r;
+    };
+    let e = write_tree(w, i + 1, true);
+    if e != 0 {
+        return Next::Refused(e);
+    }
+    let g = write_but_last(w, n - 1, j, true);
+    if g != 0 {
+        return Next::Refused(g);
+    }
+    loops(w, p + 1, d, n - 1, j)
+}
+
+// The parts of a try statement behind its block.
+fn parts(w: &mut [u32], p: usize, d: usize, n: usize, i: usize) -> Next
+    requires { ⌜ Here (now w) n i p d ⌝ }
+    ensures { λ r. ⌜ Did (now (w .entry)) (now (w .exit)) r (clausesF (walksF d) p n i (abs (now (w .entry)))) ⌝ }
+{
+    let mut at = i;
+    let mut k: usize = 0;
+    while k < n {
+        let kind = kind_at(w, at);
+        if kind != 17 {
+            at = skip(w, at);
+            k += 1;
+            continue;
+        }
+        let r = full(w, p, d, at);
+        let Next::At(j) = r else {
+            return r;
+        };
+        at = j;
+        k += 1;
+    }
+    Next::At(at)
+}
+
+// visit_mut_try_stmt.
+fn tries(w: &mut [u32], p: usize, d: usize, i: usize) -> Next
+    requires { ⌜ Here (now w) 1 i p (d + 1) ⌝ }
+    ensures { λ r. ⌜ Did (now (w .entry)) (now (w .exit)) r (visitMutTryStmtF (walksF d) p i (abs (now (w .entry)))) ⌝ }
+{
+    let n = arity_at(w, i) as usize;
+    if n == 0 {
+        return Next::At(i + 1);
+    }
+    let e = write_tree(w, i + 1, true);
+    if e != 0 {
+        return Next::Refused(e);
+    }
+    let j = skip(w, i + 1);
+    parts(w, p + 1, d, n - 1, j)
+}
+
+// The parameters of a catch clause.
+fn binds(w: &mut [u32], p: usize, d: usize, n: usize, i: usize) -> Next
+    requires { ⌜ Here (now w) n i p d ⌝ }
+    ensures { λ r. ⌜ Did (now (w .entry)) (now (w .exit)) r (many (catchParamF (walksF d) p) n i (abs (now (w .entry)))) ⌝ }
+{
+    let mut at = i;
+    let mut k: usize = 0;
+    while k < n {
+        let kind = kind_at(w, at);
+        let x = num_at(w, at);
+        let r = full(w, p, d, at);
+        let Next::At(j) = r else {
+            return r;
+        };
+        mark_caught(w, kind, x);
+        at = j;
+        k += 1;
+    }
+    Next::At(at)
+}
+
+// visit_mut_catch_clause.
+fn catch(w: &mut [u32], p: usize, d: usize, i: usize) -> Next
+    requires { ⌜ Here (now w) 1 i p (d + 1) ⌝ }
+    ensures { λ r. ⌜ Did (now (w .entry)) (now (w .exit)) r (visitMutCatchClauseF (walksF d) p i (abs (now (w .entry)))) ⌝ }
+{
+    let inl = w[6];
+    let decl = w[8];
+    let mode = w[9];
+    let test = w[10];
+    let e = enter(w, 2);
+    if e != 0 {
+        return Next::Refused(e);
+    }
+    set_pat_mode(w, 2);
+    let n = arity_at(w, i) as usize;
+    if n == 0 {
+        leave(w, inl, decl, mode, test);
+        return Next::At(i + 1);
+    }
+    let r = binds(w, p + 1, d, n - 1, i + 1);
+    let Next::At(j) = r else {
+        return r;
+    };
+    let s = full(w, p + 1, d, j);
+    let Next::At(end) = s else {
+        return s;
+    };
+    leave(w, inl, decl, mode, test);
+    Next::At(end)
+}
+
+// A switch case's test and statements.
+fn items(w: &mut [u32], p: usize, d: usize, i: usize) -> Next
+    requires { ⌜ Here (now w) 1 i p (d + 1) ⌝ }
+    ensures { λ r. ⌜ Did (now (w .entry)) (now (w .exit)) r (itemsF (walksF d) p i (abs (now (w .entry)))) ⌝ }
+{
+    let f = form_at(w, i);
+    if f != 1 {
+        return body(w, p, d, i);
+    }
+    let n = arity_at(w, i) as usize;
+    if n == 0 {
+        return Next::At(i + 1);
+    }
+    let r = full(w, p + 1, d, i + 1);
+    let Next::At(j) = r else {
+        return r;
+    };
+    stmts(w, p + 1, d, n - 1, j)
+}
+
+// visit_mut_switch_case.
+fn case(w: &mut [u32], p: usize, d: usize, i: usize) -> Next
+    requires { ⌜ Here (now w) 1 i p (d + 1) ⌝ }
+    ensures { λ r. ⌜ Did (now (w .entry)) (now (w .exit)) r (visitMutSwitchCaseF (walksF d) p i (abs (now (w .entry)))) ⌝ }
+{
+    let inl = w[6];
+    let decl = w[8];
+    let mode = w[9];
+    let test = w[10];
+    let e = enter(w, 2);
+    if e != 0 {
+        return Next::Refused(e);
+    }
+    let r = items(w, p, d, i);
+    let Next::At(j) = r else {
+        return r;
+    };
+    leave(w, inl, decl, mode, test);
+    Next::At(j)
+}
+
+// visit_mut_pat.
+fn pats(w: &mut [u32], p: usize, d: usize, i: usize) -> Next
+    requires { ⌜ Here (now w) 1 i p (d + 1) ⌝ }
+    ensures { λ r. ⌜ Did (now (w .entry)) (now (w .exit)) r (visitMutPatF (walksF d) p i (abs (now (w .entry)))) ⌝ }
+{
+    let e = pat_step(w, i);
+    if e != 0 {
+        return Next::Refused(e);
+    }
+    Next::At(skip(w, i))
+}
+
+// visit_mut_update_expr.
+fn update(w: &mut [u32], p: usize, d: usize, i: usize) -> Next
+    requires { ⌜ Here (now w) 1 i p (d + 1) ⌝ }
+    ensures { λ r. ⌜ Did (now (w .entry)) (now (w .exit)) r (visitMutUpdateExprF (walksF d) p i (abs (now (w .entry)))) ⌝ }
+{
+    let e = write_kids(w, i);
+    if e != 0 {
+        return Next::Refused(e);
+    }
+    Next::At(skip(w, i))
+}
+
+// visit_mut_unary_expr: delete writes.
+fn unary(w: &mut [u32], p: usize, d: usize, i: usize) -> Next
+    requires { ⌜ Here (now w) 1 i p (d + 1) ⌝ }
+    ensures { λ r. ⌜ Did (now (w .entry)) (now (w .exit)) r (visitMutUnaryExprF (walksF d) p i (abs (now (w .entry)))) ⌝ }
+{
+    let f = form_at(w, i);
+    if f != 6 {
+        return kids(w, p, d, i);
+    }
+    update(w, p, d, i)
+}
+
+// visit_mut_call_expr and visit_mut_new_expr.
+fn call(w: &mut [u32], p: usize, d: usize, called: u32, i: usize) -> Next
+    requires { ⌜ Here (now w) 1 i p (d + 1) ⌝ }
+    ensures { λ r. ⌜ Did (now (w .entry)) (now (w .exit)) r (visitMutCallExprF (yes called) (walksF d) p i (abs (now (w .entry)))) ⌝ }
+{
+    let n = arity_at(w, i) as usize;
+    if n == 0 {
+        store_barrier(w);
+        return Next::At(i + 1);
+    }
+    let r = full(w, p + 1, d, i + 1);
+    let Next::At(j) = r else {
+        return r;
+    };
+    mark_callee(w, i + 1);
+    let e = write_args(w, called, n - 1, j);
+    if e != 0 {
+        return Next::Refused(e);
+    }
+    let s = many(w, p + 1, d, n - 1, j);
+    let Next::At(end) = s else {
+        return s;
+    };
+    store_barrier(w);
+    Next::At(end)
+}
+
+// All of a list but its first tree.
+fn tail(w: &mut [u32], p: usize, d: usize, n: usize, i: usize) -> Next
+    requires { ⌜ Here (now w) n i p d ⌝ }
+    ensures { λ r. ⌜ Did (now (w .entry)) (now (w .exit)) r (splitF skip (many (walksF d .full p)) n i (abs (now (w .entry)))) ⌝ }
+{
+    if n == 0 {
+        return Next::At(i);
+    }
+    let j = skip(w, i);
+    many(w, p, d, n - 1, j)
+}
+
+// visit_mut_assign_expr.
+fn assign(w: &mut [u32], p: usize, d: usize, i: usize) -> Next
+    requires { ⌜ Here (now w) 1 i p (d + 1) ⌝ }
+    ensures { λ r. ⌜ Did (now (w .entry)) (now (w .exit)) r (visitMutAssignExprF (walksF d) p i (abs (now (w .entry)))) ⌝ }
+{
+    set_pat_mode(w, 0);
+    let f = form_at(w, i);
+    let n = arity_at(w, i) as usize;
+    let e = assign_first(w, f, n, i + 1);
+    if e != 0 {
+        return Next::Refused(e);
+    }
+    let r = tail(w, p + 1, d, n, i + 1);
+    let Next::At(j) = r else {
+        return r;
+    };
+    let g = assign_last(w, n, i + 1);
+    if g != 0 {
+        return Next::Refused(g);
+    }
+    Next::At(j)
+}
+
+// The right sides of && or ||.
+fn conds(w: &mut [u32], p: usize, d: usize, n: usize, i: usize) -> Next
+    requires { ⌜ Here (now w) n i p d ⌝ }
+    ensures { λ r. ⌜ Did (now (w .entry)) (now (w .exit)) r (many (λ r. inCondF (walksF d .bare p r)) n i (abs (now (w .entry)))) ⌝ }
+{
+    let mut at = i;
+    let mut k: usize = 0;
+    while k < n {
+        let old = w[11];
+        let e = deeper(w);
+        if e != 0 {
+            return Next::Refused(e);
+        }
+        let r = arm(w, p, d, 0, at);
+        let Next::At(j) = r else {
+            return r;
+        };
+        set_conds(w, old);
+        at = j;
+        k += 1;
+    }
+    Next::At(at)
+}
+
+// A && or || again: its right side.
+fn logic(w: &mut [u32], p: usize, d: usize, i: usize) -> Next
+    requires { ⌜ Here (now w) 1 i p (d + 1) ⌝ }
+    ensures { λ r. ⌜ Did (now (w .entry)) (now (w .exit)) r (logicalF (walksF d) p i (abs (now (w .entry)))) ⌝ }
+{
+    let k = kind_at(w, i);
+    if k != 32 {
+        return Next::At(skip(w, i));
+    }
+    let f = form_at(w, i);
+    if f >= 2 {
+        return Next::At(skip(w, i));
+    }
+    let n = arity_at(w, i) as usize;
+    if n == 0 {
+        return Next::At(i + 1);
+    }
+    let j = skip(w, i + 1);
+    conds(w, p + 1, d, n - 1, j)
+}
+
+// Which handler a kind has.
+fn own(w: &mut [u32], p: usize, d: usize, i: usize) -> Next
+    requires { ⌜ Here (now w) 1 i p (d + 1) ⌝ }
+    ensures { λ r. ⌜ Did (now (w .entry)) (now (w .exit)) r (ownF (walksF d) p i (abs (now (w .entry)))) ⌝ }
+{
+    let k = kind_at(w, i);
+    match k {
+        1 => body(w, p, d, i),
+        2 => block(w, p, d, i),
+        5 => decl(w, p, d, i),
+        6 => declr(w, p, d, i),
+        7 => fdecl(w, p, d, i),
+        9 => ifs(w, p, d, i),
+        10 | 11 => whiles(w, p, d, i),
+        12 => fors(w, p, d, i),
+        13 | 14 => forin(w, p, d, i),
+        16 => tries(w, p, d, i),
+        17 => catch(w, p, d, i),
+        19 => case(w, p, d, i),
+        20 => pats(w, p, d, i),
+        30 => unary(w, p, d, i),
+        31 => update(w, p, d, i),
+        33 => assign(w, p, d, i),
+        35 => call(w, p, d, 1, i),
+        36 => call(w, p, d, 0, i),
+        39 => fexpr(w, p, d, i),
+        40 => arrow(w, p, d, i),
+        _ => kids(w, p, d, i),
+    }
+}
+
+// The steps of visit_mut_expr at an identifier: a constant is followed; in Analysis it is read; in Inlining its value takes its place.
+fn ident(w: &mut [u32], p: usize, d: usize, i: usize) -> Next
+    requires { ⌜ (Here (now w) 1 i p (d + 1)) × (nodeOf (now w) i .kind ≡ 21) ⌝ }
+    ensures { λ r. ⌜ Did (now (w .entry)) (now (w .exit)) r (afterIdentF (walksF d) p i (abs (now (w .entry)))) ⌝ }
+{
+    match constant(w, i) {
+        Constant::At(at, m) => {
+            let r = inline_constant(w, i, p as u32, at, m);
+            let Next::At(_) = r else {
+                return r;
+            };
+            full(w, p, d, i)
+        }
+        Constant::Unknown => {
+            if w[6] == 0 {
+                ident_analysis(w, i);
+                return Next::At(skip(w, i));
+            }
+            match fate(w, i) {
+                Found::Nothing => Next::At(skip(w, i)),
+                Found::Void => inline_undefined(w, i, p as u32),
+                Found::Value(at, m) => {
+                    let r = inline_value(w, i, p as u32, at, m);
+                    let Next::At(_) = r else {
+                        return r;
+                    };
+                    logic(w, p, d, i)
+                }
+            }
+        }
+    }
+}
+
+// The steps of visit_mut_expr after the node's own handler.
+fn after(w: &mut [u32], p: usize, d: usize, i: usize) -> Next
+    requires { ⌜ Here (now w) 1 i p (d + 1) ⌝ }
+    ensures { λ r. ⌜ Did (now (w .entry)) (now (w .exit)) r (afterF (walksF d) p i (abs (now (w .entry)))) ⌝ }
+{
+    let k = kind_at(w, i);
+    if k == 21 {
+        return ident(w, p, d, i);
+    }
+    if k != 33 {
+        return logic(w, p, d, i);
+    }
+    let f = form_at(w, i);
+    if f != 0 {
+        return logic(w, p, d, i);
+    }
+    if w[6] == 0 {
+        return Next::At(skip(w, i));
+    }
+    after_assign(w, i, p as u32)
+}
+
+// visit_mut_program's walk of the script, in the mode that is set.
+pub fn program(w: &mut [u32]) -> Next
+    requires { ⌜ Planted (now w) ⌝ }
+    ensures { λ r. ⌜ Did (now (w .entry)) (now (w .exit)) r (ownF (walksF 199) 1 0 (abs (now (w .entry)))) ⌝ }
+{
+    own(w, 1, 199, 0)
+}
