@@ -11,6 +11,7 @@ use Rattle.definition.specs.Entry.{Entry, refused, entryRead, entry}
 use Rattle.definition.specs.Script.{Answer, no!, yes!, passFile}
 use Rattle.definition.specs.Paired.{Alike, AlikeEntry}
 use Rattle.laws.proofs.Demand.{demand3, demand3-entry}
+use Rattle.roots.specs.Listing as lists
 use Rattle.pass.specs.Roots as roots
 use Rattle.pass.specs.Demand.{Demand3Inline, AlikeListing, Demand3Roots}
 
@@ -37,7 +38,7 @@ lists-alike a b room room′ (no! n) (yes! l d ys ss) h = absurd h
 lists-alike a b room room′ (yes! k c xs rs) (no! m) h = absurd h
 lists-alike a b room room′ (yes! k c xs rs) (yes! l d ys ss) h = go (leb (4 * length rs) room) (leb (4 * length ss) room′)
   where
-    go : (p q : Bool) → AlikeListing a b (elim p [ false ↦ roots.refused 10 | true ↦ roots.listed rs ]) (elim q [ false ↦ roots.refused 10 | true ↦ roots.listed ss ])
+    go : (p q : Bool) → AlikeListing a b (elim p [ false ↦ lists.refused 10 | true ↦ lists.listed rs ]) (elim q [ false ↦ lists.refused 10 | true ↦ lists.listed ss ])
     go true true = h .roots
     go true false = refl
     go false true = refl
@@ -49,8 +50,8 @@ listing-alike as′ bs a b runs n m room room′ e h =
     subst (λ (p : Bool). AlikeListing a b (by (leb 1 runs && leb runs 16 && leb 16384 n) (roots.answered room (passFile runs as′))) (by (leb 1 runs && leb runs 16 && p) (roots.answered room′ (passFile runs bs)))) e
     (go (leb 1 runs && leb runs 16 && leb 16384 n))
   where
-    by : Bool → roots.Listing → roots.Listing
-    by p x = elim p [ false ↦ roots.refused 1 | true ↦ x ]
+    by : Bool → lists.Listing → lists.Listing
+    by p x = elim p [ false ↦ lists.refused 1 | true ↦ x ]
 
     go : (p : Bool) → AlikeListing a b (by p (roots.answered room (passFile runs as′))) (by p (roots.answered room′ (passFile runs bs)))
     go true = lists-alike a b room room′ (passFile runs as′) (passFile runs bs) h

@@ -33,13 +33,13 @@ use Rattle.scopes.specs.State.{stack}
 use Rattle.nodes.specs.Nodes.{Planted}
 use Rattle.nodes.proofs.Trees.{count-some, length-flat}
 use Rattle.copy.specs.Copy.{WordsAre}
-use Rattle.pass.specs.declared.run.Ran.{Ran}
-use Rattle.pass.specs.declared.run.Ran.the-variants as Ran
+use Rattle.run.specs.declared.Ran.{Ran}
+use Rattle.run.specs.declared.Ran.the-variants as Ran
 use Rattle.pass.specs.declared.Inlined.{Inlined}
-use Rattle.pass.specs.Run.{outcome}
-use Rattle.pass.specs.Inline.{readRuns, Final, FileIs}
+use Rattle.run.specs.Run.{outcome}
+use Rattle.run.specs.Inline.{readRuns, Final, FileIs}
 use Rattle.pass.specs.Entry.{enough, numbers, left, InlineIs}
-use Rattle.pass.proofs.Files.{node-count}
+use Rattle.run.proofs.Files.{node-count}
 
 -- the test of row 1, and what passed it
 differ : false ≡ true → ⊥

@@ -18,13 +18,14 @@ use Rattle.flat.specs.PassF.{answerF, passF, passReadF, passFileF}
 use Rattle.flat.proofs.File.{file-same}
 use Rattle.scopes.specs.State.{stack}
 use Rattle.copy.specs.Copy.{WordsAre}
-use Rattle.pass.specs.declared.run.Ran.{Ran}
-use Rattle.pass.specs.declared.run.Ran.the-variants as Ran
+use Rattle.run.specs.declared.Ran.{Ran}
+use Rattle.run.specs.declared.Ran.the-variants as Ran
 use Rattle.pass.specs.declared.Roots.{Roots}
-use Rattle.pass.specs.Inline.{readRuns, Final, FileIs}
+use Rattle.run.specs.Inline.{readRuns, Final, FileIs}
 use Rattle.pass.specs.Entry.{enough}
-use Rattle.pass.specs.Roots.{Known, rootsIn, Listing, refused, listed, inRoom, answered, listing, left, SaysSo, WroteRoots, numbers, RootsIs}
-use Rattle.pass.proofs.Files.{is-found, node-count}
+use Rattle.roots.specs.Listing.{Known, rootsIn, Listing, refused, listed, inRoom, left, SaysSo, WroteRoots}
+use Rattle.pass.specs.Roots.{answered, listing, numbers, RootsIs}
+use Rattle.run.proofs.Files.{is-found, node-count}
 
 -- how it ends, by row 1
 listing-by : (n words : ℕ) (bs : List ℕ) (room : ℕ) (p : Bool) → enough n words ≡ p → listing n words bs room ≡ elim p [ false ↦ refused 1 | true ↦ answered room (passReadF n (read bs)) ]

@@ -16,6 +16,7 @@ use Rattle.format.specs.Read.{Read, bad, script, u32, endsFrom, textsFrom, node
 use Rattle.definition.specs.Script.{Answer, no!, yes!, answer, coreTree, passTree, pass, passRead, passFile}
 use Rattle.definition.specs.Entry.{Entry, refused, passed, written, entryRead, entry}
 use Rattle.definition.specs.Paired.{fileOf}
+use Rattle.roots.specs.Listing as lists
 use Rattle.pass.specs.Roots as roots
 use Rattle.pass.specs.declared.Inlined.{Inlined}
 use Rattle.pass.specs.declared.Roots.{Roots}
@@ -558,7 +559,7 @@ r-listed : (room : ℕ) (x : Answer) → Answers x → ListingRow (roots.answere
 r-listed room (no! n) h = (omega (arith, h .0), omega (arith, h .1))
 r-listed room (yes! k c xs rs) h = go (leb (4 * length rs) room)
   where
-    go : (p : Bool) → ListingRow (elim p [ false ↦ roots.refused 10 | true ↦ roots.listed rs ])
+    go : (p : Bool) → ListingRow (elim p [ false ↦ lists.refused 10 | true ↦ lists.listed rs ])
     go true = tt
     go false = (omega arith, omega arith)
 
@@ -582,7 +583,7 @@ r-listing : (runs words : ℕ) (bs : List ℕ) (room : ℕ) → ListingRow (root
 unfolding roots.listing passFile
 r-listing runs words bs room = go (leb 1 runs && leb runs 16 && leb 16384 words)
   where
-    go : (p : Bool) → ListingRow (elim p [ false ↦ roots.refused 1 | true ↦ roots.answered room (passFile runs bs) ])
+    go : (p : Bool) → ListingRow (elim p [ false ↦ lists.refused 1 | true ↦ roots.answered room (passFile runs bs) ])
     go true = r-listed room (passFile runs bs) (r-passRead runs (read bs) (r-read bs))
     go false = (omega arith, omega arith)
 
@@ -600,6 +601,6 @@ inline-zero bs r r′ w w′ runs c X z = go (entry runs (length w) bs (length r
 pub roots-zero : RootsZero
 roots-zero bs r r′ w w′ runs c X z = go (roots.listing runs (length w) bs (length r)) (r-listing runs (length w) bs (length r)) (ap (λ (x : Roots). x .refused) (X .answer))
   where
-    go : (e : roots.Listing) → ListingRow e → c .refused ≡ roots.numbers e .refused → Listed e
-    go (roots.refused n) h q = absurd (omega (arith, h .0, q, z))
-    go (roots.listed rs) h q = tt
+    go : (e : lists.Listing) → ListingRow e → c .refused ≡ roots.numbers e .refused → Listed e
+    go (lists.refused n) h q = absurd (omega (arith, h .0, q, z))
+    go (lists.listed rs) h q = tt

@@ -11,7 +11,9 @@ use Rattle.definition.specs.Paired.{Paired, AlikeRoots, AlikeEntry}
 use Rattle.pass.specs.declared.Inlined.{Inlined}
 use Rattle.pass.specs.declared.Roots.{Roots}
 use Rattle.pass.specs.Entry.{numbers, left, InlineIs}
-use Rattle.pass.specs.Roots.{Listing, refused, listed, RootsIs}
+use Rattle.roots.specs.Listing.{Listing, refused, listed}
+use Rattle.pass.specs.Roots.{RootsIs}
+use Rattle.roots.specs.Listing as lists
 use Rattle.pass.specs.Roots as roots
 
 -- what a call answered and left in its result buffer are the numbers and bytes of two ends that are alike: refusals are the same, or results
@@ -44,8 +46,8 @@ pub record AlikeLists (a b : Script) (x y : Roots) (r r′ s s′ : List ℕ) : 
   pub two : Listing
   pub one-answer : x ≡ roots.numbers one
   pub two-answer : y ≡ roots.numbers two
-  pub one-roots : r′ ≡ roots.left r one
-  pub two-roots : s′ ≡ roots.left s two
+  pub one-roots : r′ ≡ lists.left r one
+  pub two-roots : s′ ≡ lists.left s two
   pub alike : AlikeListing a b one two
 
 abbrev pub Demand3Roots : Type 0

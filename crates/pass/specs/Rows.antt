@@ -7,6 +7,7 @@ use Rattle.definition.specs.Entry.{Entry, refused, passed, entry}
 use Rattle.pass.specs.declared.Inlined.{Inlined}
 use Rattle.pass.specs.declared.Roots.{Roots}
 use Rattle.pass.specs.Entry.{InlineIs}
+use Rattle.roots.specs.Listing as lists
 use Rattle.pass.specs.Roots as roots
 
 abbrev pub Row : ℕ → Type 0
@@ -16,9 +17,9 @@ abbrev pub EntryRow : Entry → Type 0
 EntryRow (refused n) = Row n
 EntryRow (passed n k c out rs) = Unit {0}
 
-abbrev pub ListingRow : roots.Listing → Type 0
-ListingRow (roots.refused n) = Row n
-ListingRow (roots.listed rs) = Unit {0}
+abbrev pub ListingRow : lists.Listing → Type 0
+ListingRow (lists.refused n) = Row n
+ListingRow (lists.listed rs) = Unit {0}
 
 -- of both C functions, for all arguments
 abbrev pub Rows : Type 0
@@ -29,9 +30,9 @@ abbrev pub Result : Entry → Type 0
 Result (refused n) = ⊥
 Result (passed n k c out rs) = Unit {0}
 
-abbrev pub Listed : roots.Listing → Type 0
-Listed (roots.refused n) = ⊥
-Listed (roots.listed rs) = Unit {0}
+abbrev pub Listed : lists.Listing → Type 0
+Listed (lists.refused n) = ⊥
+Listed (lists.listed rs) = Unit {0}
 
 -- what a caller of a C function goes by
 abbrev pub InlineZero : Type 0

@@ -1,16 +1,11 @@
 // The whole pass over a tree file, from its bytes to the result's, as C functions.
-pub mod inline;
-pub mod root;
-pub mod run;
-pub mod start;
-
 ghost use mathlib.Core.Path.{_≡_};
 ghost use Rattle.tree.specs.Base.{toNat};
 ghost use Rattle.pass.specs.Entry.{enough, InlineIs};
 ghost use Rattle.pass.specs.Roots.{RootsIs};
-use crate::inline::inline_file;
-use crate::root::write_roots;
-use crate::run::Ran;
+use roots::write_roots;
+use run::Ran;
+use run::inline::inline_file;
 use words::clear;
 use writer::Written;
 use writer::write;
