@@ -1,18 +1,15 @@
--- The answers of the functions that have an enum for it, row 9, and a range of nodes written. Assumes nothing: these are definitions.
+-- The answers of the functions that have an enum for it, and row 9. Assumes nothing: these are definitions.
 use mathlib.Core.Path.{_≡_}
-use mathlib.Core.List.{List, [], _∷_}
+use mathlib.Core.List.{List}
 use mathlib.Core.Bool.{Bool, true, false, _||_, not}
 use mathlib.Core.Option.{Option, none, some}
-use Prim.Native.Nat.{ℕ, zero, suc}
+use Prim.Native.Nat.{ℕ}
 use lib.Dec.{eqb, ltb}
-use lib.ListN.{getD}
 use Rattle.tree.specs.Base.{pick}
-use Rattle.tree.specs.Combine.{stop, done as ok}
-use Rattle.tree.specs.Tree.{Tree, node, nil, Core, noCore}
-use Rattle.definition.specs.Scope.{Stack, vVar, change, defined, preventInline, preventInlineOfParams, scopeFor, hasConstant, append, fresh, recordedNodes, live}
-use Rattle.definition.specs.Walk.{St, setStack, writes}
+use Rattle.tree.specs.Tree.{Core}
+use Rattle.definition.specs.Scope.{Stack, vVar, change, defined, preventInline, scopeFor, hasConstant, append, fresh, recordedNodes, live}
 use Rattle.words.specs.Layout.{tree, beyond}
-use Rattle.scopes.specs.State.{Good, Others, Becomes, stack}
+use Rattle.scopes.specs.State.{Good, Others, Becomes}
 use Rattle.look.specs.declared.Count.{Count}
 use Rattle.look.specs.declared.Count.the-variants.{Nothing, Reads}
 use Rattle.look.specs.declared.Step.{Step}
@@ -58,22 +55,6 @@ writeFree x force st = pick (hasConstant x st) st (append (fresh x vVar none for
 abbrev pub writeTo : ℕ → Bool → Stack → Stack
 writeTo x force st = pick (scopeFor true x st .0) (writeBound x (not (scopeFor true x st .1) || force) st) (writeFree x force st)
 
--- of the n nodes from j on the names: bindings and identifiers
+-- a binding or an identifier
 abbrev pub isName : Core → Bool
 isName c = eqb (c .kind) 20 || eqb (c .kind) 21
-
-abbrev pub namesAt : List Core → ℕ → ℕ → List Tree
-namesAt xs j zero = []
-namesAt xs j (suc n) =
-    let c = getD xs j noCore in
-    elim (isName c) [ true ↦ node (c .kind) (c .form) (c .num) nil ∷ namesAt xs (suc j) n | false ↦ namesAt xs (suc j) n ]
-
--- these trees written one after the other: all of them, or up to one that is refused
-abbrev pub Wrote : List ℕ → List ℕ → Bool → List Tree → Step → Type 0
-Wrote w w′ force ts Done = Still w w′ × ((s : St) → writes force ts (setStack (stack w) s) ≡ ok (setStack (stack w′) s) tt)
-Wrote w w′ force ts (Refused n) = (n ≡ 9) × ((s : St) → writes force ts (setStack (stack w) s) ≡ stop 9) × Still w w′
-
--- node i written if it is a name, whatever follows it
-abbrev pub WroteOne : List ℕ → List ℕ → Bool → ℕ → Step → Type 0
-WroteOne w w′ force i Done = Still w w′ × ((n : ℕ) (s : St) → writes force (namesAt (tree w) i (suc n)) (setStack (stack w) s) ≡ writes force (namesAt (tree w) (suc i) n) (setStack (stack w′) s))
-WroteOne w w′ force i (Refused k) = (k ≡ 9) × ((n : ℕ) (s : St) → writes force (namesAt (tree w) i (suc n)) (setStack (stack w) s) ≡ stop 9) × Still w w′

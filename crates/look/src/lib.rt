@@ -13,10 +13,6 @@ ghost use Rattle.words.specs.Layout.{nodeOf};
 ghost use Rattle.scopes.specs.State.{Good, stack, bindAt, varTypeOf, lenAt, off};
 ghost use Rattle.look.specs.Look.{first, cfirst, scopeAt, below, atPlace, FoundIn, idxHere, idxAt, readsO, kindO, nodeTree, held, barsHere, boundHere};
 ghost use Rattle.look.specs.Answers.{countOf};
-
-pub mod mark;
-pub mod usage;
-
 use scopes::find_binding;
 use scopes::find_in;
 use scopes::offset;
@@ -43,7 +39,7 @@ pub struct ScopeFor {
 }
 
 // Where the bindings of scope k begin; behind the last scope, where they end.
-fn first_of(w: &[u32], k: usize) -> usize
+pub fn first_of(w: &[u32], k: usize) -> usize
     requires { ⌜ (Good (now w)) × (k ≤ getD (now w) 2 0) ⌝ }
     ensures { λ r. ⌜ r ≡ first (now (w .entry)) k ⌝ }
 {

@@ -3,7 +3,7 @@ use mathlib.Core.Path.{_≡_, refl, sym, ap, _∙_}
 use mathlib.Core.List.{List, [], _∷_}
 use mathlib.Core.Bool.{Bool, true, false, _||_}
 use Prim.Native.Nat.{ℕ, _+_, _-_, _<_}
-use mathlib.Core.Logic.{_⊎_, inl, inr}
+use mathlib.Core.Logic.{_⊎_, ⊎-elim, inl, inr}
 use lib.Dec.{eqb}
 use borrow.Author.Tests.{eqb-true}
 use lib.ListN.{getD, drop}
@@ -51,6 +51,9 @@ module _ {xs : List Core} (w : Whole xs) {at n : ℕ} (o : Open xs at n) (z : 0 
   names-in e = names-here ∙ other-node (x .kind) (x .form) (x .num) ks (identListF bs []) e ∙ sym (ap (λ (ts : Forest). identListF ts []) (forest-next w o z) ∙ names-append ks bs [])
 
 -- a name's kinds
+pub name-yes : (k : ℕ) → (k ≡ 20) ⊎ (k ≡ 21) → (eqb k 20 || eqb k 21) ≡ true
+name-yes k o = ⊎-elim (λ (e : k ≡ 20). rw e refl) (λ (e : k ≡ 21). rw e refl) o
+
 pub name-kind : (k : ℕ) → (eqb k 20 || eqb k 21) ≡ true → (k ≡ 20) ⊎ (k ≡ 21)
 name-kind k e = go (eqb k 20) refl
   where

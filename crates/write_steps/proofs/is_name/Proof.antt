@@ -6,7 +6,7 @@ use Prim.Native.Nat.{ℕ}
 use lib.Dec.{eqb}
 use borrow.Author.Tests.{ne-eqb}
 use Rattle.words.specs.Layout.{nodeOf}
-use Rattle.look.proofs.Range.{name-yes}
+use Rattle.write_steps.proofs.Names.{name-yes}
 use borrow.Author.Needs.{needs}
 use Rattle.write_steps.proofs.is_name.Statement.{statement}
 use Rattle.write_steps.proofs.is_name.Tie as tie

@@ -1,0 +1,150 @@
+// Marks: what changes the scopes and adds nothing to them.
+ghost use mathlib.Core.Path.{_≡_};
+ghost use mathlib.Core.Bool.{_||_};
+ghost use Prim.Native.Nat.{_≤_, _<_};
+ghost use lib.ListN.{getD};
+ghost use Rattle.definition.specs.Scope.{change, defined, sensitiveNow, oneMore, readOnce, addUnresolved, preventInlineOfParams, storeInlineBarrier};
+ghost use Rattle.words.specs.Layout.{yes};
+ghost use Rattle.scopes.specs.State.{Good, Becomes, stack, heads, flags, binds, consts, split};
+ghost use Rattle.look.specs.Look.{fnStart, paramsFrom};
+ghost use Rattle.look.specs.Touched.{BarStored};
+use look::first_of;
+use scopes::find_binding;
+
+// What `this` is matters to the innermost binding of x.
+pub fn mark_this_sensitive(w: &mut [u32], x: u8)
+    requires { ⌜ Good (now w) ⌝ }
+    ensures { λ _. ⌜ Becomes (now (w .entry)) (now (w .exit)) (change x sensitiveNow (stack (now (w .entry)))) ⌝ }
+{
+    let k = find_binding(w, x);
+    if k == 0 {
+        return;
+    }
+    w[4112 + (k - 1) * 10 + 6] = 1;
+}
+
+// The innermost binding of x is no longer undefined.
+pub fn set_defined(w: &mut [u32], x: u8)
+    requires { ⌜ Good (now w) ⌝ }
+    ensures { λ _. ⌜ Becomes (now (w .entry)) (now (w .exit)) (change x defined (stack (now (w .entry)))) ⌝ }
+{
+    let k = find_binding(w, x);
+    if k == 0 {
+        return;
+    }
+    w[4112 + (k - 1) * 10 + 5] = 0;
+}
+
+// A count of reads and one more.
+fn one_more(n: u32) -> u32
+    ensures { λ r. ⌜ r ≡ oneMore n ⌝ }
+{
+    if n < 2 {
+        return n + 1;
+    }
+    n
+}
+
+// A flag that is set where one of two is.
+fn either(h: u32, p: u32) -> u32
+    ensures { λ r. ⌜ yes r ≡ (yes h || yes p) ⌝ }
+{
+    if h != 0 {
+        return 1;
+    }
+    p
+}
+
+// The innermost binding of x is read once more, and prevented if it is hoisted.
+pub fn read_once(w: &mut [u32], x: u8)
+    requires { ⌜ Good (now w) ⌝ }
+    ensures { λ _. ⌜ Becomes (now (w .entry)) (now (w .exit)) (change x readOnce (stack (now (w .entry)))) ⌝ }
+{
+    let k1 = find_binding(w, x);
+    if k1 == 0 {
+        return;
+    }
+    let k = k1 - 1;
+    let n = one_more(w[4112 + k * 10 + 3]);
+    let p = either(w[4112 + k * 10 + 7], w[4112 + k * 10 + 4]);
+    w[4112 + k * 10 + 3] = n;
+    w[4112 + k * 10 + 4] = p;
+}
+
+// x is used in the current scope, and not bound.
+pub fn add_unresolved(w: &mut [u32], x: u8)
+    requires { ⌜ Good (now w) ⌝ }
+    ensures { λ _. ⌜ Becomes (now (w .entry)) (now (w .exit)) (addUnresolved x (stack (now (w .entry)))) ⌝ }
+{
+    let d = w[2] as usize;
+    if d == 0 {
+        return;
+    }
+    w[7312 + (d - 1) * 256 + x as usize] = 1;
+}
+
+// Where the bindings of the nearest function begin, outwards.
+fn fn_start(w: &[u32]) -> usize
+    requires { ⌜ Good (now w) ⌝ }
+    ensures { λ r. ⌜ r ≡ fnStart (heads (now (w .entry))) ⌝ }
+{
+    let mut k = w[2] as usize;
+    while 0 < k {
+        k -= 1;
+        if 3 <= w[7184 + k * 4] {
+            return w[7184 + k * 4 + 1] as usize;
+        }
+    }
+    0
+}
+
+// Marks the parameters among the bindings from lo on.
+fn prevent_params(w: &mut [u32], lo: usize)
+    requires { ⌜ (Good (now w)) × (lo ≤ getD (now w) 1 0) ⌝ }
+    ensures { λ _. ⌜ Becomes (now (w .entry)) (now (w .exit)) (split (heads (now (w .entry))) (flags (now (w .entry))) (paramsFrom lo (binds (now (w .entry)))) (consts (now (w .entry)))) ⌝ }
+{
+    let n = w[1] as usize;
+    let mut k = lo;
+    while k < n {
+        if w[4112 + k * 10 + 1] == 0 {
+            w[4112 + k * 10 + 4] = 1;
+        }
+        k += 1;
+    }
+}
+
+// Marks the parameters outwards, up to the nearest function.
+pub fn prevent_inline_of_params(w: &mut [u32])
+    requires { ⌜ Good (now w) ⌝ }
+    ensures { λ _. ⌜ Becomes (now (w .entry)) (now (w .exit)) (preventInlineOfParams (stack (now (w .entry)))) ⌝ }
+{
+    let lo = fn_start(w);
+    prevent_params(w, lo);
+}
+
+// A barrier behind the last binding of scope k.
+fn store_bar(w: &mut [u32], k: usize)
+    requires { ⌜ (Good (now w)) × (k < getD (now w) 2 0) ⌝ }
+    ensures { λ _. ⌜ BarStored (now (w .entry)) (now (w .exit)) k ⌝ }
+{
+    let a = first_of(w, k);
+    let e = first_of(w, k + 1);
+    if a < e {
+        w[4112 + (e - 1) * 10 + 9] = 1;
+    } else {
+        w[7184 + k * 4 + 3] = 1;
+    }
+}
+
+// A barrier behind the last binding of every open scope.
+pub fn store_inline_barrier(w: &mut [u32])
+    requires { ⌜ Good (now w) ⌝ }
+    ensures { λ _. ⌜ Becomes (now (w .entry)) (now (w .exit)) (storeInlineBarrier (stack (now (w .entry)))) ⌝ }
+{
+    let d = w[2] as usize;
+    let mut k: usize = 0;
+    while k < d {
+        store_bar(w, k);
+        k += 1;
+    }
+}
