@@ -1,19 +1,17 @@
 // What the pass did to a script: node by node, the names it replaced and the declarations it emptied.
 'use strict';
 
-const { K, preorder } = require('./kinds');
+const { K, identityOf, preorder } = require('./kinds');
 
-const sameNode = (a, b) => a.kind === b.kind && a.form === b.form && a.bits === b.bits && a.children.length === b.children.length
-  && (a.text === b.text || a.kind === K.binding || a.kind === K.identifier);
+// A renamed node is compared by the name that it had.
+const nameOf = (node) => node.was ?? node.text;
+const sameNode = (a, b) => a.kind === b.kind && a.form === b.form && a.bits === b.bits && nameOf(a) === nameOf(b)
+  && a.children.length === b.children.length;
 
 const emptied = (node, after) => node.kind === K.declarator && after.kind === K.declarator && node.children.length > after.children.length;
 
-// Parentheses that only the printer added.
-const bare = (node, after) => (after.kind === K.parenthesis && node.kind !== K.parenthesis ? after.children[0] : after);
-
 // Calls `seen(node, after, how)` for each pair, `how` being same, replaced, emptied or other.
-function walk(node, given, seen) {
-  const after = node.kind === K.identifier ? given : bare(node, given);
+function walk(node, after, seen) {
   if (emptied(node, after)) {
     seen(node, after, 'emptied');
     walk(node.children[0], after.children[0], seen);
@@ -41,4 +39,14 @@ function numberPlaces(root, result) {
   walk(root, result, (node, after) => { after.place = node.place; });
 }
 
-module.exports = { walk, changesOf, numberPlaces };
+// The result with the given variables as the script has them: their declarations filled, their reads by name.
+function putBack(node, after, variables) {
+  if (emptied(node, after)) {
+    const filled = variables.has(identityOf(node.children[0]));
+    return filled ? { ...after, children: [after.children[0], node.children[1]] } : after;
+  }
+  if (sameNode(node, after)) return { ...after, children: node.children.map((child, index) => putBack(child, after.children[index], variables)) };
+  return node.kind === K.identifier && variables.has(identityOf(node)) ? node : after;
+}
+
+module.exports = { walk, changesOf, numberPlaces, putBack };

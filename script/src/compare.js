@@ -4,7 +4,6 @@
 const { isStatement, preorder } = require('./kinds');
 const { walk } = require('./changes');
 const { textOfTree } = require('./result_text');
-const { treeOfText } = require('./to_tree');
 
 const lineOf = (node) => node.at.loc.start.line;
 const shownOnOneLine = (text) => text.replace(/\s+/g, ' ');
@@ -21,7 +20,7 @@ function noteOf(how, node, after, script, result, source) {
 function anchorsAndNotes(before, after, sources) {
   const anchors = [[1, 1]];
   const notes = new Map();
-  walk(before.tree, after.tree, (node, other, how) => {
+  walk(before.root, after.root, (node, other, how) => {
     if (isStatement(node)) anchors.push([lineOf(node), lineOf(other)], [node.at.loc.end.line, other.at.loc.end.line]);
     if (how === 'same' && node.text === other.text) return;
     const note = noteOf(how, node, other, before.text, after.text, sources.get(node));
@@ -68,14 +67,11 @@ function rowText({ line, script, result }, numbers, notes) {
 
 // `root` is the script's tree with its own places, `result` the tree that came out.
 function compare(root, result) {
-  const before = { text: textOfTree(root).text };
-  const after = { text: textOfTree(result).text };
-  before.tree = treeOfText(before.text);
-  after.tree = treeOfText(after.text);
+  const [before, after] = [textOfTree(root), textOfTree(result)];
   const own = [...preorder(root)];
-  const sources = new Map([...preorder(before.tree)].map((node, index) => [node, own[index]]));
+  const sources = new Map([...preorder(before.root)].map((node, index) => [node, own[index]]));
   const { anchors, notes } = anchorsAndNotes(before, after, sources);
-  const numbers = sourceLines(before.tree, sources);
+  const numbers = sourceLines(before.root, sources);
   const rows = rowsOf(before, after, anchors);
   return `${rows.flatMap((row) => rowText(row, numbers, notes)).join('\n')}\n`;
 }

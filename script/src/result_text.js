@@ -41,9 +41,11 @@ function freshName(root, old) {
   for (let n = 1; ; n++) if (!taken.has(`${old}$${n}`)) return `${old}$${n}`;
 }
 
+// A renamed node keeps its first name as `was`.
 function renamed(node, identity, name) {
-  const text = NAMED.has(node.kind) && identityOf(node) === identity ? name : node.text;
-  return { ...node, text, children: node.children.map((child) => renamed(child, identity, name)) };
+  const children = node.children.map((child) => renamed(child, identity, name));
+  const hit = NAMED.has(node.kind) && identityOf(node) === identity;
+  return hit ? { ...node, children, text: name, was: node.was ?? node.text } : { ...node, children };
 }
 
 function printedPairs(root) {
@@ -55,17 +57,21 @@ function printedPairs(root) {
   throw new Error('the printed result does not read as the result; please report this script');
 }
 
-// The text of a tree, the tree with the names that the text has, and the renamings as [old, new].
+// A copy of a tree in which each node has its place in the printed text.
+function placed(root, pairs) {
+  const places = new Map(pairs.map(([node, again]) => [node, again.at]));
+  const copy = (node) => ({ ...node, at: places.get(node), children: node.children.map(copy) });
+  return copy(root);
+}
+
+// The text of a tree, and the tree with the names and places that it has in the text.
 function textOfTree(tree) {
   let root = tree;
-  const renamings = [];
   for (;;) {
     const { text, pairs } = printedPairs(root);
     const caught = catcher(pairs);
-    if (!caught) return { text, root, renamings };
-    const name = freshName(root, caught.text);
-    renamings.push([caught.text, name]);
-    root = renamed(root, identityOf(caught), name);
+    if (!caught) return { text, root: placed(root, pairs) };
+    root = renamed(root, identityOf(caught), freshName(root, caught.text));
   }
 }
 

@@ -1,0 +1,42 @@
+// Many files: a line for each, a summary, and an exit status for a build.
+'use strict';
+
+const fs = require('fs');
+const { runOne } = require('./run_one');
+const { ScriptTrouble } = require('./trouble');
+const { write } = require('./output');
+
+// One file's outcome; what cannot be read is refused like what cannot be built.
+function outcomeOf(file, options) {
+  try {
+    const { report, differs } = runOne(fs.readFileSync(file, 'utf8'), file, { ...options, output: 'result' });
+    return { sort: differs ? 'differs' : 'well', lines: differs ? report.split('\n') : [`${file}: well`] };
+  } catch (error) {
+    if (error instanceof ScriptTrouble) return { sort: 'refused', lines: error.lines(file) };
+    if (error.syscall === 'open' || error.syscall === 'read') return { sort: 'refused', lines: [`${file}: ${error.message}`] };
+    throw error;
+  }
+}
+
+// A line that is written over, where a person looks on.
+function progress(done, count, file) {
+  if (process.stderr.isTTY) fs.writeSync(2, done < count ? `\r\x1b[K${done + 1} of ${count}: ${file}` : '\r\x1b[K');
+}
+
+function check(options, status) {
+  const counts = { well: 0, differs: 0, refused: 0 };
+  const lines = [];
+  options.files.forEach((file, index) => {
+    progress(index, options.files.length, file);
+    const outcome = outcomeOf(file, options);
+    counts[outcome.sort] += 1;
+    lines.push(...outcome.lines);
+  });
+  progress(options.files.length, options.files.length, '');
+  lines.push(`${options.files.length} files: ${counts.well} well, ${counts.differs} whose result does something else, ${counts.refused} refused`);
+  write(`${lines.join('\n')}\n`, options.out);
+  if (counts.refused) return status.refused;
+  return counts.differs ? status.differs : status.well;
+}
+
+module.exports = { check };
