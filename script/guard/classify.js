@@ -130,10 +130,16 @@ function ofAlias(value, node, facts) {
   return within && usesArguments(within) ? 16 : 9;
 }
 
-// A value that was moved, once or to several places.
-function ofMoved(after, facts) {
+// Whether a variable's value was taken out of its declaration, and is no name or literal.
+function hasMoved(node, facts) {
+  return facts.of(node).some(({ name, value }) => value && !SIMPLE.has(value.kind) && facts.emptied.has(facts.parents.get(name)));
+}
+
+// A value that was moved, once or to several places; one that names its own variable is put into itself.
+function ofMoved(after, facts, own) {
   const text = signature(after);
-  return facts.resultTexts.filter((other) => other === text).length > 1 ? 14 : 13;
+  const again = [...preorder(after)].some((node) => node.kind === K.identifier && identityOf(node) === identityOf(own));
+  return again || facts.resultTexts.filter((other) => other === text).length > 1 ? 14 : 13;
 }
 
 // Where the value in the name's place comes from decides, and where that stands.
@@ -143,8 +149,8 @@ function ofSource(node, after, sources, facts) {
   if (giver && facts.mayNotHappen(giver.name)) return 6;
   if (giver && giver.name.place > node.place) return giver.how === 'assign' ? 5 : 4;
   if (outer && sources.some(({ how }) => !declares({ how }))) return 12;
-  if (after.kind === K.identifier) return ofAlias(after, node, facts);
-  if (!SIMPLE.has(after.kind)) return ofMoved(after, facts);
+  if (after.kind === K.identifier) return hasMoved(after, facts) ? 11 : ofAlias(after, node, facts);
+  if (!SIMPLE.has(after.kind)) return ofMoved(after, facts, node);
   const alias = sources.find(isAlias);
   if (alias) return ofAlias(alias.value, node, facts);
   return sources.some(({ how, name }) => how === 'assign' && facts.mayNotHappen(name)) ? 6 : 5;
@@ -184,7 +190,7 @@ function ofStatement(statement, shown, facts) {
     if (found) return found;
   }
   for (const node of preorder(statement)) {
-    if (emptiedWithEffect(node, facts)) return { number: ofMoved(node.children[1], facts), node };
+    if (emptiedWithEffect(node, facts)) return { number: ofMoved(node.children[1], facts, node.children[0]), node };
     const number = node.kind === K.identifier && changed(node, facts) ? ofName(node, facts) : 0;
     if (number) return { number, node };
   }

@@ -113,7 +113,7 @@ class Runner {
     const code = (places) => new vm.Script(instrument(tree, plan.shapes, places));
     const [plain, telling] = [code(new Set()), code(reads)];
     const [outcomes, told] = [new Map(), new Map()];
-    const once = (known, number, run) => known.get(number) ?? known.set(number, run()).get(number);
+    const once = (known, number, run) => (known.has(number) ? known : known.set(number, run())).get(number);
     this.outcome = (number) => once(outcomes, number, () => runTrial(plain, plan, number));
     this.told = (number) => once(told, number, () => runTrial(telling, plan, number, true));
   }

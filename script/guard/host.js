@@ -104,8 +104,8 @@ function slot(shape, path, owner = () => undefined) {
     set(value) {
       record('set', `${path} = ${shown(value)}`);
       keep(value);
-      // What the script has set a host seldom changes.
-      moves &&= hash('sets', path) % 4 === 0;
+      // What the script has set not every host changes.
+      moves &&= hash('sets', path) % 2 === 0;
       held = { version: now(), value };
     },
   };
@@ -195,6 +195,8 @@ function turn(number) {
   const callable = [...named, ...callbacks.map((value, index) => [`callback ${index + 1}`, value])].filter(([, value]) => typeof value === 'function');
   if (!callable.length || stopped) return;
   const [name, called] = pick(callable, 'turn', number);
+  // Between its calls the host's time goes on.
+  if (moving) epoch += 1;
   try {
     enter(called, name, 100 + number);
   } catch (error) {
