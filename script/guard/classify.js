@@ -35,7 +35,8 @@ class Facts {
     this.after = new Map();
     this.sources = new Map();
     this.emptied = new Set(changes.filter(({ how }) => how === 'emptied').map(({ node }) => node));
-    this.resultTexts = [...preorder(result)].map(signature);
+    this.scriptTexts = countedTexts(root);
+    this.resultTexts = countedTexts(result);
     for (const node of preorder(root)) {
       this.nodes.set(node.place, node);
       node.children.forEach((child) => this.parents.set(child, node));
@@ -108,6 +109,13 @@ function signature(node) {
   return `${node.kind}.${node.form}.${node.was ?? node.text}.${node.bits}(${node.children.map(signature)})`;
 }
 
+// How often each subtree comes.
+function countedTexts(root) {
+  const counts = new Map();
+  for (const node of preorder(root)) counts.set(signature(node), (counts.get(signature(node)) || 0) + 1);
+  return counts;
+}
+
 const declares = ({ how }) => how !== 'assign' && how !== 'update';
 const isAlias = ({ value }) => value !== null && value.kind === K.identifier;
 const isVoid = (node) => node.kind === K.unary && UNARY[node.form] === 'void';
@@ -139,7 +147,7 @@ function hasMoved(node, facts) {
 function ofMoved(after, facts, own) {
   const text = signature(after);
   const again = [...preorder(after)].some((node) => node.kind === K.identifier && identityOf(node) === identityOf(own));
-  return again || facts.resultTexts.filter((other) => other === text).length > 1 ? 14 : 13;
+  return again || (facts.resultTexts.get(text) || 0) > (facts.scriptTexts.get(text) || 1) ? 14 : 13;
 }
 
 // Where the value in the name's place comes from decides, and where that stands.
@@ -151,6 +159,7 @@ function ofSource(node, after, sources, facts) {
   if (outer && sources.some(({ how }) => !declares({ how }))) return 12;
   if (after.kind === K.identifier) return hasMoved(after, facts) ? 11 : ofAlias(after, node, facts);
   if (!SIMPLE.has(after.kind)) return ofMoved(after, facts, node);
+  if (node.bits === 0n) return 10;
   const alias = sources.find(isAlias);
   if (alias) return ofAlias(alias.value, node, facts);
   return sources.some(({ how, name }) => how === 'assign' && facts.mayNotHappen(name)) ? 6 : 5;

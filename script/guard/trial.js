@@ -27,14 +27,15 @@ function hostConfig(plan, number, logging) {
   return { seed: plan.seed * 1000003 + number, shapes, numbers, globals, entries: plan.entries, steps: STEPS, moving, throwing, eager, logging };
 }
 
-function guarded(api, act) {
+// How a piece of code ends: well, with an error of its own, or out of time.
+function ending(api, act) {
   try {
     act();
-    return true;
+    return 'well';
   } catch (error) {
-    if (error && error.code === 'ERR_SCRIPT_EXECUTION_TIMEOUT') return false;
+    if (error && error.code === 'ERR_SCRIPT_EXECUTION_TIMEOUT') return 'late';
     api.throws(error);
-    return true;
+    return 'error';
   }
 }
 
@@ -44,13 +45,13 @@ function runTrial(script, plan, number, logging = false) {
   vm.runInContext('delete globalThis.console', context);
   HOST.runInContext(context)(vm.runInContext(`(${JSON.stringify(hostConfig(plan, number, logging))})`, context));
   const api = vm.runInContext('$negbosun', context);
-  const run = (code) => guarded(api, () => code.runInContext(context, BACKSTOP));
-  if (!run(script)) return null;
+  const run = (code) => ending(api, () => code.runInContext(context, BACKSTOP));
+  const first = run(script);
   plan.reach.runInContext(context);
-  for (let turn = 0; turn < number % (MOST_TURNS + 1); turn++) {
-    if (!run(new vm.Script(`$negbosun.turn(${turn})`))) return null;
-  }
-  return JSON.parse(api.outcome());
+  // No cabinet goes on with a script that has failed.
+  const turns = first === 'well' ? number % (MOST_TURNS + 1) : 0;
+  const later = Array.from({ length: turns }, (_, turn) => run(new vm.Script(`$negbosun.turn(${turn})`)));
+  return [first, ...later].includes('late') ? null : JSON.parse(api.outcome());
 }
 
 module.exports = { runTrial, STANDARD, STEPS };
