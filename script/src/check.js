@@ -2,6 +2,7 @@
 'use strict';
 
 const fs = require('fs');
+const { readScript } = require('./input');
 const { runOne } = require('./run_one');
 const { ScriptTrouble } = require('./trouble');
 const { write } = require('./output');
@@ -9,7 +10,7 @@ const { write } = require('./output');
 // One file's outcome; what cannot be read is refused like what cannot be built.
 function outcomeOf(file, options) {
   try {
-    const { report, differs } = runOne(fs.readFileSync(file, 'utf8'), file, { ...options, output: 'result' });
+    const { report, differs } = runOne(readScript(file), file, { ...options, output: 'result' });
     return { sort: differs ? 'differs' : 'well', lines: differs ? report.split('\n') : [`${file}: well`] };
   } catch (error) {
     if (error instanceof ScriptTrouble) return { sort: 'refused', lines: error.lines(file) };

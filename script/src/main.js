@@ -3,6 +3,7 @@
 
 const fs = require('fs');
 const { check } = require('./check');
+const { readScript } = require('./input');
 const { readOptions } = require('./options');
 const { runOne } = require('./run_one');
 const { PortTrouble, ScriptTrouble, UsageTrouble } = require('./trouble');
@@ -15,7 +16,7 @@ const say = (text) => fs.writeSync(2, `${text}\n`);
 function single(options) {
   const [file] = options.files;
   const name = file || 'standard input';
-  const { content, report, differs } = runOne(fs.readFileSync(file || 0, 'utf8'), name, options);
+  const { content, report, differs } = runOne(readScript(file || 0), name, options);
   if (report) say(report);
   if (content !== null) write(content, options.out);
   return differs ? STATUS.differs : STATUS.well;

@@ -40,6 +40,14 @@ function bareNew(node, prepare) {
   return finished(withList.replace(/\(\)$/, ''), Precedence.Postfix);
 }
 
+// Between brackets anything may stand; below `new` the printer would put parentheses round calls there.
+function indexed(node, prepare) {
+  return { ...node, object: prepare(node.object), property: finished(text(prepare(node.property)), Precedence.Sequence) };
+}
+
+// What a printer or a parser may take for something else: `in` in a loop's head, a function before an operator.
+const isRisky = (node) => node.operator === 'in' || node.type === 'FunctionExpression';
+
 function preparer(cautious) {
   const every = (value) => (Array.isArray(value) ? value.map(every) : isNode(value) ? prepare(value) : value);
   const prepare = (node) => {
@@ -47,13 +55,14 @@ function preparer(cautious) {
     if (isCoalesce(node)) return coalesce(node, prepare);
     if (node.type === 'LogicalExpression') return logical(node, prepare);
     if (node.type === 'NewExpression' && node.bare) return bareNew(node, prepare);
+    if (node.type === 'MemberExpression' && node.computed) return indexed(node, prepare);
     const made = Object.fromEntries(Object.entries(node).map(([key, value]) => [key, every(value)]));
-    return cautious && node.operator === 'in' ? inParentheses(made) : made;
+    return cautious && isRisky(node) ? inParentheses(made) : made;
   };
   return prepare;
 }
 
-// `cautious` puts parentheses round every `in`, which a loop's head may need where the printer misses it.
+// `cautious` adds parentheses that are seldom needed.
 function print(program, cautious = false) {
   const printed = text(preparer(cautious)(program));
   return printed === '' ? '' : `${printed}\n`;

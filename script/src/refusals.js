@@ -77,7 +77,7 @@ function firstRefused(root, refusal, refusalOf) {
   return statements[low] || null;
 }
 
-const PLACES = { 3: overLong, 6: tooDeep, 7: overNamed, 8: firstRefused, 9: firstRefused };
+const PLACES = { 3: overLong, 6: (root) => tooDeep(root), 7: overNamed, 8: firstRefused, 9: firstRefused };
 
 // `refusalOf` runs the port on another tree and answers its refusal's number.
 function refusalTrouble(number, root, refusalOf) {

@@ -5,6 +5,7 @@ const { K, NAMED, identityOf, preorder } = require('./kinds');
 const { estreeOf } = require('./from_tree');
 const { print } = require('./print');
 const { treeOfText } = require('./to_tree');
+const { ScriptTrouble, trouble } = require('./trouble');
 
 // Pairs of nodes of a tree and of its printed text's tree, in which the printer may have added parentheses; null where they part.
 function* readAgain(node, again) {
@@ -19,9 +20,15 @@ function* readAgain(node, again) {
 
 const sameText = ([node, again]) => node.text === again.text && (NAMED.has(node.kind) || node.bits === again.bits);
 
+// The pairs of a tree and its printed text, null where the text reads otherwise or not at all.
 function pairsOf(root, printed) {
-  const pairs = [...readAgain(root, treeOfText(printed))];
-  return pairs.every((pair) => pair && sameText(pair)) ? pairs : null;
+  try {
+    const pairs = [...readAgain(root, treeOfText(printed))];
+    return pairs.every((pair) => pair && sameText(pair)) ? pairs : null;
+  } catch (error) {
+    if (error instanceof ScriptTrouble) return null;
+    throw error;
+  }
 }
 
 // The identity that a nearer scope catches others with: among those that became one variable, the innermost scope's.
@@ -54,7 +61,7 @@ function printedPairs(root) {
     const pairs = pairsOf(root, text);
     if (pairs) return { text, pairs };
   }
-  throw new Error('the printed result does not read as the result; please report this script');
+  throw trouble(null, 'the result cannot be printed as text that reads as the result; --lines shows it');
 }
 
 // A copy of a tree in which each node has its place in the printed text.

@@ -4,6 +4,8 @@
 const { K, DECLARATION, UNARY, BINARY, ASSIGN, FOR, TRY, bitsOfNumber } = require('./kinds');
 const { addContexts } = require('./contexts');
 const { parse } = require('./parse');
+const { WORDS } = require('./refusals');
+const { trouble } = require('./trouble');
 
 const present = (...children) => children.filter(Boolean);
 
@@ -109,10 +111,16 @@ function treeNode(node) {
 
 // A script's text as a tree with contexts.
 function treeOfText(text) {
-  const program = parse(text);
-  const root = treeNode(program);
-  addContexts(root, program);
-  return root;
+  try {
+    const program = parse(text);
+    const root = treeNode(program);
+    addContexts(root, program);
+    return root;
+  } catch (error) {
+    // Nested so deep that it cannot even be parsed; the port refuses far less.
+    if (error instanceof RangeError) throw trouble(null, `refusal 6: ${WORDS[6]}`);
+    throw error;
+  }
 }
 
 module.exports = { treeOfText };

@@ -13,6 +13,8 @@ class GateScript {
   constructor(seed) {
     this.random = new Random(seed);
     this.left = 4 + this.random.below(7);
+    // A `var` of a block is its function's, so each name is declared by one keyword only.
+    this.declared = new Set();
     this.scopes = [{ numbers: [], flags: [], constants: new Set() }];
   }
 
@@ -54,13 +56,14 @@ class GateScript {
   // A new variable; now and then a `var` declares one again, as in scripts that grew.
   declaration(sort, value) {
     const names = sort === 'numbers' ? NAMES : FLAGS;
-    const fresh = names.filter((name) => !this.known(sort).includes(name));
+    const fresh = names.filter((name) => !this.declared.has(name));
     const again = this.scope[sort].filter((name) => !this.scope.lexical?.has(name) && !this.isConstant(name));
     if (again.length && (this.random.chance(0.08) || !fresh.length)) return `var ${this.random.pick(again)} = ${value};`;
     if (!fresh.length) return this.call();
     const name = this.random.pick(fresh);
     const keyword = this.random.weighed([[5, 'var'], [3, 'let'], [2, 'const']]);
     this.scope[sort].push(name);
+    this.declared.add(name);
     if (keyword === 'const') this.scope.constants.add(name);
     if (keyword !== 'var') (this.scope.lexical ||= new Set()).add(name);
     return `${keyword} ${name} = ${value};`;
