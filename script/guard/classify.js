@@ -4,7 +4,7 @@
 const { K, BINARY, DECLARATION, UNARY, identityOf, isFunction, isStatement, preorder } = require('../src/kinds');
 
 const TITLES = {
-  0: 'no class fits',
+  0: 'no class',
   1: 'a second declaration keeps the first value',
   2: 'a `var` without a value empties, and the mark of being empty stays',
   3: 'a second declaration clears the mark that keeps a variable',

@@ -22,11 +22,11 @@ const step = (node) => statement(hook('at', literal(node.place || 0)));
 
 const isDirective = (node) => node.kind === K.expression && node.children[0].kind === K.string;
 
-// Parameters with the shapes that the host makes its arguments by.
+// Parameters, by the names that the script has for them, with the shapes that the host makes its arguments by.
 function parameters(node, shapes) {
   const skipped = node.kind === K.function || (node.kind === K.functionExpression && node.form) ? 1 : 0;
-  const params = node.children.slice(skipped, -1);
-  return list(params.map((param) => list([literal(param.text), literal(shapes.byIdentity[identityOf({ ...param, text: param.was ?? param.text })])])));
+  const named = node.children.slice(skipped, -1).map((param) => ({ ...param, text: param.was ?? param.text }));
+  return list(named.map((param) => list([literal(param.text), literal(shapes.byIdentity[identityOf(param)])])));
 }
 
 // A list of statements with a step before each; its functions are announced first, since they are there from the start.

@@ -21,13 +21,15 @@ function valueLine({ read, node, inPlace }, text) {
   return [`    ${source(node, text)} is ${read.script} in the script; ${now} in its place is ${read.result} in the result`];
 }
 
+const classOf = ({ number, title }) => (number ? `${title} (class ${number} of docs/DIFFERENCES.md)` : 'no class of docs/DIFFERENCES.md fits');
+
 function findingLines(finding, { name, text }) {
   const { line, column } = finding.node.at.loc.start;
   const kept = finding.node.kind === K.script ? [] : [`    script:  ${source(finding.statement, text)}`];
   const after = finding.after && finding.after.kind !== K.script ? [`    result:  ${shownNode(finding.after)}`] : [];
   const entered = finding.entered ? [`    when ${finding.entered.text}:`] : ['    when the script is run:'];
   return [
-    `${name}:${line}:${column + 1}: the result does something else: ${finding.title} (class ${finding.number} of docs/DIFFERENCES.md)`,
+    `${name}:${line}:${column + 1}: the result does something else: ${classOf(finding)}`,
     ...kept, ...after, ...valueLine(finding, text), ...entered,
     `      the script:  ${oneLine(finding.shown.script)}`,
     `      the result:  ${oneLine(finding.shown.result)}`,

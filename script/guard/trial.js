@@ -41,7 +41,8 @@ function ending(api, act) {
 
 // What the host saw; null where time ran out.
 function runTrial(script, plan, number, logging = false) {
-  const context = vm.createContext({}, { codeGeneration: { strings: false, wasm: false } });
+  // Without a prototype the sandbox leads to no object, and so to no function, from outside.
+  const context = vm.createContext(Object.create(null), { codeGeneration: { strings: false, wasm: false } });
   vm.runInContext('delete globalThis.console', context);
   HOST.runInContext(context)(vm.runInContext(`(${JSON.stringify(hostConfig(plan, number, logging))})`, context));
   const api = vm.runInContext('$negbosun', context);

@@ -10,8 +10,9 @@ const { write } = require('./output');
 // One file's outcome; what cannot be read is refused like what cannot be built.
 function outcomeOf(file, options) {
   try {
-    const { report, differs } = runOne(readScript(file), file, { ...options, output: 'result' });
-    return { sort: differs ? 'differs' : 'well', lines: differs ? report.split('\n') : [`${file}: well`] };
+    const { report, differs, classes } = runOne(readScript(file), file, { ...options, output: 'result' });
+    if (differs) return { sort: 'differs', lines: report.split('\n') };
+    return classes.length ? { sort: 'accepted', lines: [`${file}: accepted, class ${classes.join(', ')}`] } : { sort: 'well', lines: [`${file}: well`] };
   } catch (error) {
     if (error instanceof ScriptTrouble) return { sort: 'refused', lines: error.lines(file) };
     if (error.syscall === 'open' || error.syscall === 'read') return { sort: 'refused', lines: [`${file}: ${error.message}`] };
@@ -25,7 +26,7 @@ function progress(done, count, file) {
 }
 
 function check(options, status) {
-  const counts = { well: 0, differs: 0, refused: 0 };
+  const counts = { well: 0, accepted: 0, differs: 0, refused: 0 };
   const lines = [];
   options.files.forEach((file, index) => {
     progress(index, options.files.length, file);
@@ -34,7 +35,7 @@ function check(options, status) {
     lines.push(...outcome.lines);
   });
   progress(options.files.length, options.files.length, '');
-  lines.push(`${options.files.length} files: ${counts.well} well, ${counts.differs} whose result does something else, ${counts.refused} refused`);
+  lines.push(`${options.files.length} files: ${counts.well} well, ${counts.accepted} accepted, ${counts.differs} whose result does something else, ${counts.refused} refused`);
   write(`${lines.join('\n')}\n`, options.out);
   if (counts.refused) return status.refused;
   return counts.differs ? status.differs : status.well;

@@ -49,10 +49,10 @@ function rowsOf(before, after, anchors) {
   return rows;
 }
 
-// For each printed line the script's own line from which it comes.
+// For each printed line the script's own line from which it comes; the script as a whole begins at its first remark.
 function sourceLines(tree, sources) {
   const lines = new Map();
-  for (const node of preorder(tree)) if (!lines.has(lineOf(node))) lines.set(lineOf(node), lineOf(sources.get(node)));
+  for (const node of [...preorder(tree)].slice(1)) if (!lines.has(lineOf(node))) lines.set(lineOf(node), lineOf(sources.get(node)));
   return lines;
 }
 

@@ -17,13 +17,14 @@ const CONTENT = {
 
 // The comparison is for looking at; what a cabinet could run is held back while the guard objects.
 function runOne(text, name, options) {
-  if (options.output === 'tree') return { content: writeTreeFile(treeOfText(text)), report: null, differs: false };
+  if (options.output === 'tree') return { content: writeTreeFile(treeOfText(text)), report: null, differs: false, classes: [] };
   const { root, answer } = build(text, options);
   const outcome = options.guard ? guard(root, answer.tree, options) : null;
-  const differs = outcome !== null && outcome.findings.some((finding) => !options.accepted(finding.number));
+  const classes = outcome ? [...new Set(outcome.findings.map((finding) => finding.number))] : [];
+  const differs = !classes.every(options.accepted);
   const content = differs && options.output !== 'compare' ? null : CONTENT[options.output](root, answer);
   const report = outcome ? reportOf(outcome, { name, text, held: content === null }) : null;
-  return { content, report, differs };
+  return { content, report, differs, classes };
 }
 
 module.exports = { runOne };

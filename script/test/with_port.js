@@ -98,12 +98,16 @@ function classified() {
 
 const QUIET = ['const a = 7; log(a);', 'var x = 1; while (x) { x; }', 'function f(p) { var a = p; return a; }', 'let n = 5; function f(t) { return t > n; }'];
 
+// Finds its way out only where it can make functions from text; it then ends this program, which fails the tests.
+const WAY_OUT = 'const a = 1; var out = this.constructor.constructor; try { out("return process")().exit(1); } catch (e) { log(e.name, a); }';
+
 function testGuard() {
   const numbers = (text) => {
     const { root, answer } = build(text, {});
     return guard(root, answer.tree, { seed: 1, trials: 60 }).findings.map((finding) => finding.number);
   };
   each('the guard finds and sorts every class', classified(), ({ number, text }) => assert.deepStrictEqual(numbers(text), [number], text));
+  each('the sandbox has no way out', [WAY_OUT], (text) => assert.deepStrictEqual(numbers(text), [], text));
   each('the guard is quiet where nothing differs', QUIET, (text) => assert.deepStrictEqual(numbers(text), [], text));
 }
 
@@ -151,7 +155,7 @@ const COMMANDS = {
   'check of well and differing files': () => {
     const { text, status } = inline(['--check', sampleFile('levels'), sampleFile('midnight_sum')]);
     assert.strictEqual(status, 3);
-    assert.match(text, /2 files: 1 well, 1 whose result does something else, 0 refused\n$/);
+    assert.match(text, /2 files: 1 well, 0 accepted, 1 whose result does something else, 0 refused\n$/);
   },
   'check with a file that is not there': () => assert.strictEqual(inline(['--check', 'nowhere.js', sampleFile('levels')]).status, 1),
   'output whole or absent': outputIsWholeOrAbsent,
