@@ -25,6 +25,7 @@ const TITLES = {
   18: 'an error of the script is gone',
 };
 
+const TOP_CONTEXT = 1n;
 const SIMPLE = new Set([K.null, K.boolean, K.number, K.string, K.identifier]);
 
 // A script's nodes by place, with parents, the nodes in their places in the result, and how each variable is set.
@@ -70,6 +71,12 @@ class Facts {
 
   of(node) {
     return this.sources.get(identityOf(node)) || [];
+  }
+
+  // The last statement in the text that sets a variable of the script's top.
+  lastSetting(text) {
+    const settings = [...this.sources.values()].flat().filter(({ name }) => name.text === text && name.bits === TOP_CONTEXT);
+    return settings.length ? [...this.around(settings.at(-1).name)].find(isStatement) : null;
   }
 
   functionOf(node) {
@@ -219,7 +226,8 @@ function causeOf(shown, read, facts) {
     return { number: 15, node: facts.nodes.get(shown.place) };
   }
   if (read) return { number: ofName(facts.nodes.get(read.place), facts), node: facts.nodes.get(read.place) };
-  return ofStatement(facts.nodes.get(shown.place) || facts.nodes.get(1), shown, facts);
+  const statement = shown.kind === 'final' ? facts.lastSetting(shown.name) : facts.nodes.get(shown.place);
+  return ofStatement(statement || facts.nodes.get(1), shown, facts);
 }
 
 function statementOf(node, facts) {

@@ -18,7 +18,8 @@ function hostNames(root, shapes) {
   const names = new Map();
   const note = (node, mayBeAbsent) => {
     if (node.bits !== HOST_CONTEXT || STANDARD.has(node.text) || node.text === 'arguments') return;
-    names.set(node.text, { name: node.text, index: shapes.byIdentity[`${node.text}:0`], mayBeAbsent: mayBeAbsent || Boolean(names.get(node.text)?.mayBeAbsent) });
+    const known = names.get(node.text) || { name: node.text, index: shapes.byIdentity[identityOf(node)], mayBeAbsent: false };
+    names.set(node.text, { ...known, mayBeAbsent: mayBeAbsent || known.mayBeAbsent });
   };
   for (const node of preorder(root)) {
     if (node.kind === K.identifier) note(node, false);
@@ -36,7 +37,8 @@ function topNames(root) {
     if (node.kind === K.function) names.push({ name: node.children[0].text, callable: true, node });
     if (node.kind !== K.declaration) continue;
     for (const declarator of node.children) {
-      names.push({ name: declarator.children[0].text, callable: Boolean(declarator.children[1] && isFunction(declarator.children[1])), node: declarator });
+      const [name, value] = declarator.children;
+      names.push({ name: name.text, callable: Boolean(value && isFunction(value)), node: declarator });
     }
   }
   return names;
@@ -61,7 +63,9 @@ function planOf(root, changes, seed) {
 function finalDifference(one, two, emptied) {
   const after = new Map(two.finals);
   const other = one.finals.find(([name, text]) => after.get(name) !== text && !(emptied.has(name) && after.get(name) === 'undefined'));
-  return other ? { kind: 'final', script: `${other[0]} ends as ${other[1]}`, result: `${other[0]} ends as ${after.get(other[0])}`, place: 0, index: one.trace.length, name: other[0] } : null;
+  if (!other) return null;
+  const [name, text] = other;
+  return { kind: 'final', script: `${name} ends as ${text}`, result: `${name} ends as ${after.get(name)}`, place: 0, index: one.trace.length, name };
 }
 
 const NOTHING = { kind: 'end', text: 'nothing more', place: 0 };

@@ -5,6 +5,7 @@
 /* global config */
 const { seed, shapes, globals, numbers, steps: limit, moving, throwing, eager, logging } = config;
 const LONGEST_TRACE = 400;
+const ANY = { type: 'plain', literals: [], members: {}, items: null };
 const stop = { stop: true };
 const trace = [];
 const values = [];
@@ -38,7 +39,7 @@ function halt() {
 
 function record(kind, text) {
   if (trace.length >= LONGEST_TRACE) halt();
-  trace.push({ kind, text, place, seen: values.length });
+  trace.push({ kind, text, place });
 }
 
 function shownError(error) {
@@ -51,6 +52,7 @@ function shown(value, depth = 0) {
   if (typeof value !== 'object' || value === null) return Object.is(value, -0) ? '-0' : String(value);
   if (paths.has(value)) return paths.get(value);
   if (value instanceof Error) return shownError(value);
+  if (value instanceof Date) return `Date ${value.getTime()}`;
   if (value === globalThis) return 'global';
   if (depth > 2) return '...';
   if (Array.isArray(value)) return `[${value.map((item) => shown(item, depth + 1)).join(', ')}]`;
@@ -129,7 +131,7 @@ function hostObject(shape, path) {
     },
   });
   function slotFor(key) {
-    if (!slots.has(key)) slots.set(key, slot(shapes[shape.items] || { type: 'plain', literals: [], members: {}, items: null }, `${path}[${shown(key)}]`));
+    if (!slots.has(key)) slots.set(key, slot(shapes[shape.items] || ANY, `${path}[${shown(key)}]`));
     const made = slots.get(key);
     Object.defineProperty(target, key, { enumerable: true, configurable: true, ...made });
     return made;
@@ -154,7 +156,9 @@ function hostFunction(shape, path, owner) {
     if (eager) list.filter((value) => typeof value === 'function' && !paths.has(value)).forEach((value) => enter(value, `${path}'s callback`, count));
     return shape.returns === null ? undefined : make(shapes[shape.returns], `${path}()`, count);
   };
-  for (const [name, index] of Object.entries(shape.members)) Object.defineProperty(made, name, { configurable: true, ...slot(shapes[index], `${path}.${name}`, () => made) });
+  for (const [name, index] of Object.entries(shape.members)) {
+    Object.defineProperty(made, name, { configurable: true, ...slot(shapes[index], `${path}.${name}`, () => made) });
+  }
   paths.set(made, path);
   return made;
 }
@@ -192,7 +196,8 @@ function throws(error) {
 // One call of the host: any function of the script, or one that was handed over.
 function turn(number) {
   const named = own.filter(([name]) => config.entries.includes(name)).map(([name, read]) => [name, readOr(read)]);
-  const callable = [...named, ...callbacks.map((value, index) => [`callback ${index + 1}`, value])].filter(([, value]) => typeof value === 'function');
+  const handed = callbacks.map((value, index) => [`callback ${index + 1}`, value]);
+  const callable = [...named, ...handed].filter(([, value]) => typeof value === 'function');
   if (!callable.length || stopped) return;
   const [name, called] = pick(callable, 'turn', number);
   // Between its calls the host's time goes on.

@@ -36,7 +36,10 @@ function stepped(node, made, shapes) {
   const first = directives < 0 ? statements.length : directives;
   const announced = statements.filter((child) => child.kind === K.function)
     .map((child) => statement(hook('fn', parameters(child, shapes), { type: 'Identifier', name: child.children[0].text })));
-  const rest = statements.slice(first).flatMap((child, index) => (child.kind === K.function ? [made[first + index]] : [step(child), made[first + index]]));
+  const rest = statements.slice(first).flatMap((child, index) => {
+    const own = made[first + index];
+    return child.kind === K.function ? [own] : [step(child), own];
+  });
   return [...made.slice(0, first), ...announced, ...rest];
 }
 
@@ -45,6 +48,10 @@ const block = (...body) => ({ type: 'BlockStatement', body });
 // A branch that is no block gets one, with its step.
 function branch(node, made) {
   return !node || !made || node.kind === K.block || node.kind === K.function ? made : block(step(node), made);
+}
+
+function withBranches({ children }, made) {
+  return { ...made, consequent: branch(children[1], made.consequent), alternate: branch(children[2], made.alternate) };
 }
 
 function unwrapped(made) {
@@ -67,7 +74,7 @@ function instrument(root, shapes, reads) {
     let made = withoutValues(node, given);
     if (LISTS[node.kind]) made = { ...made, [LISTS[node.kind]]: stepped(node, made[LISTS[node.kind]], shapes) };
     if (LOOPS.has(node.kind)) made = { ...made, body: block(step(node), made.body) };
-    if (node.kind === K.if) made = { ...made, consequent: branch(node.children[1], made.consequent), alternate: branch(node.children[2], made.alternate) };
+    if (node.kind === K.if) made = withBranches(node, made);
     if (isFunction(node) && node.kind !== K.function) made = hook('fn', parameters(node, shapes), made);
     return reads.has(node.place) ? { ...hook('value', literal(node.place), made), wrapped: made } : made;
   };

@@ -3,11 +3,13 @@
 
 const { K, BINARY, ASSIGN, UNARY, identityOf, numberOfBits } = require('../src/kinds');
 
-const ARRAY_METHODS = new Set('push pop shift unshift map filter forEach reduce some every sort reverse splice join concat slice indexOf includes length'.split(' '));
-const TEXT_METHODS = new Set('charAt charCodeAt toUpperCase toLowerCase split trim substring substr padStart padEnd startsWith endsWith replace'.split(' '));
-const NUMBER_METHODS = new Set('toFixed toPrecision toString'.split(' '));
-const COMPARED = new Set('== != === !== < <= > >='.split(' '));
-const ARITHMETIC = new Set('- * / % ** < <= > >= << >> >>> & | ^'.split(' '));
+const words = (text) => new Set(text.split(/\s+/));
+const ARRAY_METHODS = words(`push pop shift unshift map filter forEach reduce some every sort reverse splice join concat slice
+  indexOf includes length`);
+const TEXT_METHODS = words('charAt charCodeAt toUpperCase toLowerCase split trim substring substr padStart padEnd startsWith endsWith replace');
+const NUMBER_METHODS = words('toFixed toPrecision toString');
+const COMPARED = words('== != === !== < <= > >=');
+const ARITHMETIC = words('- * / % ** < <= > >= << >> >>> & | ^');
 
 class Shape {
   constructor() {

@@ -12,7 +12,8 @@ function outcomeOf(file, options) {
   try {
     const { report, differs, classes } = runOne(readScript(file), file, { ...options, output: 'result' });
     if (differs) return { sort: 'differs', lines: report.split('\n') };
-    return classes.length ? { sort: 'accepted', lines: [`${file}: accepted, class ${classes.join(', ')}`] } : { sort: 'well', lines: [`${file}: well`] };
+    if (classes.length) return { sort: 'accepted', lines: [`${file}: accepted, class ${classes.join(', ')}`] };
+    return { sort: 'well', lines: [`${file}: well`] };
   } catch (error) {
     if (error instanceof ScriptTrouble) return { sort: 'refused', lines: error.lines(file) };
     if (error.syscall === 'open' || error.syscall === 'read') return { sort: 'refused', lines: [`${file}: ${error.message}`] };
@@ -35,10 +36,11 @@ function check(options, status) {
     lines.push(...outcome.lines);
   });
   progress(options.files.length, options.files.length, '');
-  lines.push(`${options.files.length} files: ${counts.well} well, ${counts.accepted} accepted, ${counts.differs} whose result does something else, ${counts.refused} refused`);
+  const { well, accepted, differs, refused } = counts;
+  lines.push(`${options.files.length} files: ${well} well, ${accepted} accepted, ${differs} whose result does something else, ${refused} refused`);
   write(`${lines.join('\n')}\n`, options.out);
-  if (counts.refused) return status.refused;
-  return counts.differs ? status.differs : status.well;
+  if (refused) return status.refused;
+  return differs ? status.differs : status.well;
 }
 
 module.exports = { check };

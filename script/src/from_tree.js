@@ -67,6 +67,26 @@ function functionExpression({ form, children }, convert) {
   return callable('FunctionExpression', form ? children.slice(1) : children, convert, { id, expression: false });
 }
 
+function functionDeclaration({ children }, convert) {
+  return callable('FunctionDeclaration', children.slice(1), convert, { id: convert(children[0]), expression: false });
+}
+
+function assign({ form, children }, convert) {
+  return { type: 'AssignmentExpression', operator: ASSIGN[form], left: convert(children[0]), right: convert(children[1]) };
+}
+
+function conditional({ children }, convert) {
+  const [test, consequent, alternate] = children.map(convert);
+  return { type: 'ConditionalExpression', test, consequent, alternate };
+}
+
+function call({ children }, convert) {
+  const [callee, ...list] = children.map(convert);
+  return { type: 'CallExpression', callee, arguments: list, optional: false };
+}
+
+const member = (object, key, computed) => ({ type: 'MemberExpression', object, property: key, computed, optional: false });
+
 function newExpression({ form, children }, convert) {
   const [callee, ...list] = children.map(convert);
   return { type: 'NewExpression', callee, arguments: list, bare: form === 0 };
@@ -88,7 +108,7 @@ const SHAPES = {
   [K.expression]: (node, convert) => ({ type: 'ExpressionStatement', expression: convert(node.children[0]) }),
   [K.declaration]: (node, convert) => ({ type: 'VariableDeclaration', kind: DECLARATION[node.form], declarations: node.children.map(convert) }),
   [K.declarator]: declarator,
-  [K.function]: (node, convert) => callable('FunctionDeclaration', node.children.slice(1), convert, { id: convert(node.children[0]), expression: false }),
+  [K.function]: functionDeclaration,
   [K.return]: (node, convert) => ({ type: 'ReturnStatement', argument: node.children[0] ? convert(node.children[0]) : null }),
   [K.if]: ifStatement,
   [K.while]: (node, convert) => ({ type: 'WhileStatement', test: convert(node.children[0]), body: convert(node.children[1]) }),
@@ -114,12 +134,12 @@ const SHAPES = {
   [K.unary]: (node, convert) => ({ type: 'UnaryExpression', operator: UNARY[node.form], prefix: true, argument: convert(node.children[0]) }),
   [K.update]: update,
   [K.binary]: binary,
-  [K.assign]: (node, convert) => ({ type: 'AssignmentExpression', operator: ASSIGN[node.form], left: convert(node.children[0]), right: convert(node.children[1]) }),
-  [K.conditional]: ({ children: [a, b, c] }, convert) => ({ type: 'ConditionalExpression', test: convert(a), consequent: convert(b), alternate: convert(c) }),
-  [K.call]: ({ children: [callee, ...list] }, convert) => ({ type: 'CallExpression', callee: convert(callee), arguments: list.map(convert), optional: false }),
+  [K.assign]: assign,
+  [K.conditional]: conditional,
+  [K.call]: call,
   [K.new]: newExpression,
-  [K.member]: (node, convert) => ({ type: 'MemberExpression', object: convert(node.children[0]), property: { type: 'Identifier', name: node.text }, computed: false, optional: false }),
-  [K.computed]: ({ children: [object, key] }, convert) => ({ type: 'MemberExpression', object: convert(object), property: convert(key), computed: true, optional: false }),
+  [K.member]: (node, convert) => member(convert(node.children[0]), name(node), false),
+  [K.computed]: (node, convert) => member(convert(node.children[0]), convert(node.children[1]), true),
   [K.functionExpression]: functionExpression,
   [K.arrow]: (node, convert) => callable('ArrowFunctionExpression', node.children, convert, { id: null, expression: node.form === 1 }),
   [K.parenthesis]: (node, convert) => ({ type: 'ParenthesizedExpression', expression: convert(node.children[0]) }),

@@ -18,7 +18,9 @@ function textsOf(root) {
 }
 
 function writeNode(bytes, offset, node, texts) {
-  if (node.children.length > MOST_CHILDREN) throw trouble(node.at.loc.start, `a list of over ${MOST_CHILDREN} parts cannot be built; write shorter lists`);
+  if (node.children.length > MOST_CHILDREN) {
+    throw trouble(node.at.loc.start, `a list of over ${MOST_CHILDREN} parts cannot be built; write shorter lists`);
+  }
   bytes.writeUInt8(node.kind, offset);
   bytes.writeUInt8(node.form, offset + 1);
   bytes.writeUInt16LE(node.children.length, offset + 2);

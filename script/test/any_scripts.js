@@ -56,7 +56,7 @@ class AnyScript {
     return body;
   }
 
-  params() { return this.list(() => this.random.pick(['a', 'b', this.fresh()]), 2).filter((name, index, all) => all.indexOf(name) === index).join(', '); }
+  params() { return [...new Set(this.list(() => this.random.pick(['a', 'b', this.fresh()]), 2))].join(', '); }
 
   arrow() {
     return this.random.chance(0.5) ? `(${this.params()}) => ${this.functionBody()}` : `(${this.params()}) => ${this.operand()}`;
@@ -74,7 +74,8 @@ class AnyScript {
 
   // Chains of operators without parentheses, as people write them.
   chain() {
-    return `${this.name()} ${this.random.pick(['+', '-', '*', '<', '===', '&&', '|'])} ${this.small()} ${this.random.pick(['+', '%', '>>', '!=', '&&', '^'])} ${this.name()}`;
+    const [first, second] = [this.random.pick(['+', '-', '*', '<', '===', '&&', '|']), this.random.pick(['+', '%', '>>', '!=', '&&', '^'])];
+    return `${this.name()} ${first} ${this.small()} ${second} ${this.name()}`;
   }
 
   expression() {

@@ -34,6 +34,7 @@ for (let i = 0; i < count; i++) {
   }
   if (process.stderr.isTTY) process.stderr.write(`\r${i + 1} of ${count}`);
 }
-console.log(`${count} scripts (seed ${seed}, ${trials} trials each): ${totals.refused} refused, ${totals.changed} changed, ${totals.differ} whose result does something else`);
+const { refused, changed, differ } = totals;
+console.log(`${count} scripts (seed ${seed}, ${trials} trials each): ${refused} refused, ${changed} changed, ${differ} whose result does something else`);
 for (const number of [...classes.keys()].sort((a, b) => a - b)) console.log(`class ${number}, ${TITLES[number]}: ${classes.get(number)}`);
 if (process.env.SHOW) for (const [number, text] of example) console.log(`--- class ${number}\n${text}`);

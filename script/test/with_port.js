@@ -96,7 +96,9 @@ function classified() {
   });
 }
 
-const QUIET = ['const a = 7; log(a);', 'var x = 1; while (x) { x; }', 'function f(p) { var a = p; return a; }', 'let n = 5; function f(t) { return t > n; }'];
+const QUIET = [
+  'const a = 7; log(a);', 'var x = 1; while (x) { x; }', 'function f(p) { var a = p; return a; }', 'let n = 5; function f(t) { return t > n; }',
+];
 
 // Finds its way out only where it can make functions from text; it then ends this program, which fails the tests.
 const WAY_OUT = 'const a = 1; var out = this.constructor.constructor; try { out("return process")().exit(1); } catch (e) { log(e.name, a); }';

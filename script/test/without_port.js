@@ -66,7 +66,8 @@ function sameVariables(one, two) {
 function testTreeOfSample() {
   each('the tree of samples/scripts/tide.js is samples/tide.tree', [0], () => {
     const [made, stored] = [treeOfText(sampleText('tide')), readTreeFile(fs.readFileSync(path.join(ROOT, 'samples', 'tide.tree')))];
-    const plain = (root) => [...preorder(root)].map(({ kind, form, text, bits, children }) => [kind, form, text, NAMED.has(kind) ? 0n : bits, children.length]);
+    const plainNode = ({ kind, form, text, bits, children }) => [kind, form, text, NAMED.has(kind) ? 0n : bits, children.length];
+    const plain = (root) => [...preorder(root)].map(plainNode);
     const names = (root) => [...preorder(root)].filter(({ kind }) => NAMED.has(kind)).map(identityOf);
     assert.deepStrictEqual(plain(made), plain(stored));
     sameVariables(names(made), names(stored));
