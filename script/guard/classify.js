@@ -221,6 +221,13 @@ function changed(node, facts) {
 
 const WITH_THIS = / on [^)]*$/;
 
+// Of the wrong reads most likely the cause: one that the pass has touched, first of all in the statement where the difference shows.
+function likeliest(shown, reads, facts) {
+  const touched = reads.filter(({ place }) => changed(facts.nodes.get(place), facts));
+  const near = touched.find(({ place }) => statementOf(facts.nodes.get(place), facts).place === shown.place);
+  return near || touched[0] || reads[0] || null;
+}
+
 function causeOf(shown, read, facts) {
   if (shown.script !== shown.result && shown.script.replace(WITH_THIS, '') === shown.result.replace(WITH_THIS, '')) {
     return { number: 15, node: facts.nodes.get(shown.place) };
@@ -236,13 +243,14 @@ function statementOf(node, facts) {
 }
 
 // The class, the node to point at, its statement in script and result, and a key under which like differences are one.
-function classify(subject, shown, read) {
+function classify(subject, shown, reads) {
   subject.facts ||= new Facts(subject);
   const { facts } = subject;
+  const read = likeliest(shown, reads, facts);
   const { number, node } = causeOf(shown, read, facts);
   const statement = statementOf(node, facts);
   const place = { statement, after: facts.after.get(statement.place) || null, inPlace: facts.after.get(node.place) || null };
-  return { number, title: TITLES[number], node, ...place, key: `${number} ${node.place}` };
+  return { number, title: TITLES[number], read, node, ...place, key: `${number} ${node.place}` };
 }
 
 module.exports = { classify, TITLES };

@@ -100,11 +100,12 @@ function valuesUpTo(outcome, index) {
   });
 }
 
-// The first read whose value is another in the result: most often the cause.
-function wrongRead(one, two, index) {
+// The reads whose values are others in the result, in the order of the script's run.
+function wrongReads(one, two, index) {
+  if (!one || !two) return [];
   const after = new Map(valuesUpTo(two, two.trace.length).map(({ key, text }) => [key, text]));
-  const wrong = valuesUpTo(one, index).find(({ key, text }) => after.has(key) && after.get(key) !== text);
-  return wrong ? { place: wrong.place, script: wrong.text, result: after.get(wrong.key) } : null;
+  const wrong = valuesUpTo(one, index).filter(({ key, text }) => after.has(key) && after.get(key) !== text);
+  return wrong.map(({ key, place, text }) => ({ place, script: text, result: after.get(key) }));
 }
 
 const readPlaces = (root) => new Set([...preorder(root)].filter((node) => node.kind === K.identifier).map((node) => node.place));
@@ -142,9 +143,8 @@ function addFinding(findings, finding) {
 
 function explained(subject, runner, number, shown) {
   const [one, two] = [subject.script.told(number), runner.told(number)];
-  const read = one && two ? wrongRead(one, two, shown.index) : null;
-  const cause = classify(subject, shown, read);
-  return { ...cause, shown, read, trial: number, entered: one ? enteredBefore(one.trace, shown.index) : null };
+  const cause = classify(subject, shown, wrongReads(one, two, shown.index));
+  return { ...cause, shown, trial: number, entered: one ? enteredBefore(one.trace, shown.index) : null };
 }
 
 // All trials of the script beside one tree.
@@ -170,9 +170,7 @@ function variableOf({ node }) {
 // Whether the result itself has the wrong value that a result with other variables put back has shown.
 function alsoWrong(subject, runner, { read, trial }) {
   const [one, two] = [subject.script.told(trial), runner.told(trial)];
-  if (!read || !one || !two) return false;
-  const after = new Map(valuesUpTo(two, two.trace.length).map(({ key, text }) => [key, text]));
-  return valuesUpTo(one, one.trace.length).some(({ key, place, text }) => place === read.place && after.has(key) && after.get(key) !== text);
+  return read !== null && wrongReads(one, two, Infinity).some(({ place }) => place === read.place);
 }
 
 // A first difference hides what comes after it: its variable is put back as the script has it, and the trials are made again.
