@@ -190,13 +190,17 @@ function hiddenFindings(subject, actual, found) {
 }
 
 // What a number of made-up hosts show: findings by cause, and how many trials could not be judged.
-function guard(root, tree, options) {
-  const subject = subjectOf(root, tree, options);
-  const outcome = { changes: subject.changes.length, trials: options.trials, unjudged: 0, differing: 0, findings: [] };
-  if (!subject.changes.length) return outcome;
+function runBeside(subject) {
   const actual = new Runner(subject.result, subject.plan, subject.reads);
   const { unjudged, differing, findings } = allTrials(subject, actual);
-  return { ...outcome, unjudged, differing, findings: findings.size ? hiddenFindings(subject, actual, findings) : [] };
+  const all = findings.size ? hiddenFindings(subject, actual, findings) : [];
+  return { changes: subject.changes.length, trials: subject.trials, unjudged, differing, findings: all };
 }
 
-module.exports = { guard };
+// A result that is the script itself need not be run.
+function guard(root, tree, options) {
+  const subject = subjectOf(root, tree, options);
+  return subject.changes.length ? runBeside(subject) : { changes: 0, trials: 0, unjudged: 0, differing: 0, findings: [] };
+}
+
+module.exports = { guard, runBeside, subjectOf };

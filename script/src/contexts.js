@@ -62,8 +62,8 @@ function usedOutsideBlock(manager, found) {
   for (const block of manager.scopes) {
     if (block === block.variableScope || block.isStrict) continue;
     for (const variable of block.variables) {
-      const def = variable.defs.find(({ type }) => type === 'FunctionName');
-      if (!def || keptInBlock(variable.name, block)) continue;
+      const declared = variable.defs.some(({ node }) => node.type === 'FunctionDeclaration');
+      if (!declared || keptInBlock(variable.name, block)) continue;
       const outside = [...references(block.variableScope)].find(({ identifier, from }) =>
         identifier.name === variable.name && found.get(identifier) !== variable && !shadowed(from, variable, block.variableScope));
       if (outside) findings.push(blockFunction(outside.identifier));

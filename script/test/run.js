@@ -2,12 +2,13 @@
 'use strict';
 
 const { counts } = require('./harness');
-const { testErrors, testPrinting, testRoundTrips, testTreeOfSample } = require('./without_port');
+const { testContexts, testErrors, testPrinting, testRoundTrips, testTreeOfSample } = require('./without_port');
 const { testCommand, testGuard, testRefusals, testResults, testSamples } = require('./with_port');
 
 testTreeOfSample();
 testRoundTrips();
 testPrinting();
+testContexts();
 testErrors();
 if (process.env.NEGBOSUN_PORT) {
   testRefusals();

@@ -4,6 +4,7 @@
 const assert = require('assert');
 const fs = require('fs');
 const path = require('path');
+const { runBeside, subjectOf } = require('../guard/guard');
 const { K, NAMED, identityOf, preorder } = require('../src/kinds');
 const { textOfTree } = require('../src/result_text');
 const { treeOfText } = require('../src/to_tree');
@@ -74,6 +75,22 @@ function testTreeOfSample() {
   });
 }
 
+// Every variable below the script's top under a name made of its context; nodes keep their names as `was`.
+function renamedByContext(node) {
+  const children = node.children.map(renamedByContext);
+  const own = NAMED.has(node.kind) && node.bits > 1n;
+  return own ? { ...node, children, was: node.text, text: `${node.text}_${node.bits}` } : { ...node, children };
+}
+
+// Contexts tell variables apart as node does: renamed by them, a script does the same.
+function testContexts() {
+  const texts = [...listed('scopes.txt'), ...samples().map(sampleText), ...seeds(40).map((seed) => anyScript(seed, sizeOf(seed)))];
+  each('renamed by contexts, node does the same', texts, (text) => {
+    const outcome = runBeside(subjectOf(treeOfText(text), renamedByContext(treeOfText(text)), { seed: 1, trials: 10 }));
+    assert.deepStrictEqual(outcome.findings.map(({ shown }) => shown), [], text);
+  });
+}
+
 function refusedAs(line) {
   const [, place, said, text] = /^(\S+) (.*?) \| (.*)$/.exec(line);
   try {
@@ -90,4 +107,4 @@ function testErrors() {
   each('constructs refused with place and name', listed('refused.txt'), refusedAs);
 }
 
-module.exports = { testErrors, testPrinting, testRoundTrips, testTreeOfSample };
+module.exports = { testContexts, testErrors, testPrinting, testRoundTrips, testTreeOfSample };
