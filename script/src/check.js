@@ -38,7 +38,7 @@ function check(options, status) {
   progress(options.files.length, options.files.length, '');
   const { well, accepted, differs, refused } = counts;
   lines.push(`${options.files.length} files: ${well} well, ${accepted} accepted, ${differs} whose result does something else, ${refused} refused`);
-  write(`${lines.join('\n')}\n`, options.out);
+  write(`${lines.join('\n')}\n`, options.out, options.files);
   if (refused) return status.refused;
   return differs ? status.differs : status.well;
 }

@@ -18,7 +18,7 @@ function single(options) {
   const name = file || 'standard input';
   const { content, report, differs } = runOne(readScript(file || 0), name, options);
   if (report) say(report);
-  if (content !== null) write(content, options.out);
+  if (content !== null) write(content, options.out, options.files);
   return differs ? STATUS.differs : STATUS.well;
 }
 

@@ -3,6 +3,7 @@
 
 const fs = require('fs');
 const path = require('path');
+const { UsageTrouble } = require('./trouble');
 
 function writeAll(descriptor, bytes) {
   for (let done = 0; done < bytes.length;) {
@@ -15,21 +16,32 @@ function writeAll(descriptor, bytes) {
   }
 }
 
+// Where a name leads in the end; a device or folder is never replaced, nor a script by its result.
+function placeOf(file, scripts) {
+  if (!fs.existsSync(file)) return file;
+  const real = fs.realpathSync(file);
+  if (!fs.statSync(real).isFile()) throw new UsageTrouble(`--out ${file}: not a plain file`);
+  if (scripts.some((script) => fs.existsSync(script) && fs.realpathSync(script) === real)) throw new UsageTrouble(`--out ${file}: that is the script`);
+  return real;
+}
+
 // A file is written beside its name and then moved there.
-function writeFile(file, bytes) {
-  const beside = path.join(path.dirname(file), `.${path.basename(file)}.${process.pid}`);
+function writeFile(file, bytes, scripts) {
+  const place = placeOf(file, scripts);
+  const beside = path.join(path.dirname(place), `.${path.basename(place)}.${process.pid}`);
   try {
     fs.writeFileSync(beside, bytes, { flag: 'wx' });
-    fs.renameSync(beside, file);
+    fs.renameSync(beside, place);
   } catch (error) {
     fs.rmSync(beside, { force: true });
     throw error;
   }
 }
 
-function write(content, file) {
+// `scripts` are the files that were read.
+function write(content, file, scripts = []) {
   const bytes = Buffer.from(content);
-  if (file) writeFile(file, bytes);
+  if (file) writeFile(file, bytes, scripts);
   else writeAll(1, bytes);
 }
 

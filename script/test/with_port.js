@@ -125,6 +125,10 @@ function outputIsWholeOrAbsent() {
     assert.strictEqual(read(file), 'var x;\n1;\n');
     assert.strictEqual(inline(['--out', file], 'class A {}').status, 1);
     assert.strictEqual(read(file), 'var x;\n1;\n');
+    assert.strictEqual(inline(['--out', file, file]).status, 2);
+    assert.strictEqual(inline(['--out', folder], 'f();').status, 2);
+    assert.strictEqual(inline(['--out', '/dev/null'], 'f();').status, 2);
+    assert.strictEqual(read(file), 'var x;\n1;\n');
     assert.deepStrictEqual(fs.readdirSync(folder), ['out.js']);
   } finally {
     fs.rmSync(folder, { recursive: true });
