@@ -174,7 +174,7 @@ function ofSource(node, after, sources, facts) {
 
 function ofReplaced(node, after, sources, facts) {
   if (facts.inFinally(node) || sources.some(({ name }) => facts.inFinally(name))) return 8;
-  if (isVoid(after)) return sources.some(isAlias) ? 11 : 2;
+  if (isVoid(after)) return sources.some((source) => isAlias(source) && hasMoved(source.value, facts)) ? 11 : 2;
   if (sources.some((source) => source.how === 'const' && isAlias(source))) return 7;
   const values = sources.filter(declares).length > 1 ? sources.filter((source) => declares(source) && source.how !== 'function') : [];
   if (values.length > 1 && SIMPLE.has(after.kind)) return 1;
@@ -199,7 +199,7 @@ function ofError(statement, facts) {
 
 const emptiedWithEffect = (node, facts) => facts.emptied.has(node) && !SIMPLE.has(node.children[1].kind);
 
-// No name was seen with another value: the statement itself is looked at, then what was moved from anywhere.
+// No name with another value tells the cause: the statement itself is looked at, then what was moved from anywhere.
 function ofStatement(statement, shown, facts) {
   if (/^throws ReferenceError/.test(shown.script)) {
     const found = ofError(statement, facts);
@@ -232,7 +232,8 @@ function causeOf(shown, read, facts) {
   if (shown.script !== shown.result && shown.script.replace(WITH_THIS, '') === shown.result.replace(WITH_THIS, '')) {
     return { number: 15, node: facts.nodes.get(shown.place) };
   }
-  if (read) return { number: ofName(facts.nodes.get(read.place), facts), node: facts.nodes.get(read.place) };
+  const number = read ? ofName(facts.nodes.get(read.place), facts) : 0;
+  if (number) return { number, node: facts.nodes.get(read.place) };
   const statement = shown.kind === 'final' ? facts.lastSetting(shown.name) : facts.nodes.get(shown.place);
   return ofStatement(statement || facts.nodes.get(1), shown, facts);
 }

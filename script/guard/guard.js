@@ -59,10 +59,10 @@ function planOf(root, changes, seed) {
   };
 }
 
-// A variable of the script's top whose declaration was emptied may be left undefined; that alone is no difference.
+// The last value of a variable of the script's top is no difference where its declaration was emptied: every such change would show.
 function finalDifference(one, two, emptied) {
   const after = new Map(two.finals);
-  const other = one.finals.find(([name, text]) => after.get(name) !== text && !(emptied.has(name) && after.get(name) === 'undefined'));
+  const other = one.finals.find(([name, text]) => after.get(name) !== text && !emptied.has(name));
   if (!other) return null;
   const [name, text] = other;
   return { kind: 'final', script: `${name} ends as ${text}`, result: `${name} ends as ${after.get(name)}`, place: 0, index: one.trace.length, name };
@@ -137,8 +137,7 @@ function subjectOf(root, tree, options) {
 // Differences of one cause are told once, by the shortest trial that shows them.
 function addFinding(findings, finding) {
   const known = findings.get(finding.key);
-  if (!known) findings.set(finding.key, { ...finding, trials: 1 });
-  else findings.set(finding.key, { ...(finding.shown.index < known.shown.index ? finding : known), trials: known.trials + 1 });
+  if (!known || finding.shown.index < known.shown.index) findings.set(finding.key, finding);
 }
 
 function explained(subject, runner, number, shown) {
@@ -152,11 +151,13 @@ function allTrials(subject, runner) {
   const outcome = { unjudged: 0, differing: 0, findings: new Map() };
   for (let number = 0; number < subject.trials; number++) {
     const [one, two] = [subject.script.outcome(number), runner.outcome(number)];
-    if (!one || !two || (one.stopped && two.stopped)) outcome.unjudged += 1;
     const shown = one && two && difference(one, two, subject.plan.emptied);
-    if (!shown) continue;
-    outcome.differing += 1;
-    addFinding(outcome.findings, explained(subject, runner, number, shown));
+    if (shown) {
+      outcome.differing += 1;
+      addFinding(outcome.findings, explained(subject, runner, number, shown));
+    } else if (!one || !two || one.stopped || two.stopped) {
+      outcome.unjudged += 1;
+    }
   }
   return outcome;
 }

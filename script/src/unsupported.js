@@ -21,7 +21,7 @@ const NEVER = {
   AwaitExpression: ['await', 'a function that is called when the value is there'],
   LabeledStatement: ['a label', 'a function that is left by `return`, or a variable that the outer loop tests'],
   WithStatement: ['with', 'the object\'s name before each property'],
-  DebuggerStatement: ['debugger', 'nothing; leave it out'],
+  DebuggerStatement: ['debugger', 'nothing in its place'],
   ChainExpression: ['optional chaining', 'a test: `a && a.b`'],
   MetaProperty: ['new.target or import.meta', 'a parameter'],
   ImportExpression: ['import', 'a script by itself; the host\'s names are global'],
