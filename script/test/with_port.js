@@ -109,7 +109,7 @@ function testGuard() {
     return guard(root, answer.tree, { seed: 1, trials: 60 }).findings.map((finding) => finding.number);
   };
   each('the guard finds and sorts every class', classified(), ({ number, text }) => assert.deepStrictEqual(numbers(text), [number], text));
-  each('the sandbox has no way out', [WAY_OUT], (text) => assert.deepStrictEqual(numbers(text), [], text));
+  each('a known way out of the sandbox is shut', [WAY_OUT], (text) => assert.deepStrictEqual(numbers(text), [], text));
   each('the guard is quiet where nothing differs', QUIET, (text) => assert.deepStrictEqual(numbers(text), [], text));
 }
 
