@@ -1,0 +1,41 @@
+const day = 1440;
+const rest = 45;
+let nights = 0;
+function minuteOf(clock) {
+  return clock.hour * 60 + clock.minute;
+}
+function shorter(from, to) {
+  var length = to - from;
+  if (length < 0) {
+    length += 1440;
+  }
+  return length;
+}
+function closing(clock, before) {
+  let today = before;
+  const limit = today;
+  today = minuteOf(clock);
+  if (today < today) {
+    today += 1440;
+    nights += 1;
+  }
+  if (shorter(today, today) > 45) {
+    lower("gate");
+    return today - today;
+  }
+  hold("gate", nights);
+  return 0;
+}
+function evening(clock, plan) {
+  var kept = [];
+  for (const minute of plan.closings) {
+    const open = closing(clock, minute);
+    if (open > 0) {
+      kept.push(open);
+    }
+  }
+  if (kept.length === 0) {
+    report("nothing closed", plan.name);
+  }
+  return kept;
+}

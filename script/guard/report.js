@@ -1,0 +1,52 @@
+// What the guard found, for a person: class, statement, and the concrete values that show it.
+'use strict';
+
+const { K } = require('../src/kinds');
+const { estreeOf } = require('../src/from_tree');
+const { print } = require('../src/print');
+
+const LONGEST = 90;
+
+function oneLine(text) {
+  const line = text.replace(/\s+/g, ' ').trim();
+  return line.length > LONGEST ? `${line.slice(0, LONGEST - 4)} ...` : line;
+}
+
+const shownNode = (node) => oneLine(print(estreeOf(node)));
+const source = (node, text) => oneLine(text.slice(node.at.start, node.at.end));
+
+function valueLine({ read, node, inPlace }, text) {
+  if (!read) return [];
+  const now = inPlace ? shownNode(inPlace) : node.text;
+  return [`    ${source(node, text)} is ${read.script} in the script; ${now} in its place is ${read.result} in the result`];
+}
+
+const classOf = ({ number, title }) => (number ? `${title} (class ${number} of docs/DIFFERENCES.md)` : 'no class of docs/DIFFERENCES.md fits');
+
+function findingLines(finding, { name, text }) {
+  const { line, column } = finding.node.at.loc.start;
+  const kept = finding.node.kind === K.script ? [] : [`    script:  ${source(finding.statement, text)}`];
+  const after = finding.after && finding.after.kind !== K.script ? [`    result:  ${shownNode(finding.after)}`] : [];
+  const entered = finding.entered ? [`    when ${finding.entered.text}:`] : ['    when the script is run:'];
+  return [
+    `${name}:${line}:${column + 1}: the result does something else: ${classOf(finding)}`,
+    ...kept, ...after, ...valueLine(finding, text), ...entered,
+    `      the script:  ${oneLine(finding.shown.script)}`,
+    `      the result:  ${oneLine(finding.shown.result)}`,
+  ];
+}
+
+function summary({ changes, trials, differing, unjudged, findings }, { name, held }) {
+  if (!changes) return `${name}: the pass changes nothing here`;
+  const judged = unjudged ? `, ${unjudged} could not be judged` : '';
+  const written = held ? '; nothing was written (--accept writes it all the same)' : '';
+  if (!findings.length) return `${name}: script and result did the same in ${trials} trials${judged}; a test and no proof`;
+  return `${name}: ${differing} of ${trials} trials differ${judged}; a test and no proof${written}`;
+}
+
+// `about` has the script's name and text, and whether the result was held back.
+function reportOf(outcome, about) {
+  return [...outcome.findings.flatMap((finding) => findingLines(finding, about)), summary(outcome, about)].join('\n');
+}
+
+module.exports = { reportOf };

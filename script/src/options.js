@@ -1,0 +1,87 @@
+// The command's options.
+'use strict';
+
+const { parseArgs } = require('util');
+const { MOST_RUNS } = require('./port');
+const { WORDS } = require('./refusals');
+const { UsageTrouble } = require('./trouble');
+
+const HELP = `Usage: script/inline [OPTIONS] [FILE.js]
+       script/inline --check [OPTIONS] FILE.js...
+
+Takes a gate script (a file, or standard input) through the proved pass and prints the result as JavaScript.
+Script and result are then run beside each other against a made-up host; where they do not do the same, the
+differences are told and nothing is written. That is a test and no proof.
+
+  --tree            write the script's tree file alone
+  --lines           write the port's lines
+  --compare         show script and result line by line, with each replaced name and each emptied declaration
+  --check           go through many files: a line for each, a summary, an exit status
+  --out FILE        write there instead of to standard output, whole or not at all
+  --runs N          at most N runs, 1 to ${MOST_RUNS} (${MOST_RUNS})
+  --accept          write the result although it does something else; --accept=1,13 for these classes only
+  --no-guard        do not run script and result beside each other
+  --trials N        how many made-up hosts (60)
+  --seed N          other made-up hosts (1)
+  --port PROGRAM    the port (NEGBOSUN_PORT, or target/bin/negbosun)
+  --help            this text
+
+Exit status: 0 all well; 1 refused; 2 called wrongly, or no port; 3 the result does something else.
+Classes are those of docs/DIFFERENCES.md.
+`;
+
+const FLAGS = ['tree', 'lines', 'compare', 'check', 'no-guard', 'help'];
+const VALUES = ['out', 'runs', 'trials', 'seed', 'port', 'accept'];
+const MOST_TRIALS = 100000;
+
+function whole(text, name, low, high) {
+  const value = Number(text);
+  if (!/^\d+$/.test(text) || value < low || value > high) throw new UsageTrouble(`--${name} takes a number from ${low} to ${high}`);
+  return value;
+}
+
+function runLimit(text) {
+  if (!/^\d+$/.test(text) || Number(text) < 1 || Number(text) > MOST_RUNS) throw new UsageTrouble(`refusal 1: ${WORDS[1]}`);
+  return Number(text);
+}
+
+// None, all, or the numbers of the accepted classes.
+function acceptedClasses(text) {
+  if (text === undefined) return () => false;
+  if (text === '') return () => true;
+  const classes = new Set(text.split(',').map((part) => whole(part, 'accept', 1, 18)));
+  return (number) => classes.has(number);
+}
+
+function parsed(list) {
+  const options = Object.fromEntries([...FLAGS.map((name) => [name, { type: 'boolean' }]), ...VALUES.map((name) => [name, { type: 'string' }])]);
+  // `--accept` by itself accepts every class.
+  const given = list.map((word) => (word === '--accept' ? '--accept=' : word));
+  try {
+    return parseArgs({ args: given, options, allowPositionals: true });
+  } catch (error) {
+    throw new UsageTrouble(error.message);
+  }
+}
+
+function readOptions(list) {
+  const { values, positionals: files } = parsed(list);
+  if (values.help) return { help: HELP };
+  const kinds = ['tree', 'lines', 'compare', 'check'].filter((name) => values[name]);
+  if (kinds.length > 1) throw new UsageTrouble(`--${kinds[0]} and --${kinds[1]} do not go together`);
+  if (!values.check && files.length > 1) throw new UsageTrouble('one file at a time; --check takes many');
+  if (values.check && !files.length) throw new UsageTrouble('--check takes the files to go through');
+  return {
+    files,
+    output: kinds[0] || 'result',
+    out: values.out,
+    runs: values.runs === undefined ? undefined : runLimit(values.runs),
+    accepted: acceptedClasses(values.accept),
+    guard: !values['no-guard'],
+    trials: whole(values.trials ?? '60', 'trials', 1, MOST_TRIALS),
+    seed: whole(values.seed ?? '1', 'seed', 0, 2 ** 31),
+    port: values.port,
+  };
+}
+
+module.exports = { readOptions };

@@ -1,0 +1,47 @@
+// The one place that runs the pass: the proved port as a program that reads a tree file and prints document 01's lines.
+'use strict';
+
+const { spawnSync } = require('child_process');
+const fs = require('fs');
+const path = require('path');
+const { treeOfLines } = require('./tree_file');
+const { PortTrouble } = require('./trouble');
+
+const DEFAULT_PORT = path.join(__dirname, '..', '..', 'target', 'bin', 'negbosun');
+const MOST_RUNS = 16;
+const LONGEST_ANSWER = 1 << 24;
+
+const portPath = (named) => named || process.env.NEGBOSUN_PORT || DEFAULT_PORT;
+
+// Without a limit the program is called without arguments, as document 01 has it.
+function portOutput(bytes, { port, runs }) {
+  const command = portPath(port);
+  if (!fs.existsSync(command)) {
+    throw new PortTrouble(`no port at ${command}; build it, or name one by --port or NEGBOSUN_PORT`);
+  }
+  const list = runs === undefined ? [] : ['--runs', String(runs)];
+  const { stdout, stderr, error } = spawnSync(command, list, { input: bytes, encoding: 'utf8', maxBuffer: LONGEST_ANSWER });
+  if (error && error.code !== 'EPIPE') throw new PortTrouble(`${command}: ${error.message}`);
+  if (!/^(refused \d+|ok runs \d+ changed [01] nodes \d+)$/m.test(stdout)) {
+    throw new PortTrouble(`${command} gave no answer of the port${stderr ? `: ${stderr.trim()}` : ''}`);
+  }
+  return stdout;
+}
+
+// A port that passes over its arguments makes 16 runs; what ended by itself within the limit is the same either way.
+function checkLimit(done, runs) {
+  if (runs !== undefined && done > runs) throw new PortTrouble(`this port takes no run limit: ${done} runs were made`);
+}
+
+// The answer to a tree file: a refusal's number, or lines, runs, mark and the result's tree.
+function runPort(bytes, texts, options) {
+  const lines = portOutput(bytes, options);
+  const refusal = /^refused (\d+)$/m.exec(lines);
+  if (refusal) return { refused: Number(refusal[1]), lines };
+  const [head, ...rest] = lines.trimEnd().split('\n');
+  const [, done, changed, count] = /^ok runs (\d+) changed ([01]) nodes (\d+)$/.exec(head).map(Number);
+  checkLimit(done, options.runs);
+  return { refused: 0, lines, runs: done, changed, tree: treeOfLines(rest.slice(0, count), texts) };
+}
+
+module.exports = { runPort, MOST_RUNS };

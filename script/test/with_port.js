@@ -1,0 +1,180 @@
+// Tests of the whole command with a port.
+'use strict';
+
+const assert = require('assert');
+const { spawnSync } = require('child_process');
+const fs = require('fs');
+const os = require('os');
+const path = require('path');
+const { guard } = require('../guard/guard');
+const { build } = require('../src/build');
+const { textOfTree } = require('../src/result_text');
+const { writeTreeFile } = require('../src/tree_file');
+const { treeOfText } = require('../src/to_tree');
+const { ScriptTrouble } = require('../src/trouble');
+const { anyScript } = require('./any_scripts');
+const { ROOT, RESULTS, read, sampleFile, sampleText, samples } = require('./files');
+const { each } = require('./harness');
+
+function inline(list, input = '') {
+  const { status, stdout, stderr } = spawnSync(path.join(ROOT, 'script', 'inline'), list, { cwd: ROOT, input });
+  return { status, out: stdout, text: stdout.toString(), said: stderr.toString() };
+}
+
+const lines = (count, make) => Array.from({ length: count }, (_, index) => make(index)).join('\n');
+
+// Each refusal that a text can cause, with the place that is named.
+const REFUSED = [
+  [3, '1024:1', lines(1030, () => ';')],
+  [3, '257:1', lines(260, (n) => `"${n}";`)],
+  [3, '5:1', lines(6, (n) => `"${String(n).repeat(1000)}";`)],
+  [6, '1:202', `x = ${'['.repeat(199)}${']'.repeat(199)};`],
+  [7, '58:6', `[${Array.from({ length: 200 }, (_, n) => `a${n}`)}];\n${lines(60, () => '{let a0}')}`],
+  [8, '2:1', 'g();\nconst a = a;\na;\ng();'],
+  [8, '4:3', 'g();\nfunction f(y) {\n  var y = b && [y];\n  z = [y];\n}\ng();'],
+  [9, '342:1', `var x;\n${lines(510, () => 'x;')}`],
+];
+
+function refused([number, place, text]) {
+  try {
+    build(text, {});
+  } catch (error) {
+    if (!(error instanceof ScriptTrouble)) throw error;
+    const [line] = error.lines('x');
+    assert.ok(line.includes(`refusal ${number}: `), line);
+    assert.ok(line.startsWith(`x:${place}: `), line);
+    return;
+  }
+  assert.fail(`not refused: ${text.slice(0, 80)}`);
+}
+
+function testRefusals() {
+  each('refusals in words with place', REFUSED, refused);
+}
+
+// What the pass makes of random scripts can be printed and reads as it was.
+function testResults() {
+  each('results of random scripts printed', Array.from({ length: 150 }, (_, seed) => seed), (seed) => {
+    try {
+      textOfTree(build(anyScript(seed, 5 + (seed % 80)), {}).answer.tree);
+    } catch (error) {
+      if (!(error instanceof ScriptTrouble)) throw error;
+    }
+  });
+}
+
+// Result and report are the stored ones; where the report is of no difference, the result was run beside the script and did the same.
+function sampleResult(name) {
+  const { text, said, status } = inline(['--accept', sampleFile(name)]);
+  assert.strictEqual(status, 0);
+  assert.strictEqual(text, read(path.join(RESULTS, `${name}.js`)));
+  assert.strictEqual(said, read(path.join(RESULTS, `${name}.guard`)));
+}
+
+function sampleSize(name) {
+  const nodes = writeTreeFile(treeOfText(sampleText(name))).readUInt32LE(8);
+  assert.ok(nodes >= 100 && nodes <= 600, `${name}: ${nodes} nodes`);
+}
+
+function testSamples() {
+  each('samples have 100 to 600 nodes', samples(), sampleSize);
+  each('results of samples and what the guard says', samples(), sampleResult);
+  each('comparison of a sample', ['midnight_sum'], (name) => {
+    const { text, status } = inline(['--compare', sampleFile(name)]);
+    assert.strictEqual(status, 3);
+    assert.strictEqual(text, read(path.join(RESULTS, `${name}.compare`)));
+  });
+}
+
+// Scripts by class from classes.txt.
+function classified() {
+  let number = 0;
+  return read(path.join(__dirname, 'classes.txt')).split('\n').flatMap((line) => {
+    const head = /^# (\d+)/.exec(line);
+    if (head) number = Number(head[1]);
+    return line && !line.startsWith('#') ? [{ number, text: line }] : [];
+  });
+}
+
+const QUIET = [
+  'const a = 7; log(a);', 'var x = 1; while (x) { x; }', 'function f(p) { var a = p; return a; }', 'let n = 5; function f(t) { return t > n; }',
+];
+
+// Finds its way out only where it can make functions from text; it then ends this program, which fails the tests.
+const WAY_OUT = 'const a = 1; var out = this.constructor.constructor; try { out("return process")().exit(1); } catch (e) { log(e.name, a); }';
+
+function testGuard() {
+  const numbers = (text) => {
+    const { root, answer } = build(text, {});
+    return guard(root, answer.tree, { seed: 1, trials: 60 }).findings.map((finding) => finding.number);
+  };
+  each('the guard finds and sorts every class', classified(), ({ number, text }) => assert.deepStrictEqual(numbers(text), [number], text));
+  each('a known way out of the sandbox is shut', [WAY_OUT], (text) => assert.deepStrictEqual(numbers(text), [], text));
+  each('the guard is quiet where nothing differs', QUIET, (text) => assert.deepStrictEqual(numbers(text), [], text));
+}
+
+const DIFFERING = 'function f(t, c) { if (t + c > 300) { g(); } t = 0; }';
+
+function outputIsWholeOrAbsent() {
+  const folder = fs.mkdtempSync(path.join(os.tmpdir(), 'inline-'));
+  const file = path.join(folder, 'out.js');
+  try {
+    assert.strictEqual(inline(['--out', file], DIFFERING).status, 3);
+    assert.deepStrictEqual(fs.readdirSync(folder), []);
+    assert.strictEqual(inline(['--out', file], 'var x = 1; x;').status, 0);
+    assert.strictEqual(read(file), 'var x;\n1;\n');
+    assert.strictEqual(inline(['--out', file], 'class A {}').status, 1);
+    assert.strictEqual(read(file), 'var x;\n1;\n');
+    assert.strictEqual(inline(['--out', file, file]).status, 2);
+    assert.strictEqual(inline(['--out', folder], 'f();').status, 2);
+    assert.strictEqual(inline(['--out', '/dev/null'], 'f();').status, 2);
+    assert.strictEqual(read(file), 'var x;\n1;\n');
+    assert.deepStrictEqual(fs.readdirSync(folder), ['out.js']);
+  } finally {
+    fs.rmSync(folder, { recursive: true });
+  }
+}
+
+const COMMANDS = {
+  'result on standard output': () => assert.strictEqual(inline([], 'const a = 7; a;').text, 'const a = 7;\n7;\n'),
+  'lines': () => assert.match(inline(['--lines'], 'const a = 7; a;').text, /^ok runs 2 changed 0 nodes 7\n1 0 2 0 0000000000000000\n/),
+  'tree file': () => assert.ok(inline(['--tree'], 'const a = 7; a;').out.equals(writeTreeFile(treeOfText('const a = 7; a;')))),
+  'held back while it differs': () => {
+    const { text, status, said } = inline([], DIFFERING);
+    assert.deepStrictEqual([text, status], ['', 3]);
+    assert.match(said, /class 5 of docs\/DIFFERENCES.md/);
+    assert.match(said, /a test and no proof/);
+  },
+  'accepted': () => assert.strictEqual(inline(['--accept'], DIFFERING).status, 0),
+  'accepted by class': () => assert.deepStrictEqual([inline(['--accept=5'], DIFFERING).status, inline(['--accept=7'], DIFFERING).status], [0, 3]),
+  'no guard': () => assert.deepStrictEqual([inline(['--no-guard'], DIFFERING).status, inline(['--no-guard'], DIFFERING).said], [0, '']),
+  'one run, where the port takes a limit': () => {
+    const { text, said } = inline(['--lines', '--runs', '1'], 'var x = 1; x;');
+    assert.match(text + said, /^ok runs 1 changed 1 |this port takes no run limit/);
+  },
+  'a file that is not UTF-8': () => assert.match(inline([], Buffer.from([0x78, 0xff])).said, /not UTF-8/),
+  'nested deeper than can be read': () => assert.match(inline([], `${'['.repeat(20000)}${']'.repeat(20000)}`).said, /refusal 6: /),
+  'run limit out of range': () => assert.match(inline(['--runs', '17'], '').said, /refusal 1: /),
+  'unknown option': () => assert.strictEqual(inline(['--what'], '').status, 2),
+  'no port': () => assert.strictEqual(inline(['--port', 'nowhere'], '').status, 2),
+  'an empty script': () => assert.deepStrictEqual([inline([], '').text, inline([], '').status], ['', 0]),
+  'check of well and differing files': () => {
+    const { text, status } = inline(['--check', sampleFile('levels'), sampleFile('midnight_sum')]);
+    assert.strictEqual(status, 3);
+    assert.match(text, /2 files: 1 well, 0 accepted, 1 whose result does something else, 0 refused\n$/);
+  },
+  'check with a file that is not there': () => assert.strictEqual(inline(['--check', 'nowhere.js', sampleFile('levels')]).status, 1),
+  'output whole or absent': outputIsWholeOrAbsent,
+};
+
+function testCommand() {
+  each('the command', Object.entries(COMMANDS), ([name, act]) => {
+    try {
+      act();
+    } catch (error) {
+      throw new Error(`${name}: ${error.message}`);
+    }
+  });
+}
+
+module.exports = { testCommand, testGuard, testRefusals, testResults, testSamples };

@@ -1,0 +1,31 @@
+#!/usr/bin/env bash
+# script/inline: text to tree file and back, what is refused, and, with a port, samples, guard and command. The last line counts.
+# The port is NEGBOSUN_PORT, or target/bin/negbosun, or, while that is not built, the original's oracle in its place.
+set -u
+cd "$(dirname "$0")/.." || exit 1
+log=$(mktemp)
+trap 'rm -f "$log"' EXIT
+
+skip() {
+    echo "script: skipped, $*"
+    echo "0 passed, 0 failed"
+    exit 0
+}
+
+command -v node >/dev/null 2>&1 || skip "no node"
+node -e 'process.exit(parseInt(process.versions.node) >= 20 ? 0 : 1)' || skip "node 20 or newer is needed"
+if ! script/setup >"$log" 2>&1; then
+    tail -n 3 "$log"
+    skip "the libraries node-acorn, node-eslint-scope and node-escodegen are absent and could not be installed"
+fi
+
+if [ -z "${NEGBOSUN_PORT:-}" ]; then
+    for candidate in target/bin/negbosun oracle/target/release/oracle; do
+        if [ -x "$candidate" ]; then
+            export NEGBOSUN_PORT=$PWD/$candidate
+            break
+        fi
+    done
+fi
+echo "script: the port is ${NEGBOSUN_PORT:-not built; what needs it is skipped}"
+NODE_PATH=/usr/share/nodejs node script/test/run.js
