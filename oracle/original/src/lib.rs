@@ -90,7 +90,8 @@ impl Built {
         unbuild::program(&self.0)
     }
 
-    /// Not inlined, so that a profiler finds it. The original on its tree, until a run leaves no mark or `limit` runs are done; how many were.
+    /// The original on its tree, until a run leaves no mark or `limit` runs are done; how many were.
+    // Not inlined, so that a profiler finds it.
     #[inline(never)]
     pub fn run(&mut self, limit: u32) -> u32 {
         self.runs(limit).0
