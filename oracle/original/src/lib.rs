@@ -12,11 +12,11 @@ use inlining::{inlining, Config};
 use limits::Refusal;
 use std::panic::{catch_unwind, resume_unwind, AssertUnwindSafe};
 use swc_common::pass::Repeated;
-use swc_ecma_ast::{Measured, Pass};
+use swc_ecma_ast::{Measured, Pass, Program};
 use swc_ecma_visit::VisitMut;
-use tree_file::{Answer, Outcome, Script};
+use tree_file::{Answer, Outcome, Script, Tree};
 
-pub use limits::Peaks;
+pub use limits::{Peaks, WATCHED};
 
 pub const WORDS: usize = 16_384;
 
@@ -66,23 +66,51 @@ pub fn peaks() -> Peaks {
 }
 
 fn repeat(script: &Script, limit: u32) -> Outcome {
-    let mut program = build::program(script);
-    let mut pass = inlining(Config {});
-    let mut runs = 0;
-    loop {
-        pass.process(&mut program);
-        limits::run_ended(program.size());
-        runs += 1;
-        if !pass.changed() || runs == limit {
-            break;
-        }
-        pass.reset();
-    }
+    let mut built = Built::new(script);
+    let (runs, pass) = built.runs(limit);
     let root = |(id, mark): (swc_ecma_ast::Id, bool)| (id.0.number, id.1 .0, mark);
     Outcome {
         runs,
         changed: pass.changed(),
-        tree: unbuild::program(&program),
         roots: pass.root_bindings().into_iter().map(root).collect(),
+        tree: built.tree(),
+    }
+}
+
+/// A script as the original's own tree.
+pub struct Built(Program);
+
+impl Built {
+    pub fn new(script: &Script) -> Built {
+        Built(build::program(script))
+    }
+
+    /// What the tree is now.
+    pub fn tree(&self) -> Tree {
+        unbuild::program(&self.0)
+    }
+
+    /// The original on its tree, until a run leaves no mark or `limit` runs are done; how many were.
+    // Not inlined, so that a profiler finds it.
+    #[inline(never)]
+    pub fn run(&mut self, limit: u32) -> u32 {
+        self.runs(limit).0
+    }
+
+    fn runs(&mut self, limit: u32) -> (u32, impl VisitMut + Repeated) {
+        let mut pass = inlining(Config {});
+        let mut runs = 0;
+        loop {
+            pass.process(&mut self.0);
+            if limits::WATCHED {
+                limits::run_ended(self.0.size());
+            }
+            runs += 1;
+            if !pass.changed() || runs == limit {
+                break;
+            }
+            pass.reset();
+        }
+        (runs, pass)
     }
 }

@@ -9,6 +9,9 @@ use tree_file::from_hex;
 
 pub use tree_file::on_deep_stack;
 
+// The benchmark's feature must not reach what compares: build that package alone.
+const _: () = assert!(original::WATCHED);
+
 /// A stored file with its run limit and its answer as printed.
 pub struct Vector {
     pub file: Vec<u8>,

@@ -1,24 +1,33 @@
 //! Stand-in: a map that keeps the order of insertion. Inserting under an old key keeps its place.
 
 pub mod map {
+    use std::collections::HashMap;
+    use std::hash::{BuildHasher, Hash};
+
     #[derive(Clone, Debug)]
     pub struct IndexMap<K, V, S> {
         entries: Vec<(K, V)>,
-        hasher: std::marker::PhantomData<S>,
+        /// Where each key stands among the entries.
+        places: HashMap<K, usize, S>,
     }
 
-    impl<K, V, S> Default for IndexMap<K, V, S> {
+    impl<K, V, S: Default> Default for IndexMap<K, V, S> {
         fn default() -> Self {
             IndexMap {
                 entries: Vec::new(),
-                hasher: std::marker::PhantomData,
+                places: HashMap::default(),
             }
         }
     }
 
-    impl<K: PartialEq, V, S> IndexMap<K, V, S> {
+    impl<K: Clone + Eq + Hash, V, S: BuildHasher> IndexMap<K, V, S> {
+        /// One entry needs no hash.
         fn place(&self, key: &K) -> Option<usize> {
-            self.entries.iter().position(|(k, _)| k == key)
+            match &self.entries[..] {
+                [] => None,
+                [(only, _)] => (only == key).then_some(0),
+                _ => self.places.get(key).copied(),
+            }
         }
 
         pub fn len(&self) -> usize {
@@ -41,22 +50,26 @@ pub mod map {
             match self.place(&key) {
                 Some(at) => Some(std::mem::replace(&mut self.entries[at].1, value)),
                 None => {
-                    self.entries.push((key, value));
+                    self.push(key, value);
                     None
                 }
             }
         }
 
-        pub fn entry(&mut self, key: K) -> Entry<'_, K, V> {
+        /// A key that is not there yet.
+        fn push(&mut self, key: K, value: V) -> &mut V {
+            self.places.insert(key.clone(), self.entries.len());
+            self.entries.push((key, value));
+            &mut self.entries.last_mut().expect("just pushed").1
+        }
+
+        pub fn entry(&mut self, key: K) -> Entry<'_, K, V, S> {
             match self.place(&key) {
                 Some(index) => Entry::Occupied(OccupiedEntry {
                     entries: &mut self.entries,
                     index,
                 }),
-                None => Entry::Vacant(VacantEntry {
-                    entries: &mut self.entries,
-                    key,
-                }),
+                None => Entry::Vacant(VacantEntry { map: self, key }),
             }
         }
     }
@@ -70,9 +83,9 @@ pub mod map {
         }
     }
 
-    pub enum Entry<'a, K, V> {
+    pub enum Entry<'a, K, V, S> {
         Occupied(OccupiedEntry<'a, K, V>),
-        Vacant(VacantEntry<'a, K, V>),
+        Vacant(VacantEntry<'a, K, V, S>),
     }
 
     pub struct OccupiedEntry<'a, K, V> {
@@ -94,19 +107,18 @@ pub mod map {
         }
     }
 
-    pub struct VacantEntry<'a, K, V> {
-        entries: &'a mut Vec<(K, V)>,
+    pub struct VacantEntry<'a, K, V, S> {
+        map: &'a mut IndexMap<K, V, S>,
         key: K,
     }
 
-    impl<'a, K, V> VacantEntry<'a, K, V> {
+    impl<'a, K: Clone + Eq + Hash, V, S: BuildHasher> VacantEntry<'a, K, V, S> {
         pub fn index(&self) -> usize {
-            self.entries.len()
+            self.map.entries.len()
         }
 
         pub fn insert(self, value: V) -> &'a mut V {
-            self.entries.push((self.key, value));
-            &mut self.entries.last_mut().expect("just pushed").1
+            self.map.push(self.key, value)
         }
     }
 }

@@ -18,6 +18,9 @@ pub const MAX_NODES: usize = 1024;
 pub const MAX_RECORDED: usize = 512;
 pub const MAX_LIVE: usize = 256;
 
+/// Whether the visitor measures at all; the benchmark times the original without it.
+pub const WATCHED: bool = cfg!(not(feature = "unwatched"));
+
 /// What unwinding carries: the row's number.
 pub struct Refusal(pub u8);
 

@@ -8,7 +8,8 @@ pub use limits::Size;
 use swc_common::util::take::Take;
 pub use swc_common::{Span, SyntaxContext, DUMMY_SP};
 
-/// A text of the file. It is compared by its bytes; its number lets a tree be written back.
+/// A text of the file. Two of a file's texts are never equal (row 5), so that their numbers tell them apart, as quickly as the tree
+/// crate tells its texts apart; the number also lets a tree be written back.
 #[derive(Clone, Debug)]
 pub struct Atom {
     pub number: u32,
@@ -17,7 +18,7 @@ pub struct Atom {
 
 impl PartialEq for Atom {
     fn eq(&self, other: &Atom) -> bool {
-        Rc::ptr_eq(&self.bytes, &other.bytes) || self.bytes == other.bytes
+        self.number == other.number
     }
 }
 
@@ -31,7 +32,7 @@ impl PartialEq<&str> for Atom {
 
 impl std::hash::Hash for Atom {
     fn hash<H: std::hash::Hasher>(&self, state: &mut H) {
-        self.bytes.hash(state)
+        self.number.hash(state)
     }
 }
 
@@ -212,7 +213,9 @@ impl<T> Deref for Watched<T> {
 
 impl<T: Measured> DerefMut for Watched<T> {
     fn deref_mut(&mut self) -> &mut T {
-        limits::replaced(self.0.size());
+        if limits::WATCHED {
+            limits::replaced(self.0.size());
+        }
         &mut self.0
     }
 }

@@ -31,11 +31,20 @@ pub trait VisitMutWith<V: ?Sized + VisitMut> {
     }
 }
 
+/// Tells `limits`, unless the walk is not measured.
+macro_rules! watch {
+    ($call:ident($($argument:expr),*)) => {
+        if limits::WATCHED {
+            limits::$call($($argument),*)
+        }
+    };
+}
+
 macro_rules! opening {
     (walked $self:ident $v:ident $visit:ident) => {
-        limits::enter(Way::Plain, $self.size(), $v.records());
+        watch!(enter(Way::Plain, $self.size(), $v.records()));
         $v.$visit($self);
-        limits::leave($self.size(), $v.records())
+        watch!(leave($self.size(), $v.records()))
     };
     ($other:ident $self:ident $v:ident $visit:ident) => {
         $v.$visit($self)
@@ -44,19 +53,19 @@ macro_rules! opening {
 
 macro_rules! inside {
     (body $self:ident $v:ident $walk:block) => {
-        limits::enter(Way::Plain, $self.size(), $v.records());
+        watch!(enter(Way::Plain, $self.size(), $v.records()));
         $walk
-        limits::leave($self.size(), $v.records())
+        watch!(leave($self.size(), $v.records()))
     };
     ($other:ident $self:ident $v:ident $walk:block) => {
-        limits::step($v.records());
+        watch!(step($v.records()));
         $walk
     };
 }
 
 macro_rules! written {
     (Ident $v:ident) => {
-        limits::written($v.records())
+        watch!(written($v.records()))
     };
     ($other:ident $v:ident) => {};
 }
@@ -147,9 +156,9 @@ macro_rules! choice {
     (Expr $how:ident $vm:ident $variants:tt) => {
         impl<V: ?Sized + VisitMut> VisitMutWith<V> for Expr {
             fn visit_mut_with(&mut self, v: &mut V) {
-                limits::enter(Way::Expr(self.is_ident()), self.size(), v.records());
+                watch!(enter(Way::Expr(self.is_ident()), self.size(), v.records()));
                 v.visit_mut_expr(self);
-                limits::leave(self.size(), v.records())
+                watch!(leave(self.size(), v.records()))
             }
 
             choice!(@children Expr $variants);
@@ -157,9 +166,9 @@ macro_rules! choice {
             // The sources walk a boxed expression's children only for a right side in its Cond
             // scope: its kind's own handler runs, not `visit_mut_expr`.
             fn visit_mut_boxed_children_with(&mut self, v: &mut V) {
-                limits::enter(Way::RightSide, self.size(), v.records());
+                watch!(enter(Way::RightSide, self.size(), v.records()));
                 self.visit_mut_children_with(v);
-                limits::leave(self.size(), v.records())
+                watch!(leave(self.size(), v.records()))
             }
         }
     };

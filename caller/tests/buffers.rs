@@ -1,0 +1,220 @@
+//! Both functions over buffers of the caller: refusals, what they keep, and document 01's example.
+
+use negbosun::{
+    inline, inline_into, printed, roots_into, Inliner, Refusal, Root, MOST_BYTES, MOST_RUNS, WORDS,
+};
+
+/// Kind, form, child count, text number, context or number bits.
+type Raw = (u8, u8, u16, u32, u64);
+
+fn tree_file(nodes: &[Raw], texts: &[&str]) -> Vec<u8> {
+    let bytes = texts.concat();
+    let ends_at = 32 + 16 * nodes.len();
+    let bytes_at = ends_at + 4 * texts.len();
+    let header = [
+        1,
+        bytes_at + bytes.len(),
+        nodes.len(),
+        32,
+        texts.len(),
+        ends_at,
+        bytes_at,
+        bytes.len(),
+    ];
+    let mut file: Vec<u8> = header
+        .iter()
+        .flat_map(|field| (*field as u32).to_le_bytes())
+        .collect();
+    for (kind, form, children, text, bits) in nodes {
+        file.extend([*kind, *form]);
+        file.extend(children.to_le_bytes());
+        file.extend(text.to_le_bytes());
+        file.extend(bits.to_le_bytes());
+    }
+    let mut end = 0;
+    for text in texts {
+        end += text.len() as u32;
+        file.extend(end.to_le_bytes());
+    }
+    file.extend(bytes.as_bytes());
+    file
+}
+
+/// `const a = 7; a;`
+fn seven() -> Vec<u8> {
+    let nodes = [
+        (1, 0, 2, 0, 0),
+        (5, 2, 1, 0, 0),
+        (6, 0, 2, 0, 0),
+        (20, 0, 0, 0, 0),
+        (24, 0, 0, 0, 7f64.to_bits()),
+        (4, 0, 1, 0, 0),
+        (21, 0, 0, 0, 0),
+    ];
+    tree_file(&nodes, &["a"])
+}
+
+/// `var x = 1; x;` with a context whose halves differ.
+fn one() -> Vec<u8> {
+    let context = 0x0000_0003_0000_0002;
+    let nodes = [
+        (1, 0, 2, 0, 0),
+        (5, 0, 1, 0, 0),
+        (6, 0, 2, 0, 0),
+        (20, 0, 0, 1, context),
+        (24, 0, 0, 0, 1f64.to_bits()),
+        (4, 0, 1, 0, 0),
+        (21, 0, 0, 1, context),
+    ];
+    tree_file(&nodes, &["y", "x"])
+}
+
+fn marked_words(count: usize) -> Vec<u32> {
+    (1..=count as u32).collect()
+}
+
+#[test]
+fn the_example_is_printed_as_document_01_has_it() {
+    let expected = "\
+ok runs 2 changed 0 nodes 7
+1 0 2 0 0000000000000000
+5 2 1 0 0000000000000000
+6 0 2 0 0000000000000000
+20 0 0 0 0000000000000000
+24 0 0 0 401c000000000000
+4 0 1 0 0000000000000000
+24 0 0 0 401c000000000000
+";
+    assert_eq!(printed(&inline(&seven(), MOST_RUNS)), expected);
+}
+
+#[test]
+fn root_bindings_have_their_context_whole() {
+    let inlined = inline(&one(), MOST_RUNS).unwrap();
+    let root = Root {
+        text: 1,
+        context: 0x0000_0003_0000_0002,
+        prevented: false,
+    };
+    assert_eq!(inlined.roots, [root]);
+    assert_eq!((inlined.runs, inlined.nodes().len()), (2, 6));
+    assert!(inlined.to_string().ends_with("root 1 0000000300000002 0\n"));
+}
+
+#[test]
+fn runs_are_one_to_sixteen() {
+    for runs in [0, 17, u32::MAX] {
+        assert_eq!(inline(&seven(), runs), Err(Refusal::RunsOrWords));
+    }
+    assert_eq!(
+        inline(&seven(), 1).map(|done| (done.runs, done.changed)),
+        Ok((1, true))
+    );
+    assert!(inline(&seven(), 16).is_ok());
+}
+
+#[test]
+fn row_1_changes_no_buffer() {
+    let mut words = marked_words(WORDS - 1);
+    let (mut result, mut roots) = (vec![7; 200], vec![[7; 4]; 4]);
+    assert_eq!(
+        inline_into(&seven(), &mut result, &mut words, 16),
+        Err(Refusal::RunsOrWords)
+    );
+    assert_eq!(
+        roots_into(&seven(), &mut roots, &mut words, 16),
+        Err(Refusal::RunsOrWords)
+    );
+    assert_eq!(
+        (words, result, roots),
+        (marked_words(WORDS - 1), vec![7; 200], vec![[7; 4]; 4])
+    );
+}
+
+#[test]
+fn row_10_is_one_byte_below_and_keeps_the_result() {
+    let length = seven().len();
+    let mut words = marked_words(WORDS + 5);
+    let mut result = vec![7; length - 1];
+    assert_eq!(
+        inline_into(&seven(), &mut result, &mut words, 16),
+        Err(Refusal::Room)
+    );
+    assert_eq!(result, vec![7; length - 1]);
+    assert!(words[..WORDS].iter().all(|word| *word == 0));
+    assert_eq!(words[WORDS..], marked_words(WORDS + 5)[WORDS..]);
+    let mut result = vec![7; length + 3];
+    let done = inline_into(&seven(), &mut result, &mut words, 16).unwrap();
+    assert_eq!(done.length, length);
+    assert_eq!(result[length..], [7; 3]);
+}
+
+#[test]
+fn row_10_is_one_root_binding_below() {
+    let mut words = marked_words(WORDS);
+    assert_eq!(
+        roots_into(&one(), &mut [], &mut words, 16),
+        Err(Refusal::Room)
+    );
+    assert!(words.iter().all(|word| *word == 0));
+    let mut roots = [[7; 4]; 2];
+    assert_eq!(roots_into(&one(), &mut roots, &mut words, 16), Ok(1));
+    assert_eq!(roots, [[1, 2, 3, 0], [7; 4]]);
+}
+
+#[test]
+fn unreadable_files_are_refused_by_their_row() {
+    let file = seven();
+    let with = |at: usize, byte: u8| {
+        let mut copy = file.clone();
+        copy[at] = byte;
+        inline(&copy, 16).unwrap_err()
+    };
+    assert_eq!(inline(&[], 16), Err(Refusal::Header));
+    assert_eq!(with(0, 2), Refusal::Header);
+    assert_eq!(with(8, 0), Refusal::Counts);
+    assert_eq!(with(4, 0), Refusal::Lengths);
+    assert_eq!(with(32 + 7 * 16, 0), Refusal::Texts);
+    assert_eq!(with(32, 2), Refusal::Nodes);
+    assert_eq!(
+        inline(&tree_file(&[(1, 0, 0, 0, 0)], &["a", "a"]), 16),
+        Err(Refusal::Texts)
+    );
+    let mut longer = file.clone();
+    longer.extend(vec![0; 2 * MOST_BYTES]);
+    assert_eq!(inline(&longer, 16), Err(Refusal::Lengths));
+}
+
+#[test]
+fn rows_7_to_9_are_met() {
+    let mut many = vec![(1, 0, 1, 0, 0), (4, 0, 1, 0, 0), (27, 0, 257, 0, 0)];
+    many.extend((0..257).map(|context| (21, 0, 0, 0, context)));
+    assert_eq!(
+        inline(&tree_file(&many, &["a"]), 16),
+        Err(Refusal::Identifiers)
+    );
+    // const a = a; a;
+    let mut circle = seven();
+    circle[32 + 4 * 16..][..16].copy_from_slice(&[21, 0, 0, 0, 0, 0, 0, 0, 0, 0, 0, 0, 0, 0, 0, 0]);
+    assert_eq!(inline(&circle, 16), Err(Refusal::Depth));
+    // var x; x; in 1,024 nodes: `void 0` is one node more.
+    let mut full = vec![
+        (1, 0, 1020, 0, 0),
+        (5, 0, 1, 0, 0),
+        (6, 0, 1, 0, 0),
+        (20, 0, 0, 0, 0),
+        (4, 0, 1, 0, 0),
+        (21, 0, 0, 0, 0),
+    ];
+    full.extend([(3, 0, 0, 0, 0); 1018]);
+    assert_eq!(inline(&tree_file(&full, &["x"]), 16), Err(Refusal::Size));
+}
+
+#[test]
+fn an_inliner_serves_many_files() {
+    let mut inliner = Inliner::new();
+    let first = inliner.inline(&seven(), 16).unwrap();
+    assert_eq!(inliner.inline(&[], 16), Err(Refusal::Header));
+    assert_eq!(inliner.inline(&one(), 16), inline(&one(), 16));
+    assert_eq!(inliner.inline(&seven(), 16).unwrap(), first);
+}

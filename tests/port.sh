@@ -1,0 +1,93 @@
+#!/usr/bin/env bash
+# The port beside the original: the stored vectors, rows 1 and 10 with their buffers, paired copies, stack and program through
+# tests/port.py; the Rust caller's own tests; and, where the original's sources are there, a quick round of both in one process.
+# Without cargo or without the sources it says what is passed over. The last line counts.
+set -u
+cd "$(dirname "$0")/.." || exit 1
+out=$(mktemp -d)
+trap 'rm -rf "$out"' EXIT
+passed=0
+failed=0
+
+# add PASSED FAILED
+add() {
+    passed=$((passed + $1))
+    failed=$((failed + $2))
+}
+
+finish() {
+    echo "$passed passed, $failed failed"
+    [ "$failed" -eq 0 ]
+    exit
+}
+
+# count NAME COMMAND..: adds the counts of a command's last line; one that ends otherwise has failed.
+count() {
+    local name=$1 status last
+    shift
+    "$@" >"$out/log" 2>&1
+    status=$?
+    last=$(tail -n 1 "$out/log")
+    if [[ $last =~ ^([0-9]+)\ passed,\ ([0-9]+)\ failed$ ]] && [ $((status != 0)) -eq $((BASH_REMATCH[2] != 0)) ]; then
+        add "${BASH_REMATCH[1]}" "${BASH_REMATCH[2]}"
+        sed "s/^/$name: /" "$out/log"
+    else
+        add 0 1
+        tail -n 40 "$out/log"
+        echo "$name: no count, status $status"
+    fi
+}
+
+# one NAME COMMAND..: a command that passes or fails as a whole.
+one() {
+    local name=$1
+    shift
+    if "$@" >"$out/log" 2>&1; then
+        add 1 0
+        echo "$name: passed"
+    else
+        add 0 1
+        tail -n 40 "$out/log"
+        echo "$name: failed"
+        return 1
+    fi
+}
+
+library=target/staticlib/libpass.a
+if [ ! -e "$library" ] || [ target/rlib/pass.rlib -nt "$library" ]; then
+    one "static library" rt staticlib pass || finish
+fi
+if [ ! -x target/bin/negbosun ]; then
+    one "program" rt check negbosun || finish
+fi
+one "driver" gcc -O1 -Wall -Wextra -Werror -o "$out/driver" tests/port.c "$library" -pthread || finish
+count "port" python3 -B tests/port.py "$out/driver" target/bin/negbosun
+
+if ! command -v cargo >/dev/null 2>&1; then
+    echo "caller: skipped, no cargo"
+    finish
+fi
+# Tests of each sort end in a line of their own; what is shown is their sum.
+caller_tests() {
+    (cd caller && cargo test --offline --quiet -j "${JOBS:-1}") >"$out/caller" 2>&1
+    local status=$?
+    [ "$status" -eq 0 ] || cat "$out/caller"
+    sed -n 's/^test result: .* \([0-9]*\) passed; \([0-9]*\) failed;.*/\1 \2/p' "$out/caller" |
+        awk -v status="$status" '{p += $1; f += $2} END {if (status && !f) f = 1; print p + 0 " passed, " f + 0 " failed"}'
+    return "$status"
+}
+count "caller" caller_tests
+one "caller's tool" bash -c "cd caller && cargo build --release --offline --quiet -j '${JOBS:-1}' --bins --examples" || finish
+one "caller's example" caller/target/release/examples/sample
+
+sources=${NEGBOSUN_ORIGINAL:-../shared/docs/src}
+if [ ! -f "$sources/simplify/inlining/mod.rs" ]; then
+    echo "quick round: skipped, no sources of the original in $sources"
+    finish
+fi
+NEGBOSUN_ORIGINAL=$(cd "$sources" && pwd) && export NEGBOSUN_ORIGINAL
+one "oracle" bash -c "cd oracle && cargo build --release --offline --quiet -j '${JOBS:-1}'" || finish
+one "both in one process" bash -c "cd oracle && cargo build --release --offline --quiet -j '${JOBS:-1}' -p beside" || finish
+count "quick round" oracle/target/release/beside "${SEED:-1}" 20000 10000
+count "tool beside the original" oracle/target/release/compare "${SEED:-1}" 3000 caller/target/release/negbosun-inline --batch
+finish
