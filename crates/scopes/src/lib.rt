@@ -92,14 +92,22 @@ fn records(w: &[u32], k: usize, at: usize) -> [Binding; 16]
 {
     let n = w[1] as usize;
     let e = window(n - k);
-    let mut bs = [Binding { id: 256, value: 256, prevented: false }; 16];
+    let mut bs = [Binding {
+        id: 256,
+        value: 256,
+        prevented: false,
+    }; 16];
     let mut i: usize = 0;
     let mut o = at;
     while i < e {
         let j = k + i;
         let m = w[4112 + j * 10 + 8] as usize;
         let v = named(w, j, o);
-        bs[i] = Binding { id: w[4112 + j * 10], value: v, prevented: w[4112 + j * 10 + 4] != 0 };
+        bs[i] = Binding {
+            id: w[4112 + j * 10],
+            value: v,
+            prevented: w[4112 + j * 10 + 4] != 0,
+        };
         o += m;
         i += 1;
     }
@@ -121,7 +129,11 @@ pub fn prevent_inline(w: &mut [u32], x: u8)
     ensures { λ _. ⌜ Becomes (now (w .entry)) (now (w .exit)) (preventInline x (stack (now (w .entry)))) ⌝ }
 {
     let n = w[1] as usize;
-    let mut bs = [Binding { id: 256, value: 256, prevented: false }; 16];
+    let mut bs = [Binding {
+        id: 256,
+        value: 256,
+        prevented: false,
+    }; 16];
     let mut i: usize = 16;
     let mut k: usize = 0;
     let mut at: usize = 0;

@@ -10,10 +10,13 @@ use Rattle.scopes.proofs.Words as laws
 use borrow.Author.Needs.{needs}
 use Rattle.scopes.proofs.marks_of.Statement.{statement}
 use Rattle.scopes.proofs.marks_of.Tie as tie
+
 records-requires : tie.Need-records-requires
 records-requires c κs = c .before .pre
+
 all-marked-requires : tie.Need-all-marked-requires
 all-marked-requires c κs = tt
+
 returns : tie.Need-returns
 returns c =
     let at-records = c .before in

@@ -56,12 +56,15 @@ swept c =
 
 slice-read-n : tie.Need-slice-read-n Inv-loop μ-loop
 slice-read-n c = search needs
+
 cast-n : tie.Need-cast-n Inv-loop μ-loop
 cast-n c = search needs
+
 loop-holds : tie.Need-loop-holds Inv-loop μ-loop
 loop-holds c =
     let at-entry = c .before .before in
     (omega arith, refl, refl, laws.swept-none (at-entry .args .w .now) (at-entry .args .x), sym (sums.sum-zero (λ j. lenAt (at-entry .args .w .now) j)), omega arith, λ j l h. absurd (omega arith))
+
 marks-of-requires : tie.Need-marks-of-requires Inv-loop μ-loop
 marks-of-requires c κs =
     let at-loop = c .before .before .before in
@@ -70,33 +73,46 @@ marks-of-requires c κs =
     let k = at-loop .loop .k in
     let n : getD (at-loop .loop .w) 1 0 ≡ getD (at-entry .args .w .now) 1 0 = s .kept .counts 1 (omega arith) (omega arith) in
     (laws.swept-good (at-entry .pre) s (omega arith), omega arith, at-loop .loop .inv .4 ∙ sym (laws.runs-off (at-entry .pre) (s .runs) k (omega (arith, at-entry .pre .count))))
+
 mul-if2 : tie.Need-mul-if2 Inv-loop μ-loop
 mul-if2 c = omega (arith, ready (c .before) .0)
+
 element-copy-out-if2 : tie.Need-element-copy-out-if2 Inv-loop μ-loop
 element-copy-out-if2 c = ready (c .before) .0
+
 mul-w : tie.Need-mul-w Inv-loop μ-loop
 mul-w c = search needs
+
 add-w : tie.Need-add-w Inv-loop μ-loop
 add-w c = search needs
+
 add-w-2 : tie.Need-add-w-2 Inv-loop μ-loop
 add-w-2 c = search needs
+
 mul-w-2 : tie.Need-mul-w-2 Inv-loop μ-loop
 mul-w-2 c = search needs
+
 slice-write-w : tie.Need-slice-write-w Inv-loop μ-loop
 slice-write-w c = search needs
+
 mul-at : tie.Need-mul-at Inv-loop μ-loop
 mul-at c = search needs
+
 add-at : tie.Need-add-at Inv-loop μ-loop
 add-at c = search needs
+
 add-at-2 : tie.Need-add-at-2 Inv-loop μ-loop
 add-at-2 c = search needs
+
 mul-at-2 : tie.Need-mul-at-2 Inv-loop μ-loop
 mul-at-2 c = search needs
+
 slice-read-at : tie.Need-slice-read-at Inv-loop μ-loop
 slice-read-at c =
     let at-loop = c .before .before .before .before .before in
     let at-entry = at-loop .before .before .before in
     omega (arith, swept (c .before) .kept .size, at-entry .pre .long, at-entry .pre .count)
+
 cast-at : tie.Need-cast-at Inv-loop μ-loop
 cast-at c =
     let at-loop = c .before .before .before .before .before in
@@ -107,6 +123,7 @@ cast-at c =
     let part = sums.sum-part (λ j. lenAt w₀ j) k (getD w₀ 1 0) (omega arith) in
     let len : lenAt (c .before .if2 .w) k ≡ lenAt w₀ k = s .runs .lens k (omega (arith, at-entry .pre .count)) in
     omega (arith, at-entry .pre .vals)
+
 add-at-3 : tie.Need-add-at-3 Inv-loop μ-loop
 add-at-3 c =
     let at-loop = c .before .before .before .before .before in
@@ -117,12 +134,16 @@ add-at-3 c =
     let part = sums.sum-part (λ j. lenAt w₀ j) k (getD w₀ 1 0) (omega arith) in
     let len : lenAt (c .before .if2 .w) k ≡ lenAt w₀ k = s .runs .lens k (omega (arith, at-entry .pre .count)) in
     omega (arith, at-entry .pre .vals)
+
 add-i : tie.Need-add-i Inv-loop μ-loop
 add-i c = omega (arith, ready (c .before .before .before) .0)
+
 add-k : tie.Need-add-k Inv-loop μ-loop
 add-k c = search needs
+
 loop-less : tie.Need-loop-less Inv-loop μ-loop
 loop-less c = search needs
+
 loop-again : tie.Need-loop-again Inv-loop μ-loop
 loop-again c =
     let at-loop = c .before .before .before .before .before in
@@ -135,8 +156,10 @@ loop-again c =
     let at-if1 = c .before .before .before in
     let next : at-loop .loop .at + lenAt (c .before .if2 .w) k ≡ off w₀ (k + 1) = omega (arith, sums.sum-next (λ j. lenAt w₀ j) k) in
     (omega arith, s .kept .size, at-loop .loop .inv .2, s, next, omega (arith, ready at-if1 .0), laws.ahead-next w₀ (at-entry .args .x) k (at-if1 .if1 .i) (at-if1 .if1 .bs) (ready at-if1 .1))
+
 same-length : tie.Need-same-length Inv-loop μ-loop
 same-length c = search needs
+
 returns : tie.Need-returns Inv-loop μ-loop
 returns c =
     let at-loop = c .before in
