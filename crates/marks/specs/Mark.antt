@@ -1,5 +1,5 @@
 -- What the contracts of marks cite. Assumes nothing: these are definitions.
-use mathlib.Core.Bool.{Bool, _||_}
+use mathlib.Core.Bool.{_||_}
 use Prim.Native.Nat.{ℕ}
 use lib.Dec.{eqb}
 use Rattle.marks.specs.declared.Binding.{Binding}

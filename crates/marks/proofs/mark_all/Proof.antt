@@ -8,9 +8,9 @@ use native.Mathlib.Nat.{le-antisymm, lt-of-le-of-lt, not-suc-le-zero, le-of-suc-
 use native.Mathlib.Numerals.{add-one-le, add-one-dec}
 use native.Mathlib.Omega.{arith}
 use mathlib.Core.WellFounded.{WellFounded, InvImage·wf}
-use mathlib.Core.Bool.{false, not}
+use mathlib.Core.Bool.{false}
 use mathlib.Core.List.{[], _∷_, List, map}
-use lib.Dec.{T as Holds, ltb, ltb→lt, nltb→le, lit<}
+use lib.Dec.{T as Holds, ltb→lt, nltb→le, lit<}
 use lib.ListN.{length, getD, set}
 use lib.WfN.{Nat·lt-wfRel}
 use Rattle.marks.specs.Mark.{marked}
@@ -26,12 +26,12 @@ use prog.Wp.{Heap, Out, Env, Calls, Loops, Wp, afterSeq, afterBlock, afterTurn, 
 use ghost.Atoms.{Atoms, sem}
 use contract.Monad.{Fun, fact}
 use contract.Running.{givenOf, tables, tablesOf}
-use types.Kit.{Given, Item, ‵, raw, some, later, runs, anyQ, atRet, Sq, _⊛_, ⋆, _$_, _∵_, !, qed, by, move, keep, drop, use1, use2, use3, split, join, pick, rewrite, fsplit, fjoin, feqL, feqI, suffices, frame, await, done}
+use types.Kit.{Given, Item, ‵, raw, some, later, runs, anyQ, atRet, Sq, _⊛_, ⋆, _$_, _∵_, !, qed, by, move, keep, use1, use2, use3, split, join, pick, rewrite, fsplit, fjoin, feqL, feqI, suffices, frame, await, done}
 use types.Run.{look, store, init, forget, stop, hop, fld, from, load, lit, addr, unit-lit, of-opd, bin, and-then, no-more, assigns, assigns-last, land, first, skips, jumps, blocks, branches, returns, enter, alloc1, alloc0, params1, pass1, pass0, free1, free0, exec, Below, again, loops}
 use types.Part.{whole, sub, look-in}
 use types.SemTy.{Body}
 use types.Tokens.{lft-new, lft-end}
-use sound.WpLaws.{FmC, fmOf, WpFn-mono}
+use sound.WpLaws.{fmOf, WpFn-mono}
 use denote.RattleType.{RattleType, owns}
 use denote.Shadow.{pureI}
 use denote.Laws.{Is}

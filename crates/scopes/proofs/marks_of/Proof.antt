@@ -7,7 +7,6 @@ use Rattle.marks.specs.Mark.{marked}
 use Rattle.marks.specs.declared.Binding.{Binding}
 use Rattle.scopes.specs.State.{noRecord}
 use Rattle.scopes.proofs.Words as laws
-use borrow.Author.Needs.{needs}
 use Rattle.scopes.proofs.marks_of.Statement.{statement}
 use Rattle.scopes.proofs.marks_of.Tie as tie
 

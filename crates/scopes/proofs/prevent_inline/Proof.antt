@@ -1,12 +1,12 @@
 -- The sweep over all bindings, a window of records at a time; `at` is the sum of the lengths passed. Assumes nothing.
 use Prim.Native.Nat.{ℕ, _+_, _-_, _≤_, _<_}
-use mathlib.Core.Path.{_≡_, refl, sym, ap, _∙_}
+use mathlib.Core.Path.{_≡_, refl, sym, _∙_}
 use mathlib.Core.Logic.{⊎-elim}
 use native.Mathlib.Nat.{eq-or-lt-of-le}
 use native.Mathlib.Omega.{arith}
-use lib.ListN.{length, getD, length-set}
+use lib.ListN.{length, getD}
 use Rattle.words.specs.Tab as sums
-use Rattle.scopes.specs.State.{off, lenAt, noRecord}
+use Rattle.scopes.specs.State.{off, lenAt}
 use Rattle.scopes.proofs.Words as laws
 use borrow.Author.Needs.{needs}
 use Rattle.scopes.proofs.prevent_inline.Statement.{statement}

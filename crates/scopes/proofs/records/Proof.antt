@@ -1,6 +1,6 @@
 -- The records of a window, one after the other; `o` is the sum of the lengths passed. Assumes nothing.
 use Prim.Native.Nat.{ℕ, _+_, _-_, _*_, _≤_, _<_}
-use mathlib.Core.Path.{_≡_, refl, sym, ap, _∙_}
+use mathlib.Core.Path.{_≡_, refl, ap, _∙_}
 use native.Mathlib.Omega.{arith}
 use lib.ListN.{length, getD, length-set}
 use Rattle.words.specs.Tab as sums
