@@ -1,22 +1,26 @@
 -- How reads and stores of the words show in the stack of scopes. Assumes nothing.
-use mathlib.Core.Path.{_≡_, refl, sym, ap, _∙_}
+use mathlib.Core.Path.{_≡_, refl, sym, ap, subst, _∙_}
 use mathlib.Core.List.{List, [], _∷_, _++_, map}
-use mathlib.Core.Bool.{Bool, true, false, _||_, _&&_}
-use mathlib.Core.Option.{Option}
+use mathlib.Core.Bool.{Bool, true, false, not, _||_, _&&_}
+use mathlib.Core.Option.{Option, none, some}
 use mathlib.Core.Logic.{⊎-elim}
 use Prim.Native.Nat.{ℕ, zero, suc, _+_, _-_, _*_, _%_, _≤_, _<_}
 use native.Mathlib.Nat.{eq-or-lt-of-le}
 use native.Mathlib.Omega.{arith}
 use borrow.Author.Tests.{eq-eqb, ne-eqb}
 use lib.ListN.{length, getD, set, drop, length-set, length-drop}
-use lib.Dec.{eqb}
+use lib.Dec.{T, eqb}
 use lib.Seq.{getD-set-same, getD-set-other, drop-set-lt, getD-drop}
+use Rattle.marks.specs.Mark as marks
+use Rattle.marks.specs.declared.Binding.{Binding}
+use Rattle.tree.specs.Base.{pick}
 use Rattle.tree.specs.Tree.{Tree, Core, noCore}
+use Rattle.definition.specs.Tree.{isIdent, num}
 use Rattle.definition.specs.Scope.{VarType, VarInfo, Stack, change, prevent, preventInline, preventOne, valueIs, hasIn}
 use Rattle.words.specs.Tab.{tab, length-tab, getD-tab, tab-ext, set-tab, take-tab, sum-ext, sum-part}
 use Rattle.words.specs.Layout.{yes, Agree, coreFrom, tree, beyond}
 use Rattle.words.proofs.Nodes.{run-same, run-length, run-at, tree-same}
-use Rattle.scopes.specs.State.{scopeKindOf, split, varTypeOf, aliasAt, valueOf, lenAt, off, runAt, bindAt, clenAt, coff, crunAt, constAt, Head, unresAt, headAt, headsAt, heads, flags, binds, consts, stack, Fits, Good, Becomes, place, indexIn, hitAt, Whole, Others}
+use Rattle.scopes.specs.State.{scopeKindOf, split, varTypeOf, aliasAt, valueOf, lenAt, off, runAt, bindAt, clenAt, coff, crunAt, constAt, Head, unresAt, headAt, headsAt, heads, flags, binds, consts, stack, Fits, Good, Becomes, place, indexIn, hitAt, nameOf, recordAt, noRecord, Window, Whole, Others}
 use Rattle.scopes.proofs.Split as laws
 
 -- what holds of no place from a up to k, nor of k, holds of none up to k + 1
@@ -276,38 +280,84 @@ module _ (w : List ℕ) (g : Good w) (k : ℕ) (h : k < getD w 1 0) where
   pub marked : (x : ℕ) → place x (heads w) (binds w) ≡ suc k → Becomes w (set w (4112 + k * 10 + 4) 1) (change x prevent (stack w))
   marked = changed g (field-kept w g k h 4 1 (omega arith) (omega arith)) k h prevent mark-this (field-other w g k h 4 1 (omega arith) (omega arith)) (field-good w g k h 4 1 (omega arith) (omega arith))
 
--- is a value an identifier: by its first node
-pub value-is : (x : ℕ) (xs : List Core) → 0 < length xs → valueIs x (valueOf xs) ≡ (eqb (getD xs 0 noCore .kind) 21 && eqb (getD xs 0 noCore .num) x)
-value-is x [] h = absurd (omega arith)
-value-is x (c ∷ xs) h = refl
+-- the identifier that a value is: by its first node
+pub name-is : (xs : List Core) → 0 < length xs → nameOf (valueOf xs) ≡ pick (eqb (getD xs 0 noCore .kind) 21) (getD xs 0 noCore .num) 256
+name-is [] h = absurd (omega arith)
+name-is (c ∷ xs) h = refl
 
-pub value-none : (x : ℕ) (xs : List Core) → length xs ≡ 0 → valueIs x (valueOf xs) ≡ false
-value-none x [] h = refl
-value-none x (c ∷ xs) h = absurd (omega arith)
+pub name-none : (xs : List Core) → length xs ≡ 0 → nameOf (valueOf xs) ≡ 256
+name-none [] h = refl
+name-none (c ∷ xs) h = absurd (omega arith)
 
-module _ (w : List ℕ) (k x : ℕ) where
+module _ (w : List ℕ) (k : ℕ) where
   run-first : 0 < lenAt w k → getD (runAt w k) 0 noCore ≡ coreFrom w (2064 + off w k * 2)
   run-first h = run-at w 2064 (off w k) (lenAt w k) 0 h ∙ ap (λ (n : ℕ). coreFrom w (2064 + n * 2)) (omega arith)
 
-  pub hit-name : getD w (4112 + k * 10) 0 ≡ x → true ≡ hitAt w k x
-  hit-name e = rw (eq-eqb (getD w (4112 + k * 10) 0) x e) refl
+  pub named-none : lenAt w k ≡ 0 → 256 ≡ nameOf (bindAt w k .value)
+  named-none z = sym (name-none (runAt w k) (run-length w 2064 (off w k) (lenAt w k) ∙ z))
 
-  module _ (n : getD w (4112 + k * 10) 0 ≡ x → ⊥) where
-    pub hit-value : hitAt w k x ≡ valueIs x (valueOf (runAt w k))
-    hit-value = rw (ne-eqb (getD w (4112 + k * 10) 0) x n) refl
+  module _ (o : ℕ) (z : 0 < lenAt w k) (at : o ≡ off w k) where
+    named-test : nameOf (bindAt w k .value) ≡ pick (eqb (getD w (2064 + o * 2) 0 % 64) 21) (getD w (2064 + o * 2 + 1) 0) 256
+    named-test = name-is (runAt w k) (omega (arith, run-length w 2064 (off w k) (lenAt w k))) ∙ rw (at, run-first z) refl
 
-    pub hit-none : lenAt w k ≡ 0 → false ≡ hitAt w k x
-    hit-none z = sym (hit-value ∙ value-none x (runAt w k) (run-length w 2064 (off w k) (lenAt w k) ∙ z))
+    pub named-ident : getD w (2064 + o * 2) 0 % 64 ≡ 21 → getD w (2064 + o * 2 + 1) 0 ≡ nameOf (bindAt w k .value)
+    named-ident e = sym (named-test ∙ rw (eq-eqb (getD w (2064 + o * 2) 0 % 64) 21 e) refl)
 
-    module _ (o : ℕ) (z : 0 < lenAt w k) (at : o ≡ off w k) where
-      hit-test : hitAt w k x ≡ (eqb (getD w (2064 + o * 2) 0 % 64) 21 && eqb (getD w (2064 + o * 2 + 1) 0) x)
-      hit-test = hit-value ∙ value-is x (runAt w k) (omega (arith, run-length w 2064 (off w k) (lenAt w k))) ∙ rw (at, run-first z) refl
+    pub named-other : (getD w (2064 + o * 2) 0 % 64 ≡ 21 → ⊥) → 256 ≡ nameOf (bindAt w k .value)
+    named-other e = sym (named-test ∙ rw (ne-eqb (getD w (2064 + o * 2) 0 % 64) 21 e) refl)
 
-      pub hit-ident : getD w (2064 + o * 2) 0 % 64 ≡ 21 → eqb (getD w (2064 + o * 2 + 1) 0) x ≡ hitAt w k x
-      hit-ident e = sym (hit-test ∙ rw (eq-eqb (getD w (2064 + o * 2) 0 % 64) 21 e) refl)
+-- a binding as a record
+pub record-eq : {a a′ b b′ : ℕ} {c c′ : Bool} → a ≡ a′ → b ≡ b′ → c ≡ c′ → _≡_ {A = Binding} (record { id = a; value = b; prevented = c }) (record { id = a′; value = b′; prevented = c′ })
+record-eq p q r = cc
 
-      pub hit-other : (getD w (2064 + o * 2) 0 % 64 ≡ 21 → ⊥) → false ≡ hitAt w k x
-      hit-other e = sym (hit-test ∙ rw (ne-eqb (getD w (2064 + o * 2) 0 % 64) 21 e) refl)
+pub not-zero : (v : ℕ) → not (eqb v 0) ≡ yes v
+not-zero zero = refl
+not-zero (suc v) = ap not (ne-eqb (suc v) 0 (λ e. omega arith))
+
+-- record i of a window is stored
+pub record-put : (w : List ℕ) (k i : ℕ) (bs : List Binding) (b : Binding) → i < length bs → b ≡ recordAt w (k + i) → ((j : ℕ) → j < i → getD bs j noRecord ≡ recordAt w (k + j))
+    → (j : ℕ) → j < i + 1 → getD (set bs i b) j noRecord ≡ recordAt w (k + j)
+record-put w k i bs b l e h j m =
+    ⊎-elim (λ (q : j ≡ i). rw q (getD-set-same bs i b noRecord l ∙ e)) (λ (q : j < i). getD-set-other bs i j b noRecord (λ z. omega arith) ∙ h j q) (eq-or-lt-of-le (omega arith))
+
+pub getD-map : (f : Binding → Binding) (bs : List Binding) (j : ℕ) (d : Binding) → j < length bs → getD (map f bs) j d ≡ f (getD bs j d)
+getD-map f [] j d l = absurd (omega arith)
+getD-map f (b ∷ bs) zero d l = refl
+getD-map f (b ∷ bs) (suc j) d l = getD-map f bs j d (omega arith)
+
+-- the mark that a record gets is the one that prevent_inline gives
+pick-name : (b : Bool) (m x : ℕ) → x < 256 → eqb (pick b m 256) x ≡ (b && eqb m x)
+pick-name true m x l = refl
+pick-name false m x l = ne-eqb 256 x (λ e. omega arith)
+
+name-hit : (x : ℕ) (v : Option Tree) → x < 256 → eqb (nameOf v) x ≡ valueIs x v
+name-hit x none l = ne-eqb 256 x (λ e. omega arith)
+name-hit x (some t) l = pick-name (isIdent t) (num t) x l
+
+or-or : (a b c : Bool) → ((a || b) || c) ≡ (a || (b || c))
+or-or true b c = refl
+or-or false b c = refl
+
+pub mark-or : (w : List ℕ) (k x : ℕ) → x < 256 → marks.marked x (recordAt w k) .prevented ≡ (bindAt w k .inlinePrevented || hitAt w k x)
+mark-or w k x l =
+    or-or (bindAt w k .inlinePrevented) (eqb (bindAt w k .id) x) (eqb (nameOf (bindAt w k .value)) x)
+    ∙ ap (λ (t : Bool). bindAt w k .inlinePrevented || (eqb (bindAt w k .id) x || t)) (name-hit x (bindAt w k .value) l)
+
+-- a binding that has its mark is as if it were marked
+prevent-same : (b : VarInfo) → true ≡ b .inlinePrevented → prevent b ≡ b
+prevent-same b e = ap (λ (m : Bool). record { id = b .id; kind = b .kind; aliasOf = b .aliasOf; readCnt = b .readCnt; inlinePrevented = m; isUndefined = b .isUndefined; value = b .value; thisSensitive = b .thisSensitive; hoisted = b .hoisted }) e
+
+one-hit : (b : VarInfo) (p t : Bool) → p ≡ b .inlinePrevented → true ≡ (p || t) → prevent b ≡ pick t (prevent b) b
+one-hit b true true q e = refl
+one-hit b true false q e = prevent-same b q
+one-hit b false true q e = refl
+one-hit b false false q e = absurd (subst T e tt)
+
+one-miss : (b : VarInfo) (p t : Bool) → false ≡ (p || t) → b ≡ pick t (prevent b) b
+one-miss b true true e = absurd (subst T (sym e) tt)
+one-miss b true false e = refl
+one-miss b false true e = absurd (subst T (sym e) tt)
+one-miss b false false e = refl
 
 -- the sweep over all bindings: the first k are done
 pub record Swept (w₀ w : List ℕ) (x k : ℕ) : Type 0 where
@@ -323,21 +373,18 @@ module _ {w₀ w : List ℕ} {x k : ℕ} (g : Good w₀) (s : Swept w₀ w x k) 
   pub swept-good : Good w
   swept-good = runs-good g (s .runs) (s .kept)
 
-  same-hit : hitAt w₀ k x ≡ hitAt w k x
-  same-hit = ap (λ (b : VarInfo). eqb (b .id) x || valueIs x (b .value)) (sym (s .left k (omega arith) h))
-
   upto : (w′ : List ℕ) → bindAt w′ k ≡ preventOne x (bindAt w₀ k) → ((j : ℕ) → j < getD w₀ 1 0 → (j ≡ k → ⊥) → bindAt w′ j ≡ bindAt w j) → (j : ℕ) → j < k + 1 → bindAt w′ j ≡ preventOne x (bindAt w₀ j)
   upto w′ e o j l = ⊎-elim (λ (q : j ≡ k). rw q e) (λ (q : j < k). o j (omega arith) (λ z. omega arith) ∙ s .done j q) (eq-or-lt-of-le (omega arith))
 
-  pub swept-miss : false ≡ hitAt w k x → Swept w₀ w x (k + 1)
+  pub swept-miss : false ≡ (bindAt w₀ k .inlinePrevented || hitAt w₀ k x) → Swept w₀ w x (k + 1)
   swept-miss e = record {
     kept = s .kept;
     runs = s .runs;
-    done = upto w (s .left k (omega arith) h ∙ rw (same-hit, ← e) refl) (λ j a b. refl);
+    done = upto w (s .left k (omega arith) h ∙ one-miss (bindAt w₀ k) (bindAt w₀ k .inlinePrevented) (hitAt w₀ k x) e) (λ j a b. refl);
     left = λ j a b. s .left j (omega arith) b;
   }
 
-  pub swept-hit : true ≡ hitAt w k x → Swept w₀ (set w (4112 + k * 10 + 4) 1) x (k + 1)
+  pub swept-hit : true ≡ (bindAt w₀ k .inlinePrevented || hitAt w₀ k x) → Swept w₀ (set w (4112 + k * 10 + 4) 1) x (k + 1)
   swept-hit e =
       let g′ = swept-good in
       let n : getD w 1 0 ≡ getD w₀ 1 0 = s .kept .counts 1 (omega arith) (omega arith) in
@@ -346,9 +393,29 @@ module _ {w₀ w : List ℕ} {x k : ℕ} (g : Good w₀) (s : Swept w₀ w x k) 
       record {
         kept = kept-then (s .kept) (field-kept w g′ k h′ 4 1 (omega arith) (omega arith));
         runs = runs-then (s .runs) (field-runs w g′ k h′ 4 1 (omega arith) (omega arith));
-        done = upto (set w (4112 + k * 10 + 4) 1) (mark-this w g′ k h′ ∙ ap prevent (s .left k (omega arith) h) ∙ rw (same-hit, ← e) refl) other;
+        done = upto (set w (4112 + k * 10 + 4) 1) (mark-this w g′ k h′ ∙ ap prevent (s .left k (omega arith) h) ∙ one-hit (bindAt w₀ k) (bindAt w₀ k .inlinePrevented) (hitAt w₀ k x) refl e) other;
         left = λ j a b. other j b (λ q. omega arith) ∙ s .left j (omega arith) b;
       }
+
+-- the marked records from k on stand in bs from i on
+abbrev pub Ahead : List ℕ → ℕ → ℕ → ℕ → List Binding → Type 0
+Ahead w x k i bs = (j : ℕ) → i + j < 16 → k + j < getD w 1 0 → getD bs (i + j) noRecord ≡ marks.marked x (recordAt w (k + j))
+
+module _ {w₀ w : List ℕ} {x k : ℕ} (s : Swept w₀ w x k) where
+  pub ahead-load : (bs : List Binding) → Window (marks.marked x) w k bs → Ahead w₀ x k 0 bs
+  ahead-load bs f j l h =
+      let n : getD w 1 0 ≡ getD w₀ 1 0 = s .kept .counts 1 (omega arith) (omega arith) in
+      ap (λ (m : ℕ). getD bs m noRecord) (omega arith) ∙ f j (omega arith) (omega arith)
+      ∙ ap (λ (b : VarInfo). marks.marked x (record { id = b .id; value = nameOf (b .value); prevented = b .inlinePrevented })) (s .left (k + j) (omega arith) h)
+
+pub ahead-next : (w : List ℕ) (x k i : ℕ) (bs : List Binding) → Ahead w x k i bs → Ahead w x (k + 1) (i + 1) bs
+ahead-next w x k i bs f j l h =
+    ap (λ (m : ℕ). getD bs m noRecord) (omega arith) ∙ f (j + 1) (omega arith) (omega arith) ∙ ap (λ (m : ℕ). marks.marked x (recordAt w m)) (omega arith)
+
+-- the next of them has the mark that its binding is to have
+pub ahead-this : (w : List ℕ) (x k i : ℕ) (bs : List Binding) → x < 256 → Ahead w x k i bs → i < 16 → k < getD w 1 0 → getD bs i noRecord .prevented ≡ (bindAt w k .inlinePrevented || hitAt w k x)
+ahead-this w x k i bs b f l h =
+    ap (λ (m : ℕ). getD bs m noRecord .prevented) (omega arith) ∙ ap (λ (c : Binding). c .prevented) (f 0 (omega arith) (omega arith)) ∙ ap (λ (m : ℕ). marks.marked x (recordAt w m) .prevented) (omega arith) ∙ mark-or w k x b
 
 map-snoc : (f : VarInfo → VarInfo) (bs : List VarInfo) (b : VarInfo) → map f (bs ++ (b ∷ [])) ≡ map f bs ++ (f b ∷ [])
 map-snoc f [] b = refl

@@ -9,6 +9,9 @@ use Prim.Native.Nat.{ℕ, zero, suc, _+_, _*_, _≤_, _<_}
 use lib.ListN.{length, getD, take, drop}
 use lib.Dec.{eqb}
 use Rattle.tree.specs.Tree.{Tree, Core, noCore, flat, plant, firstT}
+use Rattle.tree.specs.Base.{pick}
+use Rattle.definition.specs.Tree.{isIdent, num}
+use Rattle.marks.specs.declared.Binding.{Binding}
 use Rattle.definition.specs.Scope.{VarType, param, vVar, vLet, vConst, ScopeKind, cond, loop, block, fn, VarInfo, Scope, Stack, hasIn, valueIs}
 use Rattle.words.specs.Tab.{tab, sum}
 use Rattle.words.specs.Layout.{yes, Agree, run, tree, beyond}
@@ -206,3 +209,20 @@ place i (h ∷ hs) bs = elim (hasIn i (drop (h .start) bs)) [ true ↦ suc (h .s
 -- what prevent_inline asks of a binding
 abbrev pub hitAt : List ℕ → ℕ → ℕ → Bool
 hitAt w k i = eqb (bindAt w k .id) i || valueIs i (bindAt w k .value)
+
+-- the identifier that a value is, 256 if it is none
+abbrev pub nameOf : Option Tree → ℕ
+nameOf none = 256
+nameOf (some t) = pick (isIdent t) (num t) 256
+
+-- a binding as the record that is marked
+abbrev pub recordAt : List ℕ → ℕ → Binding
+recordAt w k = record { id = bindAt w k .id; value = nameOf (bindAt w k .value); prevented = bindAt w k .inlinePrevented }
+
+-- what a read past the end would give
+abbrev pub noRecord : Binding
+noRecord = record { id = 0; value = 0; prevented = false }
+
+-- the bindings from k on, changed by f, stand in bs as records, oldest first
+abbrev pub Window : (Binding → Binding) → List ℕ → ℕ → List Binding → Type 0
+Window f w k bs = (j : ℕ) → j < 16 → k + j < getD w 1 0 → getD bs j noRecord ≡ f (recordAt w (k + j))

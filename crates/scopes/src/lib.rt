@@ -6,7 +6,10 @@ ghost use mathlib.Core.Option.{none};
 ghost use lib.ListN.{getD, length};
 ghost use Rattle.definition.specs.Scope.{prevent, change, preventInline, append, fresh, newScope};
 ghost use Rattle.words.specs.Layout.{yes, Agree};
-ghost use Rattle.scopes.specs.State.{Good, Becomes, stack, heads, binds, place, off, hitAt, varTypeOf, aliasAt, scopeKindOf, bareOf, dropInner};
+ghost use Rattle.marks.specs.Mark.{marked};
+ghost use Rattle.scopes.specs.State.{Good, Becomes, stack, heads, binds, place, off, bindAt, nameOf, Window, varTypeOf, aliasAt, scopeKindOf, bareOf, dropInner};
+use marks::Binding;
+use marks::all_marked;
 use words::merge;
 use words::put4;
 use words::put5;
@@ -58,21 +61,66 @@ pub fn prevent_found(w: &mut [u32], x: u8)
     w[4112 + (k - 1) * 10 + 4] = 1;
 }
 
-// Is x the identifier of binding k, or its value; the value begins at node at of the store.
-fn hit(w: &[u32], k: usize, at: usize, x: u8) -> bool
+// The identifier that the value of binding k is, 256 if it is none; the value begins at node at of the store.
+fn named(w: &[u32], k: usize, at: usize) -> u32
     requires { ⌜ (Good (now w)) × (k < getD (now w) 1 0) × (at ≡ off (now w) k) × (at + getD (now w) (4112 + k * 10 + 8) 0 ≤ 512) ⌝ }
-    ensures { λ r. ⌜ r ≡ hitAt (now (w .entry)) k x ⌝ }
+    ensures { λ r. ⌜ r ≡ nameOf (bindAt (now (w .entry)) k .value) ⌝ }
 {
-    if w[4112 + k * 10] == x as u32 {
-        return true;
-    }
     if w[4112 + k * 10 + 8] == 0 {
-        return false;
+        return 256;
     }
     if w[2064 + at * 2] % 64 == 21 {
-        return w[2064 + at * 2 + 1] == x as u32;
+        return w[2064 + at * 2 + 1];
     }
-    false
+    256
+}
+
+// n, at most 16.
+fn window(n: usize) -> usize
+    ensures { λ r. ⌜ (r ≤ 16) × (r ≤ n) × ((j : ℕ) → j < 16 → j < n → j < r) ⌝ }
+{
+    if n < 16 {
+        return n;
+    }
+    16
+}
+
+// The bindings from k on as records, oldest first, as many as an array holds; the value of k begins at node at.
+fn records(w: &[u32], k: usize, at: usize) -> [Binding; 16]
+    requires { ⌜ (Good (now w)) × (k < getD (now w) 1 0) × (at ≡ off (now w) k) ⌝ }
+    ensures { λ r. ⌜ (length r ≡ 16) × (Window (λ b. b) (now (w .entry)) k r) ⌝ }
+{
+    let n = w[1] as usize;
+    let e = window(n - k);
+    let mut bs = [Binding {
+        id: 256,
+        value: 256,
+        prevented: false,
+    }; 16];
+    let mut i: usize = 0;
+    let mut o = at;
+    while i < e {
+        let j = k + i;
+        let m = w[4112 + j * 10 + 8] as usize;
+        let v = named(w, j, o);
+        bs[i] = Binding {
+            id: w[4112 + j * 10],
+            value: v,
+            prevented: w[4112 + j * 10 + 4] != 0,
+        };
+        o += m;
+        i += 1;
+    }
+    bs
+}
+
+// The same records, x and its aliases among them marked.
+fn marks_of(w: &[u32], k: usize, at: usize, x: u8) -> [Binding; 16]
+    requires { ⌜ (Good (now w)) × (k < getD (now w) 1 0) × (at ≡ off (now w) k) ⌝ }
+    ensures { λ r. ⌜ Window (marked x) (now (w .entry)) k r ⌝ }
+{
+    let bs = records(w, k, at);
+    all_marked(bs, x as u32)
 }
 
 // Marks every binding of x, and every binding whose value is x, in all scopes.
@@ -81,14 +129,24 @@ pub fn prevent_inline(w: &mut [u32], x: u8)
     ensures { λ _. ⌜ Becomes (now (w .entry)) (now (w .exit)) (preventInline x (stack (now (w .entry)))) ⌝ }
 {
     let n = w[1] as usize;
+    let mut bs = [Binding {
+        id: 256,
+        value: 256,
+        prevented: false,
+    }; 16];
+    let mut i: usize = 16;
     let mut k: usize = 0;
     let mut at: usize = 0;
     while k < n {
-        let m = w[4112 + k * 10 + 8] as usize;
-        if hit(w, k, at, x) {
+        if i == 16 {
+            bs = marks_of(w, k, at, x);
+            i = 0;
+        }
+        if bs[i].prevented {
             w[4112 + k * 10 + 4] = 1;
         }
-        at += m;
+        at += w[4112 + k * 10 + 8] as usize;
+        i += 1;
         k += 1;
     }
 }

@@ -1,0 +1,9 @@
+-- What the contracts of marks cite. Assumes nothing: these are definitions.
+use mathlib.Core.Bool.{_||_}
+use Prim.Native.Nat.{ℕ}
+use lib.Dec.{eqb}
+use Rattle.marks.specs.declared.Binding.{Binding}
+
+-- the binding with its prevented mark set if x is its identifier or its value; every other field is as it was
+abbrev pub marked : ℕ → Binding → Binding
+marked x b = record { id = b .id; value = b .value; prevented = (b .prevented || eqb (b .id) x) || eqb (b .value) x }
