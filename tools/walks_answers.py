@@ -125,10 +125,11 @@ OWN = '(sim-own (sims (@args .l - 1)) (@args .p))'
 A['full'] = {
     'returns': 'ways.full-none %s (@pre .1 .planted) (@if1 .taken)' % L,
     'own-requires': '(%s, %s)' % (ML, UP),
-    'returns-2': 'ways.full-stop %s (@if1 .left) (@enum-told2 .given .1) (@own .ensures)' % L,
-    'after-requires': '(%s, heres.here-still %s (%s) (@enum-told .given .1) refl (@own .ensures))' % (ML, OWN, UP),
-    'returns-3': 'ways.full-then %s (@if1 .left) (@enum-told .given .1) (@own .ensures) (@after .ensures)' % L,
+    'returns-2': 'ways.full-stop %s (@if1 .left) %s (@own .ensures)' % (L, TOLD),
+    'after-requires': '(%s, (heres.here-still %s (%s) %s refl (@own .ensures), heres.walk-end %s (%s) %s (@own .ensures)))' % (ML, OWN, UP, GOT, OWN, UP, GOT),
+    'returns-3': 'ways.full-then %s (@if1 .left) %s (@own .ensures) (@after .ensures)' % (L, GOT),
 }
+
 # visit_mut_stmts
 S = '%s (@args .p) (@args .n) (@args .i)' % V
 T1 = '(heres.here-turn (@set-inlining .ensures) %s)' % H
@@ -445,20 +446,23 @@ A['logic'] = {
 }
 # the steps after a handler
 AF = '%s (@args .p) (@args .i)' % V
-NOT21 = '(ways.kind-no %s 21 (@kind-at .ensures) (@if1 .left))' % H
-IS = '(ways.both-yes (ways.kind-yes %s (@kind-at .ensures) (@if2 .left)) (ways.form-yes %s (@form-at .ensures) (@if3 .left)))' % (H, H)
+HA0 = '(@pre .1 .0)'
+NOT21 = '(ways.kind-no %s 21 (@kind-at .ensures) (@if1 .left))' % HA0
+IS = '(ways.both-yes (ways.kind-yes %s (@kind-at .ensures) (@if3 .left)) (ways.form-yes %s (@form-at .ensures) (@if4 .left)))' % (HA0, HA0)
+OTHER = '(ways.logic-other %s (%s .planted) (ways.kind-no %s 32 (@kind-at .ensures) (@if2 .left)) (@pre .1 .1))' % (AF, HA0, HA0)
 A['after'] = {
-    'ident-requires': '(%s, (%s, sym (@kind-at .ensures) ∙ @if1 .taken))' % (M, H),
-    'returns': 'ways.after-ident %s (ways.kind-yes %s (@kind-at .ensures) (@if1 .taken)) (@ident .ensures)' % (AF, H),
-    'logic-requires': '(%s, %s)' % (M, H),
-    'returns-2': 'ways.after-logic %s %s (ways.first-no _ (ways.kind-no %s 33 (@kind-at .ensures) (@if2 .taken))) (@logic .ensures)' % (AF, NOT21, H),
-    'logic-requires-2': '(%s, %s)' % (M, H),
-    'returns-3': 'ways.after-logic %s %s (ways.second-no (eqb (nodeAt (abs (@args .w .now)) (@args .i) .kind) 33) (ways.form-no %s 0 (@form-at .ensures) (@if3 .taken))) (@logic2 .ensures)' % (AF, NOT21, H),
-    'skip-requires': 'heres.at-skip ' + H,
-    'returns-4': 'ways.after-assign %s %s %s (ways.iff-no _ _ (ways.in-analysis _ (@if4 .taken)) (ways.did-skip (@args .i) (@pre .1 .planted) (@skip .ensures .0)))' % (AF, NOT21, IS),
-    'cast-after-assign': 'omega (arith, @pre .1 .depth)',
-    'after-assign-requires': '(@pre .1 .planted, heres.here-node (@pre .1), omega (arith, @pre .1 .depth))',
-    'returns-5': 'ways.after-assign %s %s %s (ways.iff-yes _ _ (ways.in-inlining _ (@if4 .left)) (idents.goes-did (@after-assign .ensures)))' % (AF, NOT21, IS),
+    'kind-at-requires': 'heres.at-node ' + HA0,
+    'form-at-requires': 'heres.at-node ' + HA0,
+    'ident-requires': '(%s, (%s, sym (@kind-at .ensures) ∙ @if1 .taken))' % (M, HA0),
+    'returns': 'ways.after-ident %s (ways.kind-yes %s (@kind-at .ensures) (@if1 .taken)) (@ident .ensures)' % (AF, HA0),
+    'logic-requires': '(%s, %s)' % (M, HA0),
+    'returns-2': 'ways.after-logic %s %s (ways.first-no _ (ways.kind-no %s 33 (@kind-at .ensures) (λ e. omega (arith, e, @if2 .taken)))) (@logic .ensures)' % (AF, NOT21, HA0),
+    'returns-3': 'ways.after-logic %s %s (ways.first-no _ (ways.kind-no %s 33 (@kind-at .ensures) (@if3 .taken))) %s' % (AF, NOT21, HA0, OTHER),
+    'returns-4': 'ways.after-logic %s %s (ways.second-no (eqb (nodeAt (abs (@args .w .now)) (@args .i) .kind) 33) (ways.form-no %s 0 (@form-at .ensures) (@if4 .taken))) %s' % (AF, NOT21, HA0, OTHER),
+    'returns-5': 'ways.after-assign %s %s %s (ways.iff-no _ _ (ways.in-analysis _ (@if5 .taken)) (ways.did-skip (@args .i) (%s .planted) (@pre .1 .1)))' % (AF, NOT21, IS, HA0),
+    'cast-after-assign': 'omega (arith, %s .depth)' % HA0,
+    'after-assign-requires': '(%s .planted, heres.here-node %s, omega (arith, %s .depth))' % (HA0, HA0, HA0),
+    'returns-6': 'ways.after-assign %s %s %s (ways.iff-yes _ _ (ways.in-inlining _ (@if5 .left)) (idents.goes-did (@after-assign .ensures)))' % (AF, NOT21, IS),
 }
 # an identifier
 TRIPLE = '(%s .planted, heres.here-node %s, @pre .1 .1)' % (H0, H0)
@@ -613,7 +617,7 @@ def answers(m, need):
     return (unf, a) if unf else a
 
 # members that are given more than where they are
-PAIRS = ('func', 'ident', 'name', 'init')
+PAIRS = ('func', 'ident', 'name', 'init', 'after')
 def answers0(m, need):
     a = A.get(m, {}).get(need)
     if a is not None: return a

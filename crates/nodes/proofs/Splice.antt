@@ -94,6 +94,15 @@ module _ {w : List ℕ} (g : Planted w) {i : ℕ} (l : i < getD w 0 0) where
       (rw (← is) (names-append (take i xs) (flat e [] ++ drop (i + old) xs) (names-take i xs (omega (arith, here)) (g .good .names)) (names-append (flat e []) (drop (i + old) xs) n (names-drop (i + old) xs (g .good .names)))))
       (put-one xs i here e (g .one))
 
+-- as many nodes as before: nothing moves
+pub unslid : (w : List ℕ) (i : ℕ) {old m : ℕ} → old ≡ m → Slid w w i old m
+unslid w i {old} {m} e = record {
+  apart = record { size = refl; low = λ j a b. refl; high = λ j l. refl };
+  count = omega (arith, e);
+  low = λ j l. refl;
+  high = λ j l. ap (λ (k : ℕ). nodeOf w (i + k + j)) (sym e);
+}
+
 -- the nodes behind the first i + old moved behind the first i + m
 module _ (w u : List ℕ) (i old m : ℕ) (long : 16384 ≤ length w) (l : i + old ≤ getD w 0 0) (f : getD w 0 0 + m ≤ 1024 + old)
     (s : Moved w u (16 + (i + old) * 2) (16 + (i + m) * 2) ((getD w 0 0 - i - old) * 2)) where

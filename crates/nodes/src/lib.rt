@@ -111,6 +111,9 @@ fn slide(w: &mut [u32], i: usize, old: usize, m: usize)
     requires { ⌜ (16384 ≤ length (now w)) × (getD (now w) 0 0 ≤ 1024) × (i + old ≤ getD (now w) 0 0) × (getD (now w) 0 0 + m ≤ 1024 + old) ⌝ }
     ensures { λ _. ⌜ Slid (now (w .entry)) (now (w .exit)) i old m ⌝ }
 {
+    if old == m {
+        return;
+    }
     let n = w[0] as usize;
     shift(w, 16 + (i + old) * 2, 16 + (i + m) * 2, (n - i - old) * 2);
     w[0] = (n + m - old) as u32;

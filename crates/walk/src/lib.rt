@@ -6,8 +6,9 @@ ghost use mathlib.Core.Path.{_≡_};
 ghost use mathlib.Core.Bool.{true};
 ghost use mathlib.Core.Option.{some};
 ghost use Rattle.tree.specs.Combine.{many, splitF, eachButF, skip, treeAt};
-ghost use Rattle.words.specs.Layout.{yes, nodeOf};
-ghost use Rattle.nodes.specs.Nodes.{Planted};
+ghost use Rattle.tree.specs.Tree.{count};
+ghost use Rattle.words.specs.Layout.{yes, nodeOf, tree};
+ghost use Rattle.nodes.specs.Nodes.{Planted, treeFrom};
 ghost use Rattle.scopes.specs.State.{scopeKindOf};
 ghost use Rattle.definition.specs.Scope.{loop};
 ghost use Rattle.flat.specs.WalkF.{walksF, visitMutStmtsF, plainF, visitMutBlockStmtF, scriptF, visitWithChildF, visitMutVarDeclF, visitMutFunctionF, visitMutFnDeclF, visitMutFnExprF, visitMutArrowExprF, visitMutIfStmtF, visitMutWhileStmtF, visitMutForStmtF, visitMutForInStmtF, visitMutTryStmtF, catchParamF, visitMutCatchClauseF, visitMutSwitchCaseF, visitMutPatF, visitMutUnaryExprF, visitMutUpdateExprF, visitMutCallExprF, visitMutAssignExprF, ownF, logicalF, afterF, inCondF, nameLastF, visitMutVarDeclaratorF, afterIdentF};
@@ -66,10 +67,10 @@ fn full(w: &mut [u32], p: usize, l: usize, i: usize) -> Next
         return Next::Refused(8);
     }
     let r = own(w, p, l - 1, i);
-    let Next::At(_) = r else {
+    let Next::At(j) = r else {
         return r;
     };
-    after(w, p, l - 1, i)
+    after(w, p, l - 1, i, j)
 }
 
 // visit_mut_children_with of a list: n trees from i on.
@@ -801,24 +802,27 @@ fn ident(w: &mut [u32], p: usize, d: usize, i: usize) -> Next
     }
 }
 
-// The steps of visit_mut_expr after the node's own handler.
-fn after(w: &mut [u32], p: usize, d: usize, i: usize) -> Next
-    requires { ⌜ Here (now w) 1 i p (d + 1) ⌝ }
+// The steps of visit_mut_expr after the node's own handler, which ended at j.
+fn after(w: &mut [u32], p: usize, d: usize, i: usize, j: usize) -> Next
+    requires { ⌜ (Here (now w) 1 i p (d + 1)) × (j ≡ i + count (treeFrom (tree (now w)) i)) ⌝ }
     ensures { λ r. ⌜ Did (now (w .entry)) (now (w .exit)) r (afterF (walksF d) p i (abs (now (w .entry)))) ⌝ }
 {
     let k = kind_at(w, i);
     if k == 21 {
         return ident(w, p, d, i);
     }
-    if k != 33 {
+    if k == 32 {
         return logic(w, p, d, i);
+    }
+    if k != 33 {
+        return Next::At(j);
     }
     let f = form_at(w, i);
     if f != 0 {
-        return logic(w, p, d, i);
+        return Next::At(j);
     }
     if w[6] == 0 {
-        return Next::At(skip(w, i));
+        return Next::At(j);
     }
     after_assign(w, i, p as u32)
 }

@@ -5,16 +5,18 @@ use Prim.Native.Nat.{ℕ, zero, suc, _+_, _-_, _≤_, _<_}
 use native.Mathlib.Omega.{arith}
 use lib.ListN.{length, getD, drop}
 use mathlib.Core.Logic.{inl}
-use Rattle.tree.specs.Tree.{Tree, Forest, Core, noCore, lengthF, plant, firstT}
+use Rattle.tree.specs.Tree.{Tree, Forest, Core, noCore, lengthF, count, counts, plant, firstT}
 use Rattle.tree.specs.Combine.{Res, stop, done, M, Nothing, Flat, Walk, Walks, onRest, act, actF, treeAt, forestAt, many, carry}
 use Rattle.tree.proofs.Sims.{Sim, SimF, sim-each}
 use Rattle.words.specs.Layout.{tree, nodeOf}
 use Rattle.words.proofs.Nodes.{tree-at, tree-length}
 use Rattle.definition.specs.Walk.{St}
-use Rattle.nodes.specs.Nodes.{Planted}
+use Rattle.nodes.specs.Nodes.{Planted, treeFrom}
 use Rattle.nodes.proofs.Trees.{length-flat, count-some}
 use Rattle.shape.specs.Shape.{Room}
-use Rattle.shape.proofs.Shapes.{room-stays}
+use Rattle.nodes.proofs.Walks.{forest-at-is}
+use Rattle.nodes.proofs.Loops.{forest-first}
+use Rattle.shape.proofs.Shapes.{room-stays, trees-end}
 use Rattle.state.specs.State.{abs, Ok, Acts, Act, Turns}
 use Rattle.ident_steps.specs.declared.Next.{Next}
 use Rattle.ident_steps.specs.declared.Next.the-variants.{At, Refused}
@@ -122,3 +124,13 @@ pub here-root : {w : List ℕ} → Planted w → Here w 1 0 1 200
 here-root {w} g =
     let l : 0 < getD w 0 0 = omega (arith, tree-length w, ap length (g .one .is), length-flat (firstT (plant (tree w))) [], count-some (firstT (plant (tree w)))) in
     record { planted = g; room = room-one g l; depth = omega arith }
+
+-- a walk of a tree ends where the tree ends
+pub walk-end : {f : Tree → M St Tree} {g : Walk St} (s : Sim f g) {w u : List ℕ} {a : Next} {j i p d : ℕ} → Here w 1 i p d → a ≡ At j → Did w u a (g i (abs w)) → j ≡ i + count (treeFrom (tree u) i)
+unfolding many
+walk-end {g = g} s {w} {u} {a} {j} {i} h e x =
+    let y = subst (λ (b : Next). Did w u b (many g 1 i (abs w))) e x in
+    let l = here-node (here-again (sim-each s) h e x) in
+    let t = trees-end (sim-each s) (abs w) 1 i (whole-of (h .planted)) (h .room) (did-is y) in
+    let c : counts (forestAt (abs u) 1 i) ≡ count (treeFrom (tree u) i) + 0 = ap counts (forest-at-is (abs u) 1 i ∙ forest-first (tree u) i (omega (arith, l, tree-length u))) in
+    omega (arith, t, c)

@@ -279,6 +279,11 @@ fn-enter {w} {u} {e} n a = subst (λ (k : ScopeKind). Act w u e (onRest (opening
 pub func-in : (v : WalksF) (p n i : ℕ) {w u x : List ℕ} {a : Next} → Turns w u (setPatMode asParam (rest w)) → Did u x a (eachButF (v .full (p + 1)) (v .inner (p + 1)) n i (abs u)) → Did w x a (andThen (onRest (modify (setPatMode asParam)) (abs w)) (λ y. eachButF (v .full (suc p)) (v .inner (suc p)) n i))
 func-in v p n i {w} {u} {x} {a} t d = modify-then (setPatMode asParam) (eachButF (v .full (suc p)) (v .inner (suc p)) n i) t (subst (λ (q : ℕ). Did u x a (eachButF (v .full q) (v .inner q) n i (abs u))) (add-one p) d)
 
+-- no && or ||: the end of the tree
+pub logic-other : (v : WalksF) (p i : ℕ) {w : List ℕ} {j : ℕ} → Planted w → eqb (nodeAt (abs w) i .kind) 32 ≡ false → j ≡ i + count (treeFrom (tree w) i) → Did w w (At j) (logicalF v p i (abs w))
+unfolding logicalF
+logic-other v p i {w} g e s = iff-no (onKidsF (splitF skip (many (λ r. inCondF (v .bare (suc p) r)))) i) (skip i) (first-no (ltb (nodeAt (abs w) i .form) 2) e) (did-skip i g s)
+
 -- the steps after a handler
 module _ (v : WalksF) (p i : ℕ) {w u : List ℕ} {a : Next} where
   pub after-ident : eqb (nodeAt (abs w) i .kind) 21 ≡ true → Did w u a (afterIdentF v p i (abs w)) → Did w u a (afterF v p i (abs w))

@@ -1,5 +1,5 @@
 -- Copying, storing, wiping and merging, word by word. Assumes nothing.
-use mathlib.Core.Path.{_≡_, refl, sym, _∙_}
+use mathlib.Core.Path.{_≡_, refl, sym, ap, _∙_}
 use mathlib.Core.List.{List}
 use mathlib.Core.Bool.{true}
 use mathlib.Core.Logic.{_⊎_, inl, inr, ⊎-elim}
@@ -7,7 +7,8 @@ use Prim.Native.Nat.{ℕ, zero, suc, _+_, _-_, _≤_, _<_}
 use native.Mathlib.Nat.{eq-or-lt-of-le}
 use native.Mathlib.Omega.{arith}
 use lib.ListN.{length, getD, set, length-set}
-use lib.Seq.{getD-set-same, getD-set-other}
+use lib.Seq.{getD-set-same, getD-set-other, set-getD}
+use Rattle.tree.specs.Base.{pick}
 use Rattle.words.specs.Tab.{below-or-not}
 use Rattle.words.specs.Layout.{yes}
 use Rattle.words.specs.Moved.{Moved, Put4, Put5, Zeroed, Merged, Cleared}
@@ -138,7 +139,7 @@ module _ {w₀ w : List ℕ} {a b i : ℕ} (m : Merged w₀ w a b i) (h : b + i 
   seen : getD w (a + i) 0 ≡ getD w₀ (a + i) 0
   seen = m .high (a + i) (omega arith)
 
-  pub merge-one : (getD w (a + i) 0 ≡ 0 → ⊥) → b + i < length w → Merged w₀ (set w (b + i) 1) a b (i + 1)
+  merge-one : (getD w (a + i) 0 ≡ 0 → ⊥) → b + i < length w → Merged w₀ (set w (b + i) 1) a b (i + 1)
   merge-one z f = record {
     size = simp length-set (m .size);
     here = λ j l. ⊎-elim
@@ -149,7 +150,7 @@ module _ {w₀ w : List ℕ} {a b i : ℕ} (m : Merged w₀ w a b i) (h : b + i 
     high = λ j l. getD-set-other w (b + i) j 1 0 (λ e. omega arith) ∙ m .high j (omega arith);
   }
 
-  pub merge-skip : getD w (a + i) 0 ≡ 0 → Merged w₀ w a b (i + 1)
+  merge-skip : getD w (a + i) 0 ≡ 0 → Merged w₀ w a b (i + 1)
   merge-skip z = record {
     size = m .size;
     here = λ j l. ⊎-elim
@@ -159,6 +160,13 @@ module _ {w₀ w : List ℕ} {a b i : ℕ} (m : Merged w₀ w a b i) (h : b + i 
     low = λ j l. m .low j l;
     high = λ j l. m .high j (omega arith);
   }
+
+  pub merge-put : {x : ℕ} → x ≡ pick (yes (getD w (a + i) 0)) 1 (getD w (b + i) 0) → b + i < length w → Merged w₀ (set w (b + i) x) a b (i + 1)
+  merge-put {x} e f = go (getD w (a + i) 0) refl
+    where
+      go : (v : ℕ) → getD w (a + i) 0 ≡ v → Merged w₀ (set w (b + i) x) a b (i + 1)
+      go zero z = rw (e ∙ ap (λ (v : ℕ). pick (yes v) 1 (getD w (b + i) 0)) z, set-getD w (b + i) 0) (merge-skip z)
+      go (suc n) z = rw (e ∙ ap (λ (v : ℕ). pick (yes v) 1 (getD w (b + i) 0)) z) (merge-one (λ y. let t : suc n ≡ 0 = sym z ∙ y in omega (arith, t)) f)
 
 -- all of the first words
 pub clear-all : {w w′ : List ℕ} → Zeroed w w′ 0 16384 → Cleared w w′

@@ -1,9 +1,12 @@
 -- The end of the tree moved. Assumes nothing.
 use Prim.Native.Nat.{_-_}
 use borrow.Author.Needs.{needs}
-use Rattle.nodes.proofs.Splice.{slid}
+use Rattle.nodes.proofs.Splice.{slid, unslid}
 use Rattle.nodes.proofs.slide.Statement.{statement}
 use Rattle.nodes.proofs.slide.Tie as tie
+
+returns : tie.Need-returns
+returns c = unslid (c .before .before .args .w .now) (c .before .before .args .i) (c .if1 .taken)
 
 slice-read-n : tie.Need-slice-read-n
 slice-read-n c = search needs
@@ -56,16 +59,17 @@ slice-write-w c = search needs
 same-length : tie.Need-same-length
 same-length c = search needs
 
-returns : tie.Need-returns
-returns c =
+returns-2 : tie.Need-returns-2
+returns-2 c =
     let at-shift = c .before .before in
-    let at-entry = at-shift .before .before .before .before in
+    let at-entry = at-shift .before .before .before .before .before in
     slid (at-entry .args .w .now) (at-shift .shift .last .0) (at-entry .args .i) (at-entry .args .old) (at-entry .args .m) (at-entry .pre .0) (at-entry .pre .2) (at-entry .pre .3) (at-shift .shift .ensures)
 
 pub slide-spec : {M : Type 1} → statement M
 slide-spec =
     tie.close
     (tie.spec
+    returns
     slice-read-n
     cast-n
     add-shift
@@ -83,4 +87,4 @@ slide-spec =
     cast-w
     slice-write-w
     same-length
-    returns)
+    returns-2)

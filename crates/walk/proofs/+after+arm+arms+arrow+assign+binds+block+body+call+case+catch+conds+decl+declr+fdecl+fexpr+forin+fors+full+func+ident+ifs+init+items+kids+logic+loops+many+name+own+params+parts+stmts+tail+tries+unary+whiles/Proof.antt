@@ -118,7 +118,7 @@ use Rattle.walk.proofs.+after+arm+arms+arrow+assign+binds+block+body+ca
   close,
 }
 use Rattle.walk.proofs.+after+arm+arms+arrow+assign+binds+block+body+call+case+catch+conds+decl+declr+fdecl+fexpr+forin+fors+full+func+ident+ifs+init+items+kids+logic+loops+many+name+own+params+parts+stmts+tail+tries+unary+whiles.Proof.Common.{μ-after, μ-arm, μ-arms, μ-arrow, μ-assign, μ-binds, μ-block, μ-body, μ-call, μ-case, μ-catch, μ-conds, μ-decl, μ-declr, μ-fdecl, μ-fexpr, μ-forin, μ-fors, μ-full, μ-func, μ-ident, μ-ifs, μ-init, μ-items, μ-kids, μ-logic, μ-loops, μ-many, μ-name, μ-own, μ-params, μ-parts, μ-stmts, μ-tail, μ-tries, μ-unary, μ-whiles, after-at, arm-at, arms-at, arrow-at, assign-at, binds-at, block-at, body-at, call-at, case-at, catch-at, conds-at, decl-at, declr-at, fdecl-at, fexpr-at, forin-at, fors-at, full-at, func-at, ident-at, ifs-at, init-at, items-at, kids-at, logic-at, loops-at, many-at, name-at, own-at, params-at, parts-at, stmts-at, tail-at, tries-at, unary-at, whiles-at}
-use Rattle.walk.proofs.+after+arm+arms+arrow+assign+binds+block+body+call+case+catch+conds+decl+declr+fdecl+fexpr+forin+fors+full+func+ident+ifs+init+items+kids+logic+loops+many+name+own+params+parts+stmts+tail+tries+unary+whiles.Proof.After.{after-calls, after-kind-at-requires, after-ident-requires, after-same-length, after-returns, after-logic-requires, after-same-length-2, after-returns-2, after-form-at-requires, after-logic-requires-2, after-same-length-3, after-returns-3, after-slice-read-if4, after-skip-requires, after-same-length-4, after-returns-4, after-cast-after-assign, after-after-assign-requires, after-same-length-5, after-returns-5}
+use Rattle.walk.proofs.+after+arm+arms+arrow+assign+binds+block+body+call+case+catch+conds+decl+declr+fdecl+fexpr+forin+fors+full+func+ident+ifs+init+items+kids+logic+loops+many+name+own+params+parts+stmts+tail+tries+unary+whiles.Proof.After.{after-calls, after-kind-at-requires, after-ident-requires, after-same-length, after-returns, after-logic-requires, after-same-length-2, after-returns-2, after-same-length-3, after-returns-3, after-form-at-requires, after-same-length-4, after-returns-4, after-slice-read-if5, after-same-length-5, after-returns-5, after-cast-after-assign, after-after-assign-requires, after-same-length-6, after-returns-6}
 use Rattle.walk.proofs.+after+arm+arms+arrow+assign+binds+block+body+call+case+catch+conds+decl+declr+fdecl+fexpr+forin+fors+full+func+ident+ifs+init+items+kids+logic+loops+many+name+own+params+parts+stmts+tail+tries+unary+whiles.Proof.Arm.{arm-calls, arm-slice-read-inl, arm-slice-read-decl, arm-slice-read-mode, arm-slice-read-test, arm-enter-requires, arm-same-length, arm-returns, arm-same-length-2, arm-returns-2, arm-sub-own, arm-own-requires, arm-enum-known-r, arm-enum-told, arm-same-length-3, arm-returns-3, arm-leave-requires, arm-same-length-4, arm-returns-4}
 use Rattle.walk.proofs.+after+arm+arms+arrow+assign+binds+block+body+call+case+catch+conds+decl+declr+fdecl+fexpr+forin+fors+full+func+ident+ifs+init+items+kids+logic+loops+many+name+own+params+parts+stmts+tail+tries+unary+whiles.Proof.Arms.{arms-calls, arms-Inv-loop, arms-μ-loop, arms-loop-holds, arms-arm-requires, arms-enum-known-r, arms-enum-told, arms-same-length, arms-returns, arms-add-k, arms-loop-less, arms-loop-again, arms-same-length-2, arms-returns-2}
 use Rattle.walk.proofs.+after+arm+arms+arrow+assign+binds+block+body+call+case+catch+conds+decl+declr+fdecl+fexpr+forin+fors+full+func+ident+ifs+init+items+kids+logic+loops+many+name+own+params+parts+stmts+tail+tries+unary+whiles.Proof.Arrow.{arrow-calls, arrow-slice-read-inl, arrow-slice-read-decl, arrow-slice-read-mode, arrow-slice-read-test, arrow-enter-requires, arrow-same-length, arrow-returns, arrow-kids-requires, arrow-enum-known-r, arrow-enum-told, arrow-same-length-2, arrow-returns-2, arrow-leave-requires, arrow-same-length-3, arrow-returns-3}
@@ -136,7 +136,7 @@ use Rattle.walk.proofs.+after+arm+arms+arrow+assign+binds+block+body+ca
 use Rattle.walk.proofs.+after+arm+arms+arrow+assign+binds+block+body+call+case+catch+conds+decl+declr+fdecl+fexpr+forin+fors+full+func+ident+ifs+init+items+kids+logic+loops+many+name+own+params+parts+stmts+tail+tries+unary+whiles.Proof.Fexpr.{fexpr-calls, fexpr-arity-at-requires, fexpr-cast-n, fexpr-form-at-requires, fexpr-add-func, fexpr-func-requires, fexpr-same-length, fexpr-returns, fexpr-write-name-requires, fexpr-same-length-2, fexpr-returns-2, fexpr-add-t20, fexpr-same-length-3, fexpr-returns-3, fexpr-add-skip, fexpr-skip-requires, fexpr-sub-func, fexpr-func-requires-2, fexpr-same-length-4, fexpr-returns-4}
 use Rattle.walk.proofs.+after+arm+arms+arrow+assign+binds+block+body+call+case+catch+conds+decl+declr+fdecl+fexpr+forin+fors+full+func+ident+ifs+init+items+kids+logic+loops+many+name+own+params+parts+stmts+tail+tries+unary+whiles.Proof.Forin.{forin-calls, forin-set-pat-mode-requires, forin-arity-at-requires, forin-cast-n, forin-add-t17, forin-same-length, forin-returns, forin-add-full, forin-add-full-2, forin-full-requires, forin-enum-known-r, forin-enum-told, forin-same-length-2, forin-returns-2, forin-add-write-tree, forin-write-tree-requires, forin-same-length-3, forin-returns-3, forin-sub-write-but-last, forin-write-but-last-requires, forin-same-length-4, forin-returns-4, forin-add-loops, forin-sub-loops, forin-loops-requires, forin-same-length-5, forin-returns-5}
 use Rattle.walk.proofs.+after+arm+arms+arrow+assign+binds+block+body+call+case+catch+conds+decl+declr+fdecl+fexpr+forin+fors+full+func+ident+ifs+init+items+kids+logic+loops+many+name+own+params+parts+stmts+tail+tries+unary+whiles.Proof.Fors.{fors-calls, fors-write-kids-but-last-requires, fors-same-length, fors-returns, fors-form-at-requires, fors-arity-at-requires, fors-cast-n, fors-add-loops, fors-add-loops-2, fors-loops-requires, fors-enum-known-r, fors-enum-told, fors-same-length-2, fors-returns-2, fors-store-barrier-requires, fors-same-length-3, fors-returns-3, fors-same-length-4, fors-returns-4}
-use Rattle.walk.proofs.+after+arm+arms+arrow+assign+binds+block+body+call+case+catch+conds+decl+declr+fdecl+fexpr+forin+fors+full+func+ident+ifs+init+items+kids+logic+loops+many+name+own+params+parts+stmts+tail+tries+unary+whiles.Proof.Full.{full-calls, full-returns, full-sub-own, full-own-requires, full-enum-told, full-enum-told-2, full-same-length, full-returns-2, full-sub-after, full-after-requires, full-same-length-2, full-returns-3}
+use Rattle.walk.proofs.+after+arm+arms+arrow+assign+binds+block+body+call+case+catch+conds+decl+declr+fdecl+fexpr+forin+fors+full+func+ident+ifs+init+items+kids+logic+loops+many+name+own+params+parts+stmts+tail+tries+unary+whiles.Proof.Full.{full-calls, full-returns, full-sub-own, full-own-requires, full-enum-known-r, full-enum-told, full-same-length, full-returns-2, full-sub-after, full-after-requires, full-same-length-2, full-returns-3}
 use Rattle.walk.proofs.+after+arm+arms+arrow+assign+binds+block+body+call+case+catch+conds+decl+declr+fdecl+fexpr+forin+fors+full+func+ident+ifs+init+items+kids+logic+loops+many+name+own+params+parts+stmts+tail+tries+unary+whiles.Proof.Func.{func-calls, func-slice-read-inl, func-slice-read-decl, func-slice-read-mode, func-slice-read-test, func-add-enter, func-enter-requires, func-same-length, func-returns, func-set-pat-mode-requires, func-add-params, func-params-requires, func-enum-known-r, func-enum-told, func-same-length-2, func-returns-2, func-leave-requires, func-same-length-3, func-returns-3}
 use Rattle.walk.proofs.+after+arm+arms+arrow+assign+binds+block+body+call+case+catch+conds+decl+declr+fdecl+fexpr+forin+fors+full+func+ident+ifs+init+items+kids+logic+loops+many+name+own+params+parts+stmts+tail+tries+unary+whiles.Proof.Ident.{ident-calls, ident-constant-requires, ident-enum-known-at, ident-cast-inline-constant, ident-inline-constant-requires, ident-enum-told, ident-enum-told-2, ident-same-length, ident-returns, ident-full-requires, ident-enum-told-3, ident-slice-read-if1, ident-ident-analysis-requires, ident-skip-requires, ident-same-length-2, ident-returns-2, ident-fate-requires, ident-enum-told-4, ident-skip-requires-2, ident-enum-told-5, ident-cast-inline-undefined, ident-inline-undefined-requires, ident-enum-known-at-2, ident-cast-inline-value, ident-inline-value-requires, ident-enum-told-6, ident-enum-told-7, ident-same-length-3, ident-returns-3, ident-logic-requires, ident-same-length-4, ident-returns-4, ident-same-length-5, ident-returns-5, ident-same-length-6, ident-returns-6, ident-same-length-7, ident-returns-7}
 use Rattle.walk.proofs.+after+arm+arms+arrow+assign+binds+block+body+call+case+catch+conds+decl+declr+fdecl+fexpr+forin+fors+full+func+ident+ifs+init+items+kids+logic+loops+many+name+own+params+parts+stmts+tail+tries+unary+whiles.Proof.Ifs.{ifs-calls, ifs-arity-at-requires, ifs-cast-n, ifs-add-t13, ifs-same-length, ifs-returns, ifs-slice-read-old, ifs-set-in-test-requires, ifs-add-full, ifs-add-full-2, ifs-full-requires, ifs-enum-known-r, ifs-enum-told, ifs-same-length-2, ifs-returns-2, ifs-set-in-test-requires-2, ifs-add-arms, ifs-sub-arms, ifs-arms-requires, ifs-same-length-3, ifs-returns-3}
@@ -207,18 +207,18 @@ pub +after+arm+arms+arrow+assign+binds+block+body+call+case+catch+conds+decl+dec
     (after-logic-requires t)
     (after-same-length-2 t)
     (after-returns-2 t)
-    (after-form-at-requires t)
-    (after-logic-requires-2 t)
     (after-same-length-3 t)
     (after-returns-3 t)
-    (after-slice-read-if4 t)
-    (after-skip-requires t)
+    (after-form-at-requires t)
     (after-same-length-4 t)
     (after-returns-4 t)
+    (after-slice-read-if5 t)
+    (after-same-length-5 t)
+    (after-returns-5 t)
     (after-cast-after-assign t)
     (after-after-assign-requires t)
-    (after-same-length-5 t)
-    (after-returns-5 t))
+    (after-same-length-6 t)
+    (after-returns-6 t))
     (λ t. arm-lts.spec (arm-calls t)
     (arm-at t)
     arm.Post
@@ -590,8 +590,8 @@ pub +after+arm+arms+arrow+assign+binds+block+body+call+case+catch+conds+decl+dec
     (full-returns t)
     (full-sub-own t)
     (full-own-requires t)
+    (full-enum-known-r t)
     (full-enum-told t)
-    (full-enum-told-2 t)
     (full-same-length t)
     (full-returns-2 t)
     (full-sub-after t)

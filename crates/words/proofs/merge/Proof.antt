@@ -5,10 +5,12 @@ use native.Mathlib.Omega.{arith}
 use lib.ListN.{length, length-set}
 use Rattle.words.specs.Moved.{Merged}
 use Rattle.words.proofs.Moves as moves
-use mathlib.Core.Logic.{⊎-elim}
 use borrow.Author.Needs.{needs}
 use Rattle.words.proofs.merge.Statement.{statement}
 use Rattle.words.proofs.merge.Tie as tie
+use Rattle.words.proofs.merge.Reads as reads
+use Rattle.words.proofs.merge.Lts as lts
+use Rattle.words.proofs.either.Reads as either-reads
 
 abbrev Inv-loop : tie.InvT-loop
 Inv-loop w₀ a b n i₀ w i = (i ≤ n) × (length w ≡ length w₀) × Merged w₀ w a b i
@@ -17,16 +19,28 @@ abbrev μ-loop : tie.MeasureT-loop
 μ-loop w₀ a b n i₀ w i = n - i
 
 loop-holds : tie.Need-loop-holds Inv-loop μ-loop
-loop-holds c = (omega arith, refl, moves.merge-none (c .args .w .now) (c .args .a) (c .args .b))
+loop-holds c = (omega arith, refl, moves.merge-none (c .before .args .w .now) (c .before .args .a) (c .before .args .b))
 
-add-if1 : tie.Need-add-if1 Inv-loop μ-loop
-add-if1 c = search needs
+add-either : tie.Need-add-either Inv-loop μ-loop
+add-either c = search needs
 
-mul-if1 : tie.Need-mul-if1 Inv-loop μ-loop
-mul-if1 c = search needs
+mul-either : tie.Need-mul-either Inv-loop μ-loop
+mul-either c = search needs
 
-slice-read-if1 : tie.Need-slice-read-if1 Inv-loop μ-loop
-slice-read-if1 c = search needs
+slice-read-either : tie.Need-slice-read-either Inv-loop μ-loop
+slice-read-either c = search needs
+
+add-either-2 : tie.Need-add-either-2 Inv-loop μ-loop
+add-either-2 c = search needs
+
+mul-either-2 : tie.Need-mul-either-2 Inv-loop μ-loop
+mul-either-2 c = search needs
+
+slice-read-either-2 : tie.Need-slice-read-either-2 Inv-loop μ-loop
+slice-read-either-2 c = search needs
+
+either-requires : tie.Need-either-requires Inv-loop μ-loop
+either-requires c κs = search needs
 
 add-w : tie.Need-add-w Inv-loop μ-loop
 add-w c = search needs
@@ -45,11 +59,8 @@ loop-less c = search needs
 
 loop-again : tie.Need-loop-again Inv-loop μ-loop
 loop-again c =
-    let at-loop = c .before .before .before in
-    ⊎-elim
-    (λ t. (omega arith, ap length (t .1) ∙ simp length-set (at-loop .loop .inv .1), rw (t .1) (moves.merge-one (at-loop .loop .inv .2) (omega arith) (t .0 .taken) (omega arith))))
-    (λ t. (omega arith, ap length (t .1) ∙ at-loop .loop .inv .1, rw (t .1) (moves.merge-skip (at-loop .loop .inv .2) (omega arith) (t .0 .left))))
-    (c .if1 .came)
+    let at-loop = c .before .before .before .before in
+    (omega arith, simp length-set (at-loop .loop .inv .1), moves.merge-put (at-loop .loop .inv .2) (omega arith) (c .either .ensures) (omega arith))
 
 same-length : tie.Need-same-length Inv-loop μ-loop
 same-length c = search needs
@@ -57,7 +68,7 @@ same-length c = search needs
 returns : tie.Need-returns Inv-loop μ-loop
 returns c =
     let at-loop = c .before in
-    let at-entry = at-loop .before in
+    let at-entry = at-loop .before .before in
     let e : at-loop .loop .i ≡ at-entry .args .n = omega arith in
     rw e at (at-loop .loop .inv .2)
 
@@ -68,9 +79,13 @@ merge-spec =
     Inv-loop
     μ-loop
     loop-holds
-    add-if1
-    mul-if1
-    slice-read-if1
+    add-either
+    mul-either
+    slice-read-either
+    add-either-2
+    mul-either-2
+    slice-read-either-2
+    either-requires
     add-w
     mul-w
     slice-write-w

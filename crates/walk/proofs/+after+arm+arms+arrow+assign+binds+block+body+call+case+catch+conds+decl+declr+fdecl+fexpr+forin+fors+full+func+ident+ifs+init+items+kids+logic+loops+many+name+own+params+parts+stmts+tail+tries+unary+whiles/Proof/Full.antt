@@ -33,11 +33,11 @@ full-own-requires t c κs =
     let at-entry = at-if1 .before .before in
     (omega (arith, at-entry .pre .0, at-if1 .if1 .left), heres.here-up (at-if1 .if1 .left) (at-entry .pre .1))
 
+pub full-enum-known-r : (t : ℕ) → full-lts.Need-enum-known-r (full-calls t) (full-at t) full.Post
+full-enum-known-r t c = search needs
+
 pub full-enum-told : (t : ℕ) → full-lts.Need-enum-told (full-calls t) (full-at t) full.Post
 full-enum-told t c = search needs
-
-pub full-enum-told-2 : (t : ℕ) → full-lts.Need-enum-told-2 (full-calls t) (full-at t) full.Post
-full-enum-told-2 t c = search needs
 
 pub full-same-length : (t : ℕ) → full-lts.Need-same-length (full-calls t) (full-at t) full.Post
 full-same-length t c =
@@ -49,32 +49,32 @@ full-returns-2 t c =
     let at-own = c .before .before .before .before in
     let at-if1 = at-own .before .before in
     let at-entry = at-if1 .before .before in
-    ways.full-stop (at-entry .args .p) (at-entry .args .i) (at-entry .args .l) (at-if1 .if1 .left) (c .enum-told2 .given .1) (at-own .own .ensures)
+    ways.full-stop (at-entry .args .p) (at-entry .args .i) (at-entry .args .l) (at-if1 .if1 .left) (c .enum-told .given .1) (at-own .own .ensures)
 
 pub full-sub-after : (t : ℕ) → full-lts.Need-sub-after (full-calls t) (full-at t) full.Post
 full-sub-after t c =
-    let at-if1 = c .before .before .before .before .before .before .before in
+    let at-if1 = c .before .before .before .before .before .before .before .before in
     omega (arith, at-if1 .if1 .left)
 
 pub full-after-requires : (t : ℕ) → full-lts.Need-after-requires (full-calls t) (full-at t) full.Post
 full-after-requires t c κs =
-    let at-enum-told = c .before in
-    let at-own = at-enum-told .before .before .before .before in
+    let at-r = c .before .before in
+    let at-own = at-r .before .before .before .before in
     let at-if1 = at-own .before .before in
     let at-entry = at-if1 .before .before in
-    (omega (arith, at-entry .pre .0, at-if1 .if1 .left), heres.here-still (sim-own (sims (at-entry .args .l - 1)) (at-entry .args .p)) (heres.here-up (at-if1 .if1 .left) (at-entry .pre .1)) (at-enum-told .enum-told .given .1) refl (at-own .own .ensures))
+    (omega (arith, at-entry .pre .0, at-if1 .if1 .left), (heres.here-still (sim-own (sims (at-entry .args .l - 1)) (at-entry .args .p)) (heres.here-up (at-if1 .if1 .left) (at-entry .pre .1)) (at-r .r .given .1) refl (at-own .own .ensures), heres.walk-end (sim-own (sims (at-entry .args .l - 1)) (at-entry .args .p)) (heres.here-up (at-if1 .if1 .left) (at-entry .pre .1)) (at-r .r .given .1) (at-own .own .ensures)))
 
 pub full-same-length-2 : (t : ℕ) → full-lts.Need-same-length-2 (full-calls t) (full-at t) full.Post
 full-same-length-2 t c =
     let at-after = c .before .before in
-    let at-own = at-after .before .before .before .before .before .before in
+    let at-own = at-after .before .before .before .before .before .before .before in
     at-after .after .kept .0 ∙ at-own .own .kept .0
 
 pub full-returns-3 : (t : ℕ) → full-lts.Need-returns-3 (full-calls t) (full-at t) full.Post
 full-returns-3 t c =
     let at-after = c .before .before in
-    let at-enum-told = at-after .before .before in
-    let at-own = at-enum-told .before .before .before .before in
+    let at-r = at-after .before .before .before in
+    let at-own = at-r .before .before .before .before in
     let at-if1 = at-own .before .before in
     let at-entry = at-if1 .before .before in
-    ways.full-then (at-entry .args .p) (at-entry .args .i) (at-entry .args .l) (at-if1 .if1 .left) (at-enum-told .enum-told .given .1) (at-own .own .ensures) (at-after .after .ensures)
+    ways.full-then (at-entry .args .p) (at-entry .args .i) (at-entry .args .l) (at-if1 .if1 .left) (at-r .r .given .1) (at-own .own .ensures) (at-after .after .ensures)
