@@ -8,14 +8,17 @@ const { treeOfLines } = require('./tree_file');
 const { PortTrouble } = require('./trouble');
 
 const DEFAULT_PORT = path.join(__dirname, '..', '..', 'target', 'bin', 'negbosun');
+// The program takes no run limit; the Rust caller's tool over the same C functions does.
+const LIMITED_PORT = path.join(__dirname, '..', '..', 'caller', 'target', 'release', 'negbosun-inline');
 const MOST_RUNS = 16;
 const LONGEST_ANSWER = 1 << 24;
 
-const portPath = (named) => named || process.env.NEGBOSUN_PORT || DEFAULT_PORT;
+const takesLimit = () => fs.existsSync(LIMITED_PORT);
+const portPath = (named, runs) => named || process.env.NEGBOSUN_PORT || (runs !== undefined && takesLimit() ? LIMITED_PORT : DEFAULT_PORT);
 
 // Without a limit the program is called without arguments, as document 01 has it.
 function portOutput(bytes, { port, runs }) {
-  const command = portPath(port);
+  const command = portPath(port, runs);
   if (!fs.existsSync(command)) {
     throw new PortTrouble(`no port at ${command}; build it, or name one by --port or NEGBOSUN_PORT`);
   }
@@ -30,7 +33,7 @@ function portOutput(bytes, { port, runs }) {
 
 // A port that passes over its arguments makes 16 runs; what ended by itself within the limit is the same either way.
 function checkLimit(done, runs) {
-  if (runs !== undefined && done > runs) throw new PortTrouble(`this port takes no run limit: ${done} runs were made`);
+  if (runs !== undefined && done > runs) throw new PortTrouble(`this port takes no run limit: ${done} runs were made; build caller/ (cargo build --release), whose tool does`);
 }
 
 // The answer to a tree file: a refusal's number, or lines, runs, mark and the result's tree.
@@ -44,4 +47,4 @@ function runPort(bytes, texts, options) {
   return { refused: 0, lines, runs: done, changed, tree: treeOfLines(rest.slice(0, count), texts) };
 }
 
-module.exports = { runPort, MOST_RUNS };
+module.exports = { runPort, takesLimit, MOST_RUNS };

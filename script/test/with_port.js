@@ -8,6 +8,7 @@ const os = require('os');
 const path = require('path');
 const { guard } = require('../guard/guard');
 const { build } = require('../src/build');
+const { takesLimit } = require('../src/port');
 const { textOfTree } = require('../src/result_text');
 const { writeTreeFile } = require('../src/tree_file');
 const { treeOfText } = require('../src/to_tree');
@@ -148,9 +149,9 @@ const COMMANDS = {
   'accepted': () => assert.strictEqual(inline(['--accept'], DIFFERING).status, 0),
   'accepted by class': () => assert.deepStrictEqual([inline(['--accept=5'], DIFFERING).status, inline(['--accept=7'], DIFFERING).status], [0, 3]),
   'no guard': () => assert.deepStrictEqual([inline(['--no-guard'], DIFFERING).status, inline(['--no-guard'], DIFFERING).said], [0, '']),
-  'one run, where the port takes a limit': () => {
+  'one run, where a port takes a limit': () => {
     const { text, said } = inline(['--lines', '--runs', '1'], 'var x = 1; x;');
-    assert.match(text + said, /^ok runs 1 changed 1 |this port takes no run limit/);
+    assert.match(text + said, takesLimit() ? /^ok runs 1 changed 1 / : /^ok runs 1 changed 1 |this port takes no run limit/);
   },
   'a file that is not UTF-8': () => assert.match(inline([], Buffer.from([0x78, 0xff])).said, /not UTF-8/),
   'nested deeper than can be read': () => assert.match(inline([], `${'['.repeat(20000)}${']'.repeat(20000)}`).said, /refusal 6: /),
