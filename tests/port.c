@@ -11,6 +11,8 @@
 #include <string.h>
 #include <sys/mman.h>
 
+#include "buffers.h"
+
 struct inlined {
     uint32_t refused;
     size_t length;
@@ -26,7 +28,7 @@ struct roots {
 struct inlined negbosun_inline(const uint8_t *file, size_t file_length, uint8_t *result, size_t room, uint32_t *words, size_t count, uint32_t runs);
 struct roots negbosun_roots(const uint8_t *file, size_t file_length, uint32_t *roots, size_t room, uint32_t *words, size_t count, uint32_t runs);
 
-enum { CLEARED = 16384, GUARD = 64, STACK = 256 * 1024, PAGE = 4096, PAINT = 0x5a };
+enum { STACK = 256 * 1024, PAGE = 4096, PAINT = 0x5a };
 
 struct call {
     int wants_roots;
@@ -43,11 +45,6 @@ struct call {
 };
 
 static uint8_t *stack;
-
-static uint8_t byte_at(size_t i) { return (uint8_t)(i * 7 + 3); }
-
-/* never 0, so that a cleared word shows */
-static uint32_t word_at(size_t i) { return (uint32_t)(i * 2654435761u) | 1u; }
 
 static void *on_stack(void *given) {
     struct call *c = given;
@@ -80,27 +77,6 @@ static size_t call_on_stack(struct call *c) {
         lowest++;
     }
     return (size_t)(c->top - lowest);
-}
-
-static const char *state(const uint32_t *words, size_t count) {
-    size_t same = 0, zero = 0, all = count + GUARD;
-    for (size_t i = 0; i < all; i++) {
-        same += words[i] == word_at(i);
-        zero += i < CLEARED && words[i] == 0;
-    }
-    if (same == all) {
-        return "same";
-    }
-    return count >= CLEARED && zero == CLEARED && same == all - CLEARED ? "clear" : "other";
-}
-
-static size_t unhex(const char *hex, uint8_t *out) {
-    size_t n = hex[0] == '-' ? 0 : strlen(hex) / 2;
-    for (size_t i = 0; i < n; i++) {
-        char digits[3] = {hex[2 * i], hex[2 * i + 1], 0};
-        out[i] = (uint8_t)strtoul(digits, NULL, 16);
-    }
-    return n;
 }
 
 static void show(const struct call *c, size_t all, const uint8_t *before, size_t used) {

@@ -2,16 +2,10 @@
 # The sample's tree file is what tools/tree.py makes of the readable one, and the programs show and negbosun are held to it.
 set -u
 cd "$(dirname "$0")/.." || exit 1
-out=$(mktemp -d)
-trap 'rm -rf "$out"' EXIT
-passed=0
-failed=0
+. tests/counts.bash
+
+python3 tools/tree.py samples/tide.txt "$out/tree"
 for file in samples/tide.tree crates/show/stdin crates/negbosun/stdin; do
-    if python3 tools/tree.py samples/tide.txt "$out/tree" && cmp "$out/tree" "$file"; then
-        passed=$((passed + 1))
-    else
-        failed=$((failed + 1))
-    fi
+    one "$file" cmp "$out/tree" "$file"
 done
-echo "$passed passed, $failed failed"
-[ "$failed" -eq 0 ]
+finish

@@ -7,41 +7,14 @@
 #include <stdlib.h>
 #include <string.h>
 
+#include "buffers.h"
+
 struct copied {
     uint32_t refused;
     size_t length;
 };
 
 struct copied negbosun_copy(const uint8_t *file, size_t file_length, uint8_t *result, size_t room, uint32_t *words, size_t count);
-
-enum { CLEARED = 16384, GUARD = 64 };
-
-static uint8_t byte_at(size_t i) { return (uint8_t)(i * 7 + 3); }
-
-/* never 0, so that a cleared word shows */
-static uint32_t word_at(size_t i) { return (uint32_t)(i * 2654435761u) | 1u; }
-
-static const char *state(const uint32_t *words, size_t count) {
-    size_t same = 0, zero = 0, all = count + GUARD;
-    for (size_t i = 0; i < all; i++) {
-        same += words[i] == word_at(i);
-        zero += i < CLEARED && words[i] == 0;
-    }
-    if (same == all) {
-        return "same";
-    }
-    return count >= CLEARED && zero == CLEARED && same == all - CLEARED ? "clear" : "other";
-}
-
-static size_t unhex(const char *hex, uint8_t *out) {
-    size_t n = hex[0] == '-' ? 0 : strlen(hex) / 2;
-    for (size_t i = 0; i < n; i++) {
-        unsigned value;
-        sscanf(hex + 2 * i, "%2x", &value);
-        out[i] = (uint8_t)value;
-    }
-    return n;
-}
 
 static void show(struct copied c, const uint8_t *result, size_t room) {
     printf("%u %zu ", c.refused, c.length);
