@@ -11,7 +11,7 @@ In an answer `@thing` stands for the path to that thing at the need; a need with
 """
 import os, re, sys
 sys.path.insert(0, os.path.dirname(os.path.abspath(__file__)))
-from walks_answers import answers, USES, RANK, LOOPS
+from walks_answers import answers, ended, USES, RANK, LOOPS
 
 def printed(log):
     """the lines that the check prints for the cycle's file"""
@@ -105,6 +105,7 @@ for d in decls:
     inv = ' %s-Inv-loop %s-μ-loop' % (m, m) if re.search(r'%s-Inv-loop' % m, d) else ''
     a = answers(m, need)
     if a is None and need.startswith('same-length'): a = kept(P[m][need])
+    if a is not None and need.startswith('returns'): a = ended(m, need, a, P[m][need][0][1][0])
     unf = ''
     if isinstance(a, tuple): unf, a = 'unfolding %s\n' % a[0], a[1]
     if a is None: holes[m] += 1

@@ -19,10 +19,12 @@ USES = [
     ('use Rattle.definition.specs.Walk.{opening, restore, deeper, shallower, modify, setVarDeclKind, setPatMode, asParam, asCatch, assigning, declKindOf, writeTree, writeForest, butLast, when, mark, assignFirst, assignLast, storeInlineBarrierM, declareName, writeName, handlers, hPlain, hScript, hBlock, hDecl, hDeclr, hFun, hIf, hWhile, hFor, hForIn, hTry, hCatch, hCase, hPat, hUnary, hUpdate, hAssign, hCall, hNew, hFunExpr, hArrow}', ['deeper', 'declareName', 'writeName', 'writeTree', 'writeForest', 'assignFirst', 'storeInlineBarrierM', 'handlers', 'asParam', 'opening', 'restore', 'modify', 'setPatMode', 'setVarDeclKind', 'declKindOf']),
     ('use Rattle.state.specs.State.{abs, rest}', ['abs', 'rest']),
     ('use Rattle.flat.specs.WalkF.{walksF, inCondF, visitMutStmtsF, plainF, visitMutBlockStmtF, scriptF, visitWithChildF, visitMutVarDeclF, visitMutFunctionF, visitMutFnDeclF, visitMutFnExprF, visitMutArrowExprF, testedF, visitMutIfStmtF, visitMutWhileStmtF, visitMutForStmtF, visitMutForInStmtF, visitMutTryStmtF, catchParamF, visitMutCatchClauseF, visitMutSwitchCaseF, visitMutUnaryExprF, visitMutUpdateExprF, visitMutCallExprF, visitMutAssignExprF, assignKidsF, handleF, ownF, logicalF, afterF}', ['walksF', 'visitMutCallExprF', 'visitMutUnaryExprF']),
-    ('use Rattle.flat.proofs.Sim.{sims, sim-own, sim-name, sim-branch, sim-tested, sim-catchParam, sim-stmts}', ['sims']),
+    ('use Rattle.flat.proofs.Sim.{sims, sim-own, sim-after, sim-afterIdent, sim-declr, sim-name, sim-branch, sim-tested, sim-catchParam, sim-stmts}', ['sims']),
     ('use Rattle.ident_steps.specs.declared.Next.the-variants.{At, Refused}', ['At', 'Refused']),
     ('use Rattle.walk_laws.specs.Did.{Did, clauseF, clausesF, caughtF, itemsF}', ['clausesF', 'Did', 'clauseF', 'caughtF', 'itemsF']),
+    ('use Rattle.walk_laws.proofs.Codes as codes', ['codes']),
     ('use Rattle.walk_laws.proofs.Laws as laws', ['laws']),
+    ('use Rattle.walk_laws.proofs.Shorts as shorts', ['shorts']),
     ('use Rattle.walk_laws.proofs.Heres as heres', ['heres']),
     ('use Rattle.walk_laws.proofs.Ways as ways', ['ways']),
     ('use Rattle.walk_laws.proofs.Declrs as declrs', ['declrs']),
@@ -48,35 +50,39 @@ WALK = {
 ARGS = dict(d='(@args .d)', p='(@args .p)', kind='(@args .kind)')
 def LOOPS(m):
     f = WALK[m][0].format(d='d', p='p', kind='kind')
-    return {'Inv-loop': '(k ≤ n) × (length w ≡ length w₀) × Did w₀ w (At at) (many (%s) k i (abs w₀))' % f, 'μ-loop': 'n - k'}
+    return {'Inv-loop': '(k ≤ n) × (length w ≡ length w₀) × Did w₀ w (At at) (many (%s) k i (abs w₀)) × (at < 65536)' % f, 'μ-loop': 'n - k'}
 
 H, M = '(@pre .1)', 'omega (arith, @pre .0)'
 V = '(walksF (@args .d))'
 AR = '(@arity-at .ensures)'
 KIDS = '(heres.here-kids %s %s)' % (H, AR)
-TOLD, GOT = '(@enum-told .given .1)', '(@r .given .1)'
+# what a walk answered: a refusal, or a place, by a name for it or without one
+NEXT = '(sym (@next .ensures .0) ∙ @%s .given .1)'
+TOLD, GOT = NEXT % 'enum-told', NEXT % 'j'
+GOT_, TOLD_ = NEXT % 'enum-told', NEXT % 'enum-told2'
 N, I1, P1 = '(@arity-at .result)', '(@args .i + 1)', '(@args .p + 1)'
 A = {}
 
 AT = '(@loop .at)'
+LOW = 'codes.low-got (@next .ensures .1) (@j .given .1)'
 def loop(m):
     f, sim, call = WALK[m]
     f, sim = '(' + f.format(**ARGS) + ')', '(sim-each (' + sim.format(**ARGS) + '))'
     at = '%s (@args .i) (@loop .k) (@args .n) (@loop .inv .2)' % f
     here = '(heres.here-behind %s %s refl (@loop .k) (@loop-test .taken) (@loop .inv .2))' % (sim, H)
     STEPS = {
-        'loop-holds': '(omega arith, refl, laws.many-none %s (@args .i) (@pre .1 .planted))' % f,
+        'loop-holds': '(omega arith, refl, laws.many-none %s (@args .i) (@pre .1 .planted), codes.low-here %s)' % (f, H),
         'add-k': 'omega (arith, @loop-test .taken, @fits .n)',
         'add-k-2': 'omega (arith, @loop-test .taken, @fits .n)',
         'loop-less': 'omega (arith, @loop-test .taken)',
         'loop-less-2': 'omega (arith, @loop-test .taken)',
     }
-    again = lambda kept, e, x: '(omega (arith, @loop-test .taken), %s @loop .inv .1, ways.many-next %s %s (%s))' % (kept, at, e, x)
+    again = lambda kept, e, x, low=LOW: '(omega (arith, @loop-test .taken), %s @loop .inv .1, ways.many-next %s %s (%s), %s)' % (kept, at, e, x, low)
     if m == 'parts':
         A[m] = dict(STEPS, **{
             'kind-at-requires': 'heres.at-node ' + here,
             'skip-requires': 'heres.at-skip ' + here,
-            'loop-again': again('', 'refl', 'ways.iff-no _ _ (ways.kind-no %s 17 (@kind-at .ensures) (@if1 .taken)) (ways.did-skip %s (%s .planted) (@skip .ensures .0))' % (here, AT, here)),
+            'loop-again': again('', 'refl', 'ways.iff-no _ _ (ways.kind-no %s 17 (@kind-at .ensures) (@if1 .taken)) (ways.did-skip %s (%s .planted) (@skip .ensures .0))' % (here, AT, here), 'codes.low-end (%s .planted) (@skip .ensures .2)' % here),
             'full-requires': '(%s, %s)' % (M, here),
             'returns': 'ways.many-stop %s (@loop-test .taken) %s (ways.iff-yes _ _ (ways.kind-yes %s (@kind-at .ensures) (@if1 .left)) (@full .ensures))' % (at, TOLD, here),
             'loop-again-2': again('@full .kept .0 ∙', GOT, 'ways.iff-yes _ _ (ways.kind-yes %s (@kind-at .ensures) (@if1 .left)) (@full .ensures)' % here),
@@ -107,12 +113,12 @@ def loop(m):
         })
         return
     A[m] = {
-        'loop-holds': '(omega arith, refl, laws.many-none %s (@args .i) (@pre .1 .planted))' % f,
+        'loop-holds': '(omega arith, refl, laws.many-none %s (@args .i) (@pre .1 .planted), codes.low-here %s)' % (f, H),
         call + '-requires': '(%s, heres.here-behind %s %s refl (@loop .k) (@loop-test .taken) (@loop .inv .2))' % (M, sim, H),
         'returns': 'ways.many-stop %s (@loop-test .taken) %s (@%s .ensures)' % (at, TOLD, call),
         'add-k': 'omega (arith, @loop-test .taken, @fits .n)',
         'loop-less': 'omega (arith, @loop-test .taken)',
-        'loop-again': '(omega (arith, @loop-test .taken), @%s .kept .0 ∙ @loop .inv .1, ways.many-next %s %s (@%s .ensures))' % (call, at, GOT, call),
+        'loop-again': '(omega (arith, @loop-test .taken), @%s .kept .0 ∙ @loop .inv .1, ways.many-next %s %s (@%s .ensures), %s)' % (call, at, GOT, call, LOW),
         'returns-2': 'ways.many-end %s (@loop .inv .0) (@loop-test .left)' % at,
     }
 for m in WALK: loop(m)
@@ -122,27 +128,36 @@ UP = 'heres.here-up (@if1 .left) ' + H
 ML = 'omega (arith, @pre .0, @if1 .left)'
 L = '(@args .p) (@args .i) (@args .l)'
 OWN = '(sim-own (sims (@args .l - 1)) (@args .p))'
+BARE = '(%s) (@if1 .left) (sym (@bare .ensures) ∙ @if2 .taken)' % UP
+SETTLED = '(shorts.settled-after (walksF (@args .l - 1)) (heres.here-still %s (%s) %s refl (@own .ensures)) (sym (@settled .ensures) ∙ @if4 .taken) (heres.walk-end %s (%s) %s (@own .ensures)))' % (OWN, UP, GOT, OWN, UP, GOT)
 A['full'] = {
     'returns': 'ways.full-none %s (@pre .1 .planted) (@if1 .taken)' % L,
+    'bare-requires': 'heres.here-flat ' + H,
+    'kind-at-requires': 'heres.at-node ' + H,
+    'ident-requires': '(%s, (%s, sym (@kind-at .ensures) ∙ @if3 .taken))' % (ML, UP),
+    'returns-2': 'shorts.bare-ident %s (@kind-at .ensures) (@if3 .taken) (@ident .ensures)' % BARE,
+    'returns-3': 'shorts.bare-other %s (@kind-at .ensures) (@if3 .left)' % BARE,
     'own-requires': '(%s, %s)' % (ML, UP),
-    'returns-2': 'ways.full-stop %s (@if1 .left) %s (@own .ensures)' % (L, TOLD),
+    'returns-4': 'ways.full-stop %s (@if1 .left) %s (@own .ensures)' % (L, TOLD),
+    'settled-requires': 'heres.here-flat (heres.here-still %s (%s) %s refl (@own .ensures))' % (OWN, UP, GOT),
+    'returns-5': 'ways.full-then %s (@if1 .left) %s (@own .ensures) %s' % (L, GOT, SETTLED),
     'after-requires': '(%s, (heres.here-still %s (%s) %s refl (@own .ensures), heres.walk-end %s (%s) %s (@own .ensures)))' % (ML, OWN, UP, GOT, OWN, UP, GOT),
-    'returns-3': 'ways.full-then %s (@if1 .left) %s (@own .ensures) (@after .ensures)' % (L, GOT),
+    'returns-6': 'ways.full-then %s (@if1 .left) %s (@own .ensures) (@after .ensures)' % (L, GOT),
 }
 
 # visit_mut_stmts
 S = '%s (@args .p) (@args .n) (@args .i)' % V
 T1 = '(heres.here-turn (@set-inlining .ensures) %s)' % H
-T2 = '(heres.here-turn (@set-inlining2 .ensures) (heres.here-again (sim-each (sims (@args .d) .full (@args .p))) %s (@enum-told .given .1) (@many2 .ensures)))' % T1
+T2 = '(heres.here-turn (@set-inlining2 .ensures) (heres.here-again (sim-each (sims (@args .d) .full (@args .p))) %s %s (@many2 .ensures)))' % (T1, GOT_)
 A['stmts'] = {
     'many-requires': '(%s, %s)' % (M, H),
     'returns': 'ways.stmts-once %s (@if1 .taken) (@many .ensures)' % S,
     'set-inlining-requires': '@pre .1 .planted',
     'many-requires-2': '(%s, %s)' % (M, T1),
-    'returns-2': 'ways.stmts-stop %s (@if1 .left) (@set-inlining .ensures) (@enum-told2 .given .1) (@many2 .ensures)' % S,
+    'returns-2': 'ways.stmts-stop %s (@if1 .left) (@set-inlining .ensures) %s (@many2 .ensures)' % (S, TOLD_),
     'set-inlining-requires-2': '@many2 .ensures .ok .planted',
     'many-requires-3': '(%s, %s)' % (M, T2),
-    'returns-3': 'ways.stmts-then %s (@if1 .left) (@set-inlining .ensures) (@enum-told .given .1) (@many2 .ensures) (@set-inlining2 .ensures) (@many3 .ensures)' % S,
+    'returns-3': 'ways.stmts-then %s (@if1 .left) (@set-inlining .ensures) %s (@many2 .ensures) (@set-inlining2 .ensures) (@many3 .ensures)' % (S, GOT_),
 }
 
 # the children
@@ -188,7 +203,7 @@ def each_but(m, last, body, extra):
         'returns-3': 'ways.but-then %s (@if1 .left) %s (@many .ensures) (@%s .ensures)' % (k, GOT, last),
     }
 PK = '(walksF (@args .d) .full (@args .p)) (walksF (@args .d) .inner (@args .p)) (@args .n) (@args .i)'
-J0 = '(@r .given .0 .0)'
+J0 = '(@j .given .0 .0)'
 PH = '(heres.here-behind (sim-each (sims (@args .d) .full (@args .p))) %s %s (@args .n - 1) (omega (arith, @if1 .left)) (@many .ensures))' % (H, GOT)
 A['params'] = {
     'returns': 'ways.but-none %s (@if1 .taken) (@pre .1 .planted)' % PK,
@@ -313,7 +328,7 @@ HT2 = '(heres.here-turn (@set-pat-mode .ensures) %s)' % INB
 KT2 = '(heres.here-kids %s %s)' % (HT2, AR)
 SCOPE = 'vBlock (caughtF %s (@args .p) (@args .i)) (@enter .ensures)' % V
 IN = lambda x: '(%s)' % MT('asCatch', CM, 'ways.on-kids (%s) %s %s (%s)' % (CG, HT2, AR, x))
-TOLD2, GOT2 = '(@enum-told2 .given .1)', '(@s .given .1)'
+TOLD2, GOT2 = (NEXT % 'enum-told2').replace('next', 'next2'), (NEXT % 'end').replace('next', 'next2')
 A['catch'] = {
     'enter-requires': '@pre .1 .planted',
     'returns': ('visitMutCatchClauseF', 'ways.scope-full %s (@if1 .taken)' % SCOPE),
@@ -347,7 +362,7 @@ A['unary'] = {
     'update-requires': H,
     'returns-2': ('visitMutUnaryExprF visitMutUpdateExprF', 'ways.iff-yes _ _ (ways.form-yes %s (@form-at .ensures) (@if1 .left)) (@update .ensures)' % H),
 }
-J = '(@r .given .0 .0)'
+J = '(@j .given .0 .0)'
 # a for statement
 U = 'visitMutForStmtF'
 FW = lambda x: (U, 'laws.act-then _ (@if1 .left) (@write-kids-but-last .ensures) (%s)' % x)
@@ -409,7 +424,7 @@ A['call'] = {
     'many-requires': '(%s, heres.here-act _ (@if2 .left) (@write-args .ensures) %s)' % (M, NXT),
     'returns-4': CALL('laws.did-stop _ _ %s (%s)' % (TOLD2, ARGS_)),
     'store-barrier-requires-2': '@many .ensures .ok .planted',
-    'returns-5': CALL('laws.did-then (@s .given .0 .0) _ %s (%s) (ways.act-end (@s .given .0 .0) refl (@store-barrier2 .ensures))' % (GOT2, ARGS_)),
+    'returns-5': CALL('laws.did-then (@end .given .0 .0) _ %s (%s) (ways.act-end (@end .given .0 .0) refl (@store-barrier2 .ensures))' % (GOT2, ARGS_)),
 }
 first_step('forin', HT, KT, 'writeTree true', 'λ ts. writeForest true (butLast ts)', 'write-tree', 'write-but-last', 'loops', lambda q: 'eachButF (walksF (@args .d) .full %s) (visitWithChildF %s %s vLoop)' % (q, V, q), lambda x, m: MT('asParam', m, x), 'visitMutForInStmtF')
 A['forin'].update({'set-pat-mode-requires': '@pre .1 .planted', 'arity-at-requires': 'heres.at-node ' + HT})
@@ -450,6 +465,7 @@ HA0 = '(@pre .1 .0)'
 NOT21 = '(ways.kind-no %s 21 (@kind-at .ensures) (@if1 .left))' % HA0
 IS = '(ways.both-yes (ways.kind-yes %s (@kind-at .ensures) (@if3 .left)) (ways.form-yes %s (@form-at .ensures) (@if4 .left)))' % (HA0, HA0)
 OTHER = '(ways.logic-other %s (%s .planted) (ways.kind-no %s 32 (@kind-at .ensures) (@if2 .left)) (@pre .1 .1))' % (AF, HA0, HA0)
+ASSIGNED = 'ways.after-assign %s %s %s (ways.iff-yes _ _ (ways.in-inlining _ (@if5 .left)) (idents.goes-did (@after-assign .ensures)))' % (AF, NOT21, IS)
 A['after'] = {
     'kind-at-requires': 'heres.at-node ' + HA0,
     'form-at-requires': 'heres.at-node ' + HA0,
@@ -462,7 +478,8 @@ A['after'] = {
     'returns-5': 'ways.after-assign %s %s %s (ways.iff-no _ _ (ways.in-analysis _ (@if5 .taken)) (ways.did-skip (@args .i) (%s .planted) (@pre .1 .1)))' % (AF, NOT21, IS, HA0),
     'cast-after-assign': 'omega (arith, %s .depth)' % HA0,
     'after-assign-requires': '(%s .planted, heres.here-node %s, omega (arith, %s .depth))' % (HA0, HA0, HA0),
-    'returns-6': 'ways.after-assign %s %s %s (ways.iff-yes _ _ (ways.in-inlining _ (@if5 .left)) (idents.goes-did (@after-assign .ensures)))' % (AF, NOT21, IS),
+    'coded-requires': 'codes.low-did (sim-after (sims (@args .d)) (@args .p)) (@after-assign .result) %s (%s)' % (HA0, ASSIGNED),
+    'returns-6': ASSIGNED,
 }
 # an identifier
 TRIPLE = '(%s .planted, heres.here-node %s, @pre .1 .1)' % (H0, H0)
@@ -479,6 +496,7 @@ FATED = '(idents.fated-value %s (@args .i) %s %s (@at2 .given .1) (@fate .ensure
 CDID, VDID = '(idents.goes-did (@inline-constant .ensures))', '(idents.goes-did (@inline-value .ensures))'
 NOCONST = 'idents.no-const-%%s %s (idents.named-unknown %s (@args .i) (@enum-told3 .given .1) (@constant .ensures)) (@if1 .%%s) (%%s)' % (IDENT, W0)
 VALUE = lambda x: NOCONST % ('inlining', 'left', 'idents.found-value %s %s (%s .0) (λ b. %s)' % (IDENT, VE, FATED, x))
+VOIDED = NOCONST % ('inlining', 'left', 'idents.found-void %s (idents.fated-void %s (@args .i) (@enum-told5 .given .1) (@fate .ensures)) (idents.goes-did (@inline-undefined .ensures))' % (IDENT, W0))
 A['ident'] = {
     'constant-requires': TRIPLE,
     'cast-inline-constant': 'omega (arith, %s .depth)' % H0,
@@ -494,7 +512,10 @@ A['ident'] = {
     'returns-5': NOCONST % ('inlining', 'left', 'idents.found-nothing %s (idents.fated-nothing %s (@args .i) (@enum-told4 .given .1) (@fate .ensures)) (ways.did-skip (@args .i) (%s .planted) (@skip2 .ensures .0))' % (IDENT, W0, H0)),
     'cast-inline-undefined': 'omega (arith, %s .depth)' % H0,
     'inline-undefined-requires': 'heres.at-skip ' + H0,
-    'returns-6': NOCONST % ('inlining', 'left', 'idents.found-void %s (idents.fated-void %s (@args .i) (@enum-told5 .given .1) (@fate .ensures)) (idents.goes-did (@inline-undefined .ensures))' % (IDENT, W0)),
+    'coded-requires': 'codes.low-stop (@enum-told2 .given .1)',
+    'coded-requires-2': 'codes.low-did (sim-afterIdent (sims (@args .d)) (@args .p)) (@inline-undefined .result) %s (%s)' % (H0, VOIDED),
+    'coded-requires-3': 'codes.low-stop (@enum-told7 .given .1)',
+    'returns-6': VOIDED,
     'cast-inline-value': 'omega (arith, %s .depth)' % H0,
     'inline-value-requires': '(%s .planted, heres.here-node %s, omega (arith, %s .depth), %s .1)' % (H0, H0, H0, FATED),
     'returns-3': VALUE('ways.value-stop %s b %s (@enum-told7 .given .1) %s' % (IDENT, VE, VDID)),
@@ -508,11 +529,12 @@ ONE = '(heres.here-one (@if1 .left) (heres.here-kids %s %s))' % (H0, AR0)
 A['name'] = {
     'returns': 'ways.split-none (walksF (@args .d) .full (suc (@args .p))) skips (@args .n) %s (@if1 .taken) (%s .planted)' % (I1, H0),
     'full-requires': '(%s, %s)' % (M, ONE),
-    'returns-2': 'declrs.name-stop %s %s %s %s (@if1 .left) (@enum-told2 .given .1) (@full .ensures)' % (V, SIMF, H0, AR0),
-    'skip-requires': 'heres.here-below (@args .i) (omega arith) (heres.here-still (sims (@args .d) .full %s) %s (@enum-told .given .1) refl (@full .ensures))' % (P1, ONE),
-    'returns-3': 'declrs.name-then %s %s %s %s (@if1 .left) (@enum-told .given .1) (@full .ensures) (@skip .ensures .0)' % (V, SIMF, H0, AR0),
+    'returns-2': 'declrs.name-stop %s %s %s %s (@if1 .left) %s (@full .ensures)' % (V, SIMF, H0, AR0, TOLD_),
+    'skip-requires': 'heres.here-below (@args .i) (omega arith) (heres.here-still (sims (@args .d) .full %s) %s %s refl (@full .ensures))' % (P1, ONE, GOT_),
+    'returns-3': 'declrs.name-then %s %s %s %s (@if1 .left) %s (@full .ensures) (@skip .ensures .0)' % (V, SIMF, H0, AR0, GOT_),
 }
 # a declarator's initialiser
+IGOT, ITOLD = GOT_.replace('next', 'next2'), TOLD_.replace('next', 'next2')
 BD = '(@pre .1 .2)'
 HK = '(heres.here-kids %s %s)' % (H0, AR0)
 NZ = '(λ z. omega (arith, z, %s .some))' % BD
@@ -522,10 +544,10 @@ HJ = '(heres.here-one (λ z. omega (arith, z, @if3 .left, %s .some)) %s)' % (BD,
 SIMN = '(sim-name (sims (@args .d)) (@args .p))'
 D0 = '%s (@args .p) %s %s %s %s (@skip .ensures .0)' % (V, SIMF, H0, AR0, BD)
 D1 = '%s (rest %s .varDeclKind) (declrs.kind-other %s (omega (arith, @if1 .left))) (@ident-at .result) (@ident-at .ensures) (@stays .ensures)' % (D0, W0, W0)
-WALKED = '(declrs.walked %s (@if3 .left) (@enum-told .given .1) (@full .ensures) (@skip3 .ensures .0))' % D0
+WALKED = '(declrs.walked %s (@if3 .left) %s (@full .ensures) (@skip3 .ensures .0))' % (D0, IGOT)
 A['init'] = {
     'name-requires': '(%s, (%s, %s))' % (M, H0, AR0),
-    'returns': 'declrs.end-const %s (@args .p) %s %s %s (treeAt (abs %s) %s) (rest %s .varDeclKind) (declrs.kind-const %s (@if1 .taken)) (@name .ensures)' % (V, SIMN, H0, AR0, W0, I1, W0, W0),
+    'returns': 'ways.did-as (sym (@next .ensures .0)) (declrs.end-const %s (@args .p) %s %s %s (treeAt (abs %s) %s) (rest %s .varDeclKind) (declrs.kind-const %s (@if1 .taken)) (@name .ensures))' % (V, SIMN, H0, AR0, W0, I1, W0, W0),
     'ident-at-requires': 'declrs.at-name %s %s' % (HK, BD),
     'skip-requires': 'declrs.at-bound %s %s' % (HK, BD),
     'sub-stays': 'omega (arith, %s .some)' % BD,
@@ -535,15 +557,15 @@ A['init'] = {
     'declr-end-requires': '(%s .planted, declrs.spot-none %s (@if3 .taken))' % (H0, D0),
     'returns-3': 'declrs.init-none %s (@if2 .left) (@if3 .taken) (declrs.after-kind %s (@args .i) (@ident-at .result) 0 (@skip .result) (@skip .result) (@declr-end .ensures))' % (D1, W0),
     'full-requires': '(%s, %s)' % (M, HJ),
-    'returns-4': 'declrs.init-stop %s (@if2 .left) (@if3 .left) (@enum-told2 .given .1) (@full .ensures)' % D1,
-    'skip-requires-3': 'heres.here-below (@args .i) (omega (arith, @skip .ensures .1)) (heres.here-still (sims (@args .d) .full %s) %s (@enum-told .given .1) refl (@full .ensures))' % (P1, HJ),
+    'returns-4': 'ways.did-as (sym (@next2 .ensures .0)) (declrs.init-stop %s (@if2 .left) (@if3 .left) %s (@full .ensures))' % (D1, ITOLD),
+    'skip-requires-3': 'heres.here-below (@args .i) (omega (arith, @skip .ensures .1)) (heres.here-still (sims (@args .d) .full %s) %s %s refl (@full .ensures))' % (P1, HJ, IGOT),
     'sub-declr-end': 'omega (arith, %s .some)' % BD,
     'declr-end-requires-2': '(@full .ensures .ok .planted, declrs.spot %s %s (λ z. @skip3 .ensures .0))' % (D0, WALKED),
     'returns-5': 'declrs.init-then %s (@if2 .left) %s (declrs.after-kind %s (@args .i) (@ident-at .result) (@args .n - 1) (@skip .result) (@skip3 .result) (@declr-end2 .ensures))' % (D1, WALKED, W0),
 }
 # a declarator
 SIMT = '(sim-split sim-skip (sim-each (sims (@args .d) .full %s)))' % P1
-GOT1 = '(@enum-told .given .1)'
+GOT1 = GOT_
 HS = '(heres.here-turn (@set-pat-mode .ensures) (heres.here-again %s %s %s (@tail .ensures)))' % (SIMT, KIDS, GOT1)
 AGAIN = '(declrs.kids-again %s %s %s %s (@tail .ensures) (@set-pat-mode .ensures))' % (SIMT, H, AR, GOT1)
 WS = '(@set-pat-mode .last .0)'
@@ -552,16 +574,18 @@ HEAD = '(declrs.headed-no %s (@if1 .left))' % LOOKED
 EA = '%s (@args .p) %s (%s .0) (%s .1)' % (V, SIMN, AGAIN, AGAIN)
 THEN = lambda x: 'declrs.declr-then %s %s %s (@tail .ensures) %s (@set-pat-mode .ensures) (%s)' % (V, H, AR, GOT1, x)
 OV = '%s (treeAt (abs %s) %s) (rest %s .varDeclKind) (%s .0) (ways.in-analysis %s (@if2 .left)) (@ident-at .result) (declrs.name-num %s (%s .1) (@ident-at .ensures)) (@over .result) (@over .ensures)' % (EA, WS, I1, WS, HEAD, WS, HS, HEAD)
+INITED = THEN('declrs.end-inlining %s (treeAt (abs %s) %s) (rest %s .varDeclKind) (%s .0) (ways.in-inlining %s (@if2 .taken)) (@init .ensures)' % (EA, WS, I1, WS, HEAD, WS))
 A['declr'] = {
     'arity-at-requires': 'heres.at-node ' + H,
     'tail-requires': '(%s, %s)' % (M, KIDS),
-    'returns': 'declrs.declr-stop %s %s %s (@tail .ensures) (@enum-told2 .given .1)' % (V, H, AR),
+    'returns': 'declrs.declr-stop %s %s %s (@tail .ensures) %s' % (V, H, AR, TOLD_),
     'set-pat-mode-requires': '@tail .ensures .ok .planted',
     'nameless-requires': 'heres.here-flat ' + HS,
     'name-requires': '(%s, %s)' % (M, AGAIN),
     'returns-2': THEN('declrs.end-none %s (rest %s .inlining) (rest %s .varDeclKind) (declrs.headed-yes %s (@if1 .taken)) (@name .ensures)' % (EA, WS, WS, LOOKED)),
     'init-requires': '(%s, (%s .0, %s .1, %s .1))' % (M, AGAIN, AGAIN, HEAD),
-    'returns-3': THEN('declrs.end-inlining %s (treeAt (abs %s) %s) (rest %s .varDeclKind) (%s .0) (ways.in-inlining %s (@if2 .taken)) (@init .ensures)' % (EA, WS, I1, WS, HEAD, WS)),
+    'coded-requires': 'codes.low-did (sim-declr (sims (@args .d)) (@args .p)) (@init .result) %s (%s)' % (H, INITED),
+    'returns-3': INITED,
     'ident-at-requires': 'declrs.at-name %s (%s .1)' % (HS, HEAD),
     'over-requires': 'heres.at-trees ' + HS,
     'returns-5': THEN('declrs.over-stop %s (@m .given .0 .0) (@m .given .1)' % OV),
@@ -616,6 +640,36 @@ def answers(m, need):
     a = re.sub(r'heres\.(here|arity)-act _ (\(@if\d \.left\)) \(@([\w-]+) \.ensures\)', named, a)
     return (unf, a) if unf else a
 
+# a place that is answered has a number: one that was answered before, one behind node i, the end of a tree that was passed, the loop's, and
+# where a walk of nothing begins
+def past(skip, requires): return lambda m: 'codes.did-at (codes.low-end ((%s) .0) (@%s .ensures .2)) (%%s)' % (A[m][requires], skip)
+BEFORE, BEFORE2 = ('codes.did-got (@%s .ensures .1) (@%s .given .1) (%%s)' % x for x in (('next', 'j'), ('next2', 'end')))
+FIRST = lambda m: H if m not in PAIRS else H0
+BEHIND1 = lambda m: 'codes.did-at (codes.low-next %s) (%%s)' % FIRST(m)
+ENDS = {}
+for m, n in dict(many=2, arms=2, parts=2, binds=2, conds=3).items(): ENDS[m, n] = 'codes.did-at (@loop .inv .3) (%s)'
+for m, n in dict(block=3, arm=4, arrow=3, case=3, func=3, assign=4, full=5).items(): ENDS[m, n] = BEFORE
+for n in (3, 4): ENDS['fors', n] = BEFORE
+for m, n in dict(catch=5, call=5).items(): ENDS[m, n] = BEFORE2
+for m, n in dict(name=1, fdecl=2, fexpr=3, ifs=1, forin=1, tries=1, catch=2, items=2, call=1, logic=3, full=3).items(): ENDS[m, n] = BEHIND1
+for m, n in dict(loops=1, params=1, tail=1).items(): ENDS[m, n] = 'codes.did-at (codes.low-here %s) (%%s)' % H
+for n in (3, 4, 5): ENDS['after', n] = 'codes.did-at (codes.low-tree %s (@pre .1 .1)) (%%s)' % HA0
+ENDS['name', 3] = past('skip', 'skip-requires')
+ENDS['declr', 4] = past('skip', 'skip-requires')
+ENDS['logic', 1] = past('skip', 'skip-requires')
+ENDS['logic', 2] = past('skip2', 'skip-requires-2')
+ENDS['ident', 2] = past('skip', 'skip-requires')
+ENDS['ident', 5] = past('skip2', 'skip-requires-2')
+
+def ended(m, need, a, last):
+    """the answer to a `returns`, as of the number that is returned; last: what stands last before it"""
+    unf = None
+    if isinstance(a, tuple): unf, a = a
+    end = ENDS.get((m, int(need[8:] or 1)))
+    if re.fullmatch(r'(refused|coded)\d*', last): a = 'ways.did-as (sym (@%s .ensures)) (%s)' % (last, a)
+    elif end and m != 'init': a = (end if isinstance(end, str) else end(m)) % a
+    return (unf, a) if unf else a
+
 # members that are given more than where they are
 PAIRS = ('func', 'ident', 'name', 'init', 'after')
 def answers0(m, need):
@@ -623,6 +677,7 @@ def answers0(m, need):
     if a is not None: return a
     first = H if m not in PAIRS else H0
     if need.startswith('slice-read'): return 'omega (arith, %s .planted .good .long)' % first
+    if re.match('(next|refused)-requires', need): return 'tt'
     if need.startswith('enum-') or need.startswith('cast-'): return 'search needs'
     if need.startswith('add-') and m != 'func': return 'omega (arith, %s .depth, heres.at-node %s .1)' % (first, first)
     if need.startswith('sub-') : return 'omega (arith, %s .left)' % {'fdecl': '@if2', 'fexpr': '@if3', 'items': '@if2', 'logic': '@if3'}.get(m, '@if1')

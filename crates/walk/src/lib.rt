@@ -1,4 +1,5 @@
 // mod.rs: its walks over the tree's nodes in the working words. They call each other in a cycle; the depth that is left falls at every call.
+pub mod answer;
 pub mod steps;
 
 ghost use Prim.Native.Nat.{_+_, _≤_};
@@ -13,7 +14,10 @@ ghost use Rattle.scopes.specs.State.{scopeKindOf};
 ghost use Rattle.definition.specs.Scope.{loop};
 ghost use Rattle.flat.specs.WalkF.{walksF, visitMutStmtsF, plainF, visitMutBlockStmtF, scriptF, visitWithChildF, visitMutVarDeclF, visitMutFunctionF, visitMutFnDeclF, visitMutFnExprF, visitMutArrowExprF, visitMutIfStmtF, visitMutWhileStmtF, visitMutForStmtF, visitMutForInStmtF, visitMutTryStmtF, catchParamF, visitMutCatchClauseF, visitMutSwitchCaseF, visitMutPatF, visitMutUnaryExprF, visitMutUpdateExprF, visitMutCallExprF, visitMutAssignExprF, ownF, logicalF, afterF, inCondF, nameLastF, visitMutVarDeclaratorF, afterIdentF};
 ghost use Rattle.state.specs.State.{abs, rest};
-ghost use Rattle.walk_laws.specs.Did.{Did, Here, clausesF, itemsF, declrEndF, Bound};
+ghost use Rattle.walk_laws.specs.Did.{Did, Here, nextOf, clausesF, itemsF, declrEndF, Bound};
+use answer::coded;
+use answer::next;
+use answer::refused;
 use declare_steps::Told;
 use declare_steps::over;
 use declare_steps::stays;
@@ -37,9 +41,11 @@ use state::set_in_test;
 use state::set_inlining;
 use state::set_pat_mode;
 use state::set_var_decl_kind;
+use steps::bare;
 use steps::decl_kind;
 use steps::declr_end;
 use steps::nameless;
+use steps::settled;
 use words::arity_at;
 use words::form_at;
 use words::kind_at;
@@ -58,50 +64,59 @@ use write_steps::write_kids_but_last;
 use write_steps::write_name;
 use write_steps::write_tree;
 
-// A node as its parent's default walk calls it: its own handler, then the steps of visit_mut_expr.
-fn full(w: &mut [u32], p: usize, l: usize, i: usize) -> Next
+// A node as its parent's default walk calls it: its own handler, then the steps of visit_mut_expr; what has neither is passed at once.
+fn full(w: &mut [u32], p: usize, l: usize, i: usize) -> usize
     requires { ⌜ Here (now w) 1 i p l ⌝ }
-    ensures { λ r. ⌜ Did (now (w .entry)) (now (w .exit)) r (walksF l .full p i (abs (now (w .entry)))) ⌝ }
+    ensures { λ r. ⌜ Did (now (w .entry)) (now (w .exit)) (nextOf r) (walksF l .full p i (abs (now (w .entry)))) ⌝ }
 {
     if l == 0 {
-        return Next::Refused(8);
+        return refused(8);
+    }
+    if bare(w, i) {
+        if kind_at(w, i) == 21 {
+            return ident(w, p, l - 1, i);
+        }
+        return i + 1;
     }
     let r = own(w, p, l - 1, i);
-    let Next::At(j) = r else {
+    let Next::At(j) = next(r) else {
         return r;
     };
+    if settled(w, i) {
+        return j;
+    }
     after(w, p, l - 1, i, j)
 }
 
 // visit_mut_children_with of a list: n trees from i on.
-fn many(w: &mut [u32], p: usize, d: usize, n: usize, i: usize) -> Next
+fn many(w: &mut [u32], p: usize, d: usize, n: usize, i: usize) -> usize
     requires { ⌜ Here (now w) n i p d ⌝ }
-    ensures { λ r. ⌜ Did (now (w .entry)) (now (w .exit)) r (many (walksF d .full p) n i (abs (now (w .entry)))) ⌝ }
+    ensures { λ r. ⌜ Did (now (w .entry)) (now (w .exit)) (nextOf r) (many (walksF d .full p) n i (abs (now (w .entry)))) ⌝ }
 {
     let mut at = i;
     let mut k: usize = 0;
     while k < n {
         let r = full(w, p, d, at);
-        let Next::At(j) = r else {
+        let Next::At(j) = next(r) else {
             return r;
         };
         at = j;
         k += 1;
     }
-    Next::At(at)
+    at
 }
 
 // visit_mut_stmts: plainly in Analysis; in Inlining both ways.
-fn stmts(w: &mut [u32], p: usize, d: usize, n: usize, i: usize) -> Next
+fn stmts(w: &mut [u32], p: usize, d: usize, n: usize, i: usize) -> usize
     requires { ⌜ Here (now w) n i p d ⌝ }
-    ensures { λ r. ⌜ Did (now (w .entry)) (now (w .exit)) r (visitMutStmtsF (walksF d) p n i (abs (now (w .entry)))) ⌝ }
+    ensures { λ r. ⌜ Did (now (w .entry)) (now (w .exit)) (nextOf r) (visitMutStmtsF (walksF d) p n i (abs (now (w .entry)))) ⌝ }
 {
     if w[6] == 0 {
         return many(w, p, d, n, i);
     }
     set_inlining(w, 0);
     let r = many(w, p, d, n, i);
-    let Next::At(_) = r else {
+    let Next::At(_) = next(r) else {
         return r;
     };
     set_inlining(w, 1);
@@ -109,27 +124,27 @@ fn stmts(w: &mut [u32], p: usize, d: usize, n: usize, i: usize) -> Next
 }
 
 // The statements of a script, or of a function's body.
-fn body(w: &mut [u32], p: usize, d: usize, i: usize) -> Next
+fn body(w: &mut [u32], p: usize, d: usize, i: usize) -> usize
     requires { ⌜ Here (now w) 1 i p (d + 1) ⌝ }
-    ensures { λ r. ⌜ Did (now (w .entry)) (now (w .exit)) r (scriptF (walksF d) p i (abs (now (w .entry)))) ⌝ }
+    ensures { λ r. ⌜ Did (now (w .entry)) (now (w .exit)) (nextOf r) (scriptF (walksF d) p i (abs (now (w .entry)))) ⌝ }
 {
     let n = arity_at(w, i) as usize;
     stmts(w, p + 1, d, n, i + 1)
 }
 
 // visit_mut_children_with.
-fn kids(w: &mut [u32], p: usize, d: usize, i: usize) -> Next
+fn kids(w: &mut [u32], p: usize, d: usize, i: usize) -> usize
     requires { ⌜ Here (now w) 1 i p (d + 1) ⌝ }
-    ensures { λ r. ⌜ Did (now (w .entry)) (now (w .exit)) r (plainF (walksF d) p i (abs (now (w .entry)))) ⌝ }
+    ensures { λ r. ⌜ Did (now (w .entry)) (now (w .exit)) (nextOf r) (plainF (walksF d) p i (abs (now (w .entry)))) ⌝ }
 {
     let n = arity_at(w, i) as usize;
     many(w, p + 1, d, n, i + 1)
 }
 
 // visit_mut_block_stmt.
-fn block(w: &mut [u32], p: usize, d: usize, i: usize) -> Next
+fn block(w: &mut [u32], p: usize, d: usize, i: usize) -> usize
     requires { ⌜ Here (now w) 1 i p (d + 1) ⌝ }
-    ensures { λ r. ⌜ Did (now (w .entry)) (now (w .exit)) r (visitMutBlockStmtF (walksF d) p i (abs (now (w .entry)))) ⌝ }
+    ensures { λ r. ⌜ Did (now (w .entry)) (now (w .exit)) (nextOf r) (visitMutBlockStmtF (walksF d) p i (abs (now (w .entry)))) ⌝ }
 {
     let inl = w[6];
     let decl = w[8];
@@ -137,20 +152,20 @@ fn block(w: &mut [u32], p: usize, d: usize, i: usize) -> Next
     let test = w[10];
     let e = enter(w, 2);
     if e != 0 {
-        return Next::Refused(e);
+        return refused(e);
     }
     let r = body(w, p, d, i);
-    let Next::At(j) = r else {
+    let Next::At(j) = next(r) else {
         return r;
     };
     leave(w, inl, decl, mode, test);
-    Next::At(j)
+    j
 }
 
 // visit_with_child.
-fn arm(w: &mut [u32], p: usize, d: usize, kind: u32, i: usize) -> Next
+fn arm(w: &mut [u32], p: usize, d: usize, kind: u32, i: usize) -> usize
     requires { ⌜ Here (now w) 1 i p d ⌝ }
-    ensures { λ r. ⌜ Did (now (w .entry)) (now (w .exit)) r (visitWithChildF (walksF d) p (scopeKindOf kind) i (abs (now (w .entry)))) ⌝ }
+    ensures { λ r. ⌜ Did (now (w .entry)) (now (w .exit)) (nextOf r) (visitWithChildF (walksF d) p (scopeKindOf kind) i (abs (now (w .entry)))) ⌝ }
 {
     let inl = w[6];
     let decl = w[8];
@@ -158,41 +173,41 @@ fn arm(w: &mut [u32], p: usize, d: usize, kind: u32, i: usize) -> Next
     let test = w[10];
     let e = enter(w, kind);
     if e != 0 {
-        return Next::Refused(e);
+        return refused(e);
     }
     if d == 0 {
-        return Next::Refused(8);
+        return refused(8);
     }
     let r = own(w, p, d - 1, i);
-    let Next::At(j) = r else {
+    let Next::At(j) = next(r) else {
         return r;
     };
     leave(w, inl, decl, mode, test);
-    Next::At(j)
+    j
 }
 
 // visit_with_child of each of a list.
-fn arms(w: &mut [u32], p: usize, d: usize, kind: u32, n: usize, i: usize) -> Next
+fn arms(w: &mut [u32], p: usize, d: usize, kind: u32, n: usize, i: usize) -> usize
     requires { ⌜ Here (now w) n i p d ⌝ }
-    ensures { λ r. ⌜ Did (now (w .entry)) (now (w .exit)) r (many (visitWithChildF (walksF d) p (scopeKindOf kind)) n i (abs (now (w .entry)))) ⌝ }
+    ensures { λ r. ⌜ Did (now (w .entry)) (now (w .exit)) (nextOf r) (many (visitWithChildF (walksF d) p (scopeKindOf kind)) n i (abs (now (w .entry)))) ⌝ }
 {
     let mut at = i;
     let mut k: usize = 0;
     while k < n {
         let r = arm(w, p, d, kind, at);
-        let Next::At(j) = r else {
+        let Next::At(j) = next(r) else {
             return r;
         };
         at = j;
         k += 1;
     }
-    Next::At(at)
+    at
 }
 
 // visit_mut_var_decl.
-fn decl(w: &mut [u32], p: usize, d: usize, i: usize) -> Next
+fn decl(w: &mut [u32], p: usize, d: usize, i: usize) -> usize
     requires { ⌜ Here (now w) 1 i p (d + 1) ⌝ }
-    ensures { λ r. ⌜ Did (now (w .entry)) (now (w .exit)) r (visitMutVarDeclF (walksF d) p i (abs (now (w .entry)))) ⌝ }
+    ensures { λ r. ⌜ Did (now (w .entry)) (now (w .exit)) (nextOf r) (visitMutVarDeclF (walksF d) p i (abs (now (w .entry)))) ⌝ }
 {
     let f = form_at(w, i);
     let k = decl_kind(f);
@@ -201,18 +216,18 @@ fn decl(w: &mut [u32], p: usize, d: usize, i: usize) -> Next
 }
 
 // A declarator's name is walked last; what stands behind it is left.
-fn name(w: &mut [u32], p: usize, d: usize, n: usize, i: usize) -> Next
+fn name(w: &mut [u32], p: usize, d: usize, n: usize, i: usize) -> usize
     requires { ⌜ (Here (now w) 1 i p (d + 1)) × (n ≡ nodeOf (now w) i .arity) ⌝ }
-    ensures { λ r. ⌜ Did (now (w .entry)) (now (w .exit)) r (nameLastF (walksF d) p n (i + 1) (abs (now (w .entry)))) ⌝ }
+    ensures { λ r. ⌜ Did (now (w .entry)) (now (w .exit)) (nextOf r) (nameLastF (walksF d) p n (i + 1) (abs (now (w .entry)))) ⌝ }
 {
     if n == 0 {
-        return Next::At(i + 1);
+        return i + 1;
     }
     let r = full(w, p + 1, d, i + 1);
-    let Next::At(_) = r else {
+    let Next::At(_) = next(r) else {
         return r;
     };
-    Next::At(skip(w, i))
+    skip(w, i)
 }
 
 // A declarator in Inlining: its initialiser is walked again, and recorded or not.
@@ -222,7 +237,7 @@ fn init(w: &mut [u32], p: usize, d: usize, n: usize, i: usize) -> Next
 {
     let kind = w[8];
     if 3 <= kind {
-        return name(w, p, d, n, i);
+        return next(name(w, p, d, n, i));
     }
     let x = ident_at(w, i + 1);
     let j = skip(w, i + 1);
@@ -232,7 +247,7 @@ fn init(w: &mut [u32], p: usize, d: usize, n: usize, i: usize) -> Next
     if n == 1 {
         return declr_end(w, x, kind, i, 0, j, j);
     }
-    let r = full(w, p + 1, d, j);
+    let r = next(full(w, p + 1, d, j));
     let Next::At(_) = r else {
         return r;
     };
@@ -241,13 +256,13 @@ fn init(w: &mut [u32], p: usize, d: usize, n: usize, i: usize) -> Next
 }
 
 // visit_mut_var_declarator.
-fn declr(w: &mut [u32], p: usize, d: usize, i: usize) -> Next
+fn declr(w: &mut [u32], p: usize, d: usize, i: usize) -> usize
     requires { ⌜ Here (now w) 1 i p (d + 1) ⌝ }
-    ensures { λ r. ⌜ Did (now (w .entry)) (now (w .exit)) r (visitMutVarDeclaratorF (walksF d) p i (abs (now (w .entry)))) ⌝ }
+    ensures { λ r. ⌜ Did (now (w .entry)) (now (w .exit)) (nextOf r) (visitMutVarDeclaratorF (walksF d) p i (abs (now (w .entry)))) ⌝ }
 {
     let n = arity_at(w, i) as usize;
     let r = tail(w, p + 1, d, n, i + 1);
-    let Next::At(_) = r else {
+    let Next::At(_) = next(r) else {
         return r;
     };
     set_pat_mode(w, 3);
@@ -255,14 +270,14 @@ fn declr(w: &mut [u32], p: usize, d: usize, i: usize) -> Next
         return name(w, p, d, n, i);
     }
     if w[6] != 0 {
-        return init(w, p, d, n, i);
+        return coded(init(w, p, d, n, i));
     }
     let x = ident_at(w, i + 1);
     match over(w, x, n, i + 1) {
-        Told::Stopped(m) => Next::Refused(m),
+        Told::Stopped(m) => refused(m),
         Told::Answer(gone) => {
             if gone {
-                return Next::At(skip(w, i));
+                return skip(w, i);
             }
             name(w, p, d, n, i)
         }
@@ -270,27 +285,27 @@ fn declr(w: &mut [u32], p: usize, d: usize, i: usize) -> Next
 }
 
 // visit_mut_function: its parameters and its body.
-fn params(w: &mut [u32], p: usize, d: usize, n: usize, i: usize) -> Next
+fn params(w: &mut [u32], p: usize, d: usize, n: usize, i: usize) -> usize
     requires { ⌜ Here (now w) n i p d ⌝ }
-    ensures { λ r. ⌜ Did (now (w .entry)) (now (w .exit)) r (eachButF (walksF d .full p) (walksF d .inner p) n i (abs (now (w .entry)))) ⌝ }
+    ensures { λ r. ⌜ Did (now (w .entry)) (now (w .exit)) (nextOf r) (eachButF (walksF d .full p) (walksF d .inner p) n i (abs (now (w .entry)))) ⌝ }
 {
     if n == 0 {
-        return Next::At(i);
+        return i;
     }
     let r = many(w, p, d, n - 1, i);
-    let Next::At(j) = r else {
+    let Next::At(j) = next(r) else {
         return r;
     };
     if d == 0 {
-        return Next::Refused(8);
+        return refused(8);
     }
     body(w, p, d - 1, j)
 }
 
 // visit_mut_function.
-fn func(w: &mut [u32], p: usize, d: usize, named: u32, n: usize, i: usize) -> Next
+fn func(w: &mut [u32], p: usize, d: usize, named: u32, n: usize, i: usize) -> usize
     requires { ⌜ (Here (now w) n i (p + 1) d) × (named ≤ 1) ⌝ }
-    ensures { λ r. ⌜ Did (now (w .entry)) (now (w .exit)) r (visitMutFunctionF (walksF d) p (yes named) n i (abs (now (w .entry)))) ⌝ }
+    ensures { λ r. ⌜ Did (now (w .entry)) (now (w .exit)) (nextOf r) (visitMutFunctionF (walksF d) p (yes named) n i (abs (now (w .entry)))) ⌝ }
 {
     let inl = w[6];
     let decl = w[8];
@@ -298,38 +313,38 @@ fn func(w: &mut [u32], p: usize, d: usize, named: u32, n: usize, i: usize) -> Ne
     let test = w[10];
     let e = enter(w, 3 + named);
     if e != 0 {
-        return Next::Refused(e);
+        return refused(e);
     }
     set_pat_mode(w, 1);
     let r = params(w, p + 1, d, n, i);
-    let Next::At(j) = r else {
+    let Next::At(j) = next(r) else {
         return r;
     };
     leave(w, inl, decl, mode, test);
-    Next::At(j)
+    j
 }
 
 // visit_mut_fn_decl.
-fn fdecl(w: &mut [u32], p: usize, d: usize, i: usize) -> Next
+fn fdecl(w: &mut [u32], p: usize, d: usize, i: usize) -> usize
     requires { ⌜ Here (now w) 1 i p (d + 1) ⌝ }
-    ensures { λ r. ⌜ Did (now (w .entry)) (now (w .exit)) r (visitMutFnDeclF (walksF d) p i (abs (now (w .entry)))) ⌝ }
+    ensures { λ r. ⌜ Did (now (w .entry)) (now (w .exit)) (nextOf r) (visitMutFnDeclF (walksF d) p i (abs (now (w .entry)))) ⌝ }
 {
     let e = declare_name(w, i);
     if e != 0 {
-        return Next::Refused(e);
+        return refused(e);
     }
     let n = arity_at(w, i) as usize;
     if n == 0 {
-        return Next::At(i + 1);
+        return i + 1;
     }
     let j = skip(w, i + 1);
     func(w, p, d, 1, n - 1, j)
 }
 
 // visit_mut_fn_expr.
-fn fexpr(w: &mut [u32], p: usize, d: usize, i: usize) -> Next
+fn fexpr(w: &mut [u32], p: usize, d: usize, i: usize) -> usize
     requires { ⌜ Here (now w) 1 i p (d + 1) ⌝ }
-    ensures { λ r. ⌜ Did (now (w .entry)) (now (w .exit)) r (visitMutFnExprF (walksF d) p i (abs (now (w .entry)))) ⌝ }
+    ensures { λ r. ⌜ Did (now (w .entry)) (now (w .exit)) (nextOf r) (visitMutFnExprF (walksF d) p i (abs (now (w .entry)))) ⌝ }
 {
     let n = arity_at(w, i) as usize;
     let f = form_at(w, i);
@@ -338,19 +353,19 @@ fn fexpr(w: &mut [u32], p: usize, d: usize, i: usize) -> Next
     }
     let e = write_name(w, i);
     if e != 0 {
-        return Next::Refused(e);
+        return refused(e);
     }
     if n == 0 {
-        return Next::At(i + 1);
+        return i + 1;
     }
     let j = skip(w, i + 1);
     func(w, p, d, 0, n - 1, j)
 }
 
 // visit_mut_arrow_expr.
-fn arrow(w: &mut [u32], p: usize, d: usize, i: usize) -> Next
+fn arrow(w: &mut [u32], p: usize, d: usize, i: usize) -> usize
     requires { ⌜ Here (now w) 1 i p (d + 1) ⌝ }
-    ensures { λ r. ⌜ Did (now (w .entry)) (now (w .exit)) r (visitMutArrowExprF (walksF d) p i (abs (now (w .entry)))) ⌝ }
+    ensures { λ r. ⌜ Did (now (w .entry)) (now (w .exit)) (nextOf r) (visitMutArrowExprF (walksF d) p i (abs (now (w .entry)))) ⌝ }
 {
     let inl = w[6];
     let decl = w[8];
@@ -358,29 +373,29 @@ fn arrow(w: &mut [u32], p: usize, d: usize, i: usize) -> Next
     let test = w[10];
     let e = enter(w, 3);
     if e != 0 {
-        return Next::Refused(e);
+        return refused(e);
     }
     let r = kids(w, p, d, i);
-    let Next::At(j) = r else {
+    let Next::At(j) = next(r) else {
         return r;
     };
     leave(w, inl, decl, mode, test);
-    Next::At(j)
+    j
 }
 
 // visit_mut_if_stmt.
-fn ifs(w: &mut [u32], p: usize, d: usize, i: usize) -> Next
+fn ifs(w: &mut [u32], p: usize, d: usize, i: usize) -> usize
     requires { ⌜ Here (now w) 1 i p (d + 1) ⌝ }
-    ensures { λ r. ⌜ Did (now (w .entry)) (now (w .exit)) r (visitMutIfStmtF (walksF d) p i (abs (now (w .entry)))) ⌝ }
+    ensures { λ r. ⌜ Did (now (w .entry)) (now (w .exit)) (nextOf r) (visitMutIfStmtF (walksF d) p i (abs (now (w .entry)))) ⌝ }
 {
     let n = arity_at(w, i) as usize;
     if n == 0 {
-        return Next::At(i + 1);
+        return i + 1;
     }
     let old = w[10];
     set_in_test(w, 1);
     let r = full(w, p + 1, d, i + 1);
-    let Next::At(j) = r else {
+    let Next::At(j) = next(r) else {
         return r;
     };
     set_in_test(w, old);
@@ -388,83 +403,83 @@ fn ifs(w: &mut [u32], p: usize, d: usize, i: usize) -> Next
 }
 
 // What stands before a loop's body, and the body as a child.
-fn loops(w: &mut [u32], p: usize, d: usize, n: usize, i: usize) -> Next
+fn loops(w: &mut [u32], p: usize, d: usize, n: usize, i: usize) -> usize
     requires { ⌜ Here (now w) n i p d ⌝ }
-    ensures { λ r. ⌜ Did (now (w .entry)) (now (w .exit)) r (eachButF (walksF d .full p) (visitWithChildF (walksF d) p loop) n i (abs (now (w .entry)))) ⌝ }
+    ensures { λ r. ⌜ Did (now (w .entry)) (now (w .exit)) (nextOf r) (eachButF (walksF d .full p) (visitWithChildF (walksF d) p loop) n i (abs (now (w .entry)))) ⌝ }
 {
     if n == 0 {
-        return Next::At(i);
+        return i;
     }
     let r = many(w, p, d, n - 1, i);
-    let Next::At(j) = r else {
+    let Next::At(j) = next(r) else {
         return r;
     };
     arm(w, p, d, 1, j)
 }
 
 // visit_mut_while_stmt and visit_mut_do_while_stmt.
-fn whiles(w: &mut [u32], p: usize, d: usize, i: usize) -> Next
+fn whiles(w: &mut [u32], p: usize, d: usize, i: usize) -> usize
     requires { ⌜ Here (now w) 1 i p (d + 1) ⌝ }
-    ensures { λ r. ⌜ Did (now (w .entry)) (now (w .exit)) r (visitMutWhileStmtF (walksF d) p i (abs (now (w .entry)))) ⌝ }
+    ensures { λ r. ⌜ Did (now (w .entry)) (now (w .exit)) (nextOf r) (visitMutWhileStmtF (walksF d) p i (abs (now (w .entry)))) ⌝ }
 {
     let e = write_kids_but_last(w, i);
     if e != 0 {
-        return Next::Refused(e);
+        return refused(e);
     }
     let n = arity_at(w, i) as usize;
     loops(w, p + 1, d, n, i + 1)
 }
 
 // visit_mut_for_stmt.
-fn fors(w: &mut [u32], p: usize, d: usize, i: usize) -> Next
+fn fors(w: &mut [u32], p: usize, d: usize, i: usize) -> usize
     requires { ⌜ Here (now w) 1 i p (d + 1) ⌝ }
-    ensures { λ r. ⌜ Did (now (w .entry)) (now (w .exit)) r (visitMutForStmtF (walksF d) p i (abs (now (w .entry)))) ⌝ }
+    ensures { λ r. ⌜ Did (now (w .entry)) (now (w .exit)) (nextOf r) (visitMutForStmtF (walksF d) p i (abs (now (w .entry)))) ⌝ }
 {
     let e = write_kids_but_last(w, i);
     if e != 0 {
-        return Next::Refused(e);
+        return refused(e);
     }
     let f = form_at(w, i);
     let n = arity_at(w, i) as usize;
     let r = loops(w, p + 1, d, n, i + 1);
-    let Next::At(j) = r else {
+    let Next::At(j) = next(r) else {
         return r;
     };
     if f == 0 {
         store_barrier(w);
     }
-    Next::At(j)
+    j
 }
 
 // visit_mut_for_in_stmt and visit_mut_for_of_stmt.
-fn forin(w: &mut [u32], p: usize, d: usize, i: usize) -> Next
+fn forin(w: &mut [u32], p: usize, d: usize, i: usize) -> usize
     requires { ⌜ Here (now w) 1 i p (d + 1) ⌝ }
-    ensures { λ r. ⌜ Did (now (w .entry)) (now (w .exit)) r (visitMutForInStmtF (walksF d) p i (abs (now (w .entry)))) ⌝ }
+    ensures { λ r. ⌜ Did (now (w .entry)) (now (w .exit)) (nextOf r) (visitMutForInStmtF (walksF d) p i (abs (now (w .entry)))) ⌝ }
 {
     set_pat_mode(w, 1);
     let n = arity_at(w, i) as usize;
     if n == 0 {
-        return Next::At(i + 1);
+        return i + 1;
     }
     let r = full(w, p + 1, d, i + 1);
-    let Next::At(j) = r else {
+    let Next::At(j) = next(r) else {
         return r;
     };
     let e = write_tree(w, i + 1, true);
     if e != 0 {
-        return Next::Refused(e);
+        return refused(e);
     }
     let g = write_but_last(w, n - 1, j, true);
     if g != 0 {
-        return Next::Refused(g);
+        return refused(g);
     }
     loops(w, p + 1, d, n - 1, j)
 }
 
 // The parts of a try statement behind its block.
-fn parts(w: &mut [u32], p: usize, d: usize, n: usize, i: usize) -> Next
+fn parts(w: &mut [u32], p: usize, d: usize, n: usize, i: usize) -> usize
     requires { ⌜ Here (now w) n i p d ⌝ }
-    ensures { λ r. ⌜ Did (now (w .entry)) (now (w .exit)) r (clausesF (walksF d) p n i (abs (now (w .entry)))) ⌝ }
+    ensures { λ r. ⌜ Did (now (w .entry)) (now (w .exit)) (nextOf r) (clausesF (walksF d) p n i (abs (now (w .entry)))) ⌝ }
 {
     let mut at = i;
     let mut k: usize = 0;
@@ -476,36 +491,36 @@ fn parts(w: &mut [u32], p: usize, d: usize, n: usize, i: usize) -> Next
             continue;
         }
         let r = full(w, p, d, at);
-        let Next::At(j) = r else {
+        let Next::At(j) = next(r) else {
             return r;
         };
         at = j;
         k += 1;
     }
-    Next::At(at)
+    at
 }
 
 // visit_mut_try_stmt.
-fn tries(w: &mut [u32], p: usize, d: usize, i: usize) -> Next
+fn tries(w: &mut [u32], p: usize, d: usize, i: usize) -> usize
     requires { ⌜ Here (now w) 1 i p (d + 1) ⌝ }
-    ensures { λ r. ⌜ Did (now (w .entry)) (now (w .exit)) r (visitMutTryStmtF (walksF d) p i (abs (now (w .entry)))) ⌝ }
+    ensures { λ r. ⌜ Did (now (w .entry)) (now (w .exit)) (nextOf r) (visitMutTryStmtF (walksF d) p i (abs (now (w .entry)))) ⌝ }
 {
     let n = arity_at(w, i) as usize;
     if n == 0 {
-        return Next::At(i + 1);
+        return i + 1;
     }
     let e = write_tree(w, i + 1, true);
     if e != 0 {
-        return Next::Refused(e);
+        return refused(e);
     }
     let j = skip(w, i + 1);
     parts(w, p + 1, d, n - 1, j)
 }
 
 // The parameters of a catch clause.
-fn binds(w: &mut [u32], p: usize, d: usize, n: usize, i: usize) -> Next
+fn binds(w: &mut [u32], p: usize, d: usize, n: usize, i: usize) -> usize
     requires { ⌜ Here (now w) n i p d ⌝ }
-    ensures { λ r. ⌜ Did (now (w .entry)) (now (w .exit)) r (many (catchParamF (walksF d) p) n i (abs (now (w .entry)))) ⌝ }
+    ensures { λ r. ⌜ Did (now (w .entry)) (now (w .exit)) (nextOf r) (many (catchParamF (walksF d) p) n i (abs (now (w .entry)))) ⌝ }
 {
     let mut at = i;
     let mut k: usize = 0;
@@ -513,20 +528,20 @@ fn binds(w: &mut [u32], p: usize, d: usize, n: usize, i: usize) -> Next
         let kind = kind_at(w, at);
         let x = num_at(w, at);
         let r = full(w, p, d, at);
-        let Next::At(j) = r else {
+        let Next::At(j) = next(r) else {
             return r;
         };
         mark_caught(w, kind, x);
         at = j;
         k += 1;
     }
-    Next::At(at)
+    at
 }
 
 // visit_mut_catch_clause.
-fn catch(w: &mut [u32], p: usize, d: usize, i: usize) -> Next
+fn catch(w: &mut [u32], p: usize, d: usize, i: usize) -> usize
     requires { ⌜ Here (now w) 1 i p (d + 1) ⌝ }
-    ensures { λ r. ⌜ Did (now (w .entry)) (now (w .exit)) r (visitMutCatchClauseF (walksF d) p i (abs (now (w .entry)))) ⌝ }
+    ensures { λ r. ⌜ Did (now (w .entry)) (now (w .exit)) (nextOf r) (visitMutCatchClauseF (walksF d) p i (abs (now (w .entry)))) ⌝ }
 {
     let inl = w[6];
     let decl = w[8];
@@ -534,30 +549,30 @@ fn catch(w: &mut [u32], p: usize, d: usize, i: usize) -> Next
     let test = w[10];
     let e = enter(w, 2);
     if e != 0 {
-        return Next::Refused(e);
+        return refused(e);
     }
     set_pat_mode(w, 2);
     let n = arity_at(w, i) as usize;
     if n == 0 {
         leave(w, inl, decl, mode, test);
-        return Next::At(i + 1);
+        return i + 1;
     }
     let r = binds(w, p + 1, d, n - 1, i + 1);
-    let Next::At(j) = r else {
+    let Next::At(j) = next(r) else {
         return r;
     };
     let s = full(w, p + 1, d, j);
-    let Next::At(end) = s else {
+    let Next::At(end) = next(s) else {
         return s;
     };
     leave(w, inl, decl, mode, test);
-    Next::At(end)
+    end
 }
 
 // A switch case's test and statements.
-fn items(w: &mut [u32], p: usize, d: usize, i: usize) -> Next
+fn items(w: &mut [u32], p: usize, d: usize, i: usize) -> usize
     requires { ⌜ Here (now w) 1 i p (d + 1) ⌝ }
-    ensures { λ r. ⌜ Did (now (w .entry)) (now (w .exit)) r (itemsF (walksF d) p i (abs (now (w .entry)))) ⌝ }
+    ensures { λ r. ⌜ Did (now (w .entry)) (now (w .exit)) (nextOf r) (itemsF (walksF d) p i (abs (now (w .entry)))) ⌝ }
 {
     let f = form_at(w, i);
     if f != 1 {
@@ -565,19 +580,19 @@ fn items(w: &mut [u32], p: usize, d: usize, i: usize) -> Next
     }
     let n = arity_at(w, i) as usize;
     if n == 0 {
-        return Next::At(i + 1);
+        return i + 1;
     }
     let r = full(w, p + 1, d, i + 1);
-    let Next::At(j) = r else {
+    let Next::At(j) = next(r) else {
         return r;
     };
     stmts(w, p + 1, d, n - 1, j)
 }
 
 // visit_mut_switch_case.
-fn case(w: &mut [u32], p: usize, d: usize, i: usize) -> Next
+fn case(w: &mut [u32], p: usize, d: usize, i: usize) -> usize
     requires { ⌜ Here (now w) 1 i p (d + 1) ⌝ }
-    ensures { λ r. ⌜ Did (now (w .entry)) (now (w .exit)) r (visitMutSwitchCaseF (walksF d) p i (abs (now (w .entry)))) ⌝ }
+    ensures { λ r. ⌜ Did (now (w .entry)) (now (w .exit)) (nextOf r) (visitMutSwitchCaseF (walksF d) p i (abs (now (w .entry)))) ⌝ }
 {
     let inl = w[6];
     let decl = w[8];
@@ -585,44 +600,44 @@ fn case(w: &mut [u32], p: usize, d: usize, i: usize) -> Next
     let test = w[10];
     let e = enter(w, 2);
     if e != 0 {
-        return Next::Refused(e);
+        return refused(e);
     }
     let r = items(w, p, d, i);
-    let Next::At(j) = r else {
+    let Next::At(j) = next(r) else {
         return r;
     };
     leave(w, inl, decl, mode, test);
-    Next::At(j)
+    j
 }
 
 // visit_mut_pat.
-fn pats(w: &mut [u32], p: usize, d: usize, i: usize) -> Next
+fn pats(w: &mut [u32], p: usize, d: usize, i: usize) -> usize
     requires { ⌜ Here (now w) 1 i p (d + 1) ⌝ }
-    ensures { λ r. ⌜ Did (now (w .entry)) (now (w .exit)) r (visitMutPatF (walksF d) p i (abs (now (w .entry)))) ⌝ }
+    ensures { λ r. ⌜ Did (now (w .entry)) (now (w .exit)) (nextOf r) (visitMutPatF (walksF d) p i (abs (now (w .entry)))) ⌝ }
 {
     let e = pat_step(w, i);
     if e != 0 {
-        return Next::Refused(e);
+        return refused(e);
     }
-    Next::At(skip(w, i))
+    skip(w, i)
 }
 
 // visit_mut_update_expr.
-fn update(w: &mut [u32], p: usize, d: usize, i: usize) -> Next
+fn update(w: &mut [u32], p: usize, d: usize, i: usize) -> usize
     requires { ⌜ Here (now w) 1 i p (d + 1) ⌝ }
-    ensures { λ r. ⌜ Did (now (w .entry)) (now (w .exit)) r (visitMutUpdateExprF (walksF d) p i (abs (now (w .entry)))) ⌝ }
+    ensures { λ r. ⌜ Did (now (w .entry)) (now (w .exit)) (nextOf r) (visitMutUpdateExprF (walksF d) p i (abs (now (w .entry)))) ⌝ }
 {
     let e = write_kids(w, i);
     if e != 0 {
-        return Next::Refused(e);
+        return refused(e);
     }
-    Next::At(skip(w, i))
+    skip(w, i)
 }
 
 // visit_mut_unary_expr: delete writes.
-fn unary(w: &mut [u32], p: usize, d: usize, i: usize) -> Next
+fn unary(w: &mut [u32], p: usize, d: usize, i: usize) -> usize
     requires { ⌜ Here (now w) 1 i p (d + 1) ⌝ }
-    ensures { λ r. ⌜ Did (now (w .entry)) (now (w .exit)) r (visitMutUnaryExprF (walksF d) p i (abs (now (w .entry)))) ⌝ }
+    ensures { λ r. ⌜ Did (now (w .entry)) (now (w .exit)) (nextOf r) (visitMutUnaryExprF (walksF d) p i (abs (now (w .entry)))) ⌝ }
 {
     let f = form_at(w, i);
     if f != 6 {
@@ -632,71 +647,71 @@ fn unary(w: &mut [u32], p: usize, d: usize, i: usize) -> Next
 }
 
 // visit_mut_call_expr and visit_mut_new_expr.
-fn call(w: &mut [u32], p: usize, d: usize, called: u32, i: usize) -> Next
+fn call(w: &mut [u32], p: usize, d: usize, called: u32, i: usize) -> usize
     requires { ⌜ Here (now w) 1 i p (d + 1) ⌝ }
-    ensures { λ r. ⌜ Did (now (w .entry)) (now (w .exit)) r (visitMutCallExprF (yes called) (walksF d) p i (abs (now (w .entry)))) ⌝ }
+    ensures { λ r. ⌜ Did (now (w .entry)) (now (w .exit)) (nextOf r) (visitMutCallExprF (yes called) (walksF d) p i (abs (now (w .entry)))) ⌝ }
 {
     let n = arity_at(w, i) as usize;
     if n == 0 {
         store_barrier(w);
-        return Next::At(i + 1);
+        return i + 1;
     }
     let r = full(w, p + 1, d, i + 1);
-    let Next::At(j) = r else {
+    let Next::At(j) = next(r) else {
         return r;
     };
     mark_callee(w, i + 1);
     let e = write_args(w, called, n - 1, j);
     if e != 0 {
-        return Next::Refused(e);
+        return refused(e);
     }
     let s = many(w, p + 1, d, n - 1, j);
-    let Next::At(end) = s else {
+    let Next::At(end) = next(s) else {
         return s;
     };
     store_barrier(w);
-    Next::At(end)
+    end
 }
 
 // All of a list but its first tree.
-fn tail(w: &mut [u32], p: usize, d: usize, n: usize, i: usize) -> Next
+fn tail(w: &mut [u32], p: usize, d: usize, n: usize, i: usize) -> usize
     requires { ⌜ Here (now w) n i p d ⌝ }
-    ensures { λ r. ⌜ Did (now (w .entry)) (now (w .exit)) r (splitF skip (many (walksF d .full p)) n i (abs (now (w .entry)))) ⌝ }
+    ensures { λ r. ⌜ Did (now (w .entry)) (now (w .exit)) (nextOf r) (splitF skip (many (walksF d .full p)) n i (abs (now (w .entry)))) ⌝ }
 {
     if n == 0 {
-        return Next::At(i);
+        return i;
     }
     let j = skip(w, i);
     many(w, p, d, n - 1, j)
 }
 
 // visit_mut_assign_expr.
-fn assign(w: &mut [u32], p: usize, d: usize, i: usize) -> Next
+fn assign(w: &mut [u32], p: usize, d: usize, i: usize) -> usize
     requires { ⌜ Here (now w) 1 i p (d + 1) ⌝ }
-    ensures { λ r. ⌜ Did (now (w .entry)) (now (w .exit)) r (visitMutAssignExprF (walksF d) p i (abs (now (w .entry)))) ⌝ }
+    ensures { λ r. ⌜ Did (now (w .entry)) (now (w .exit)) (nextOf r) (visitMutAssignExprF (walksF d) p i (abs (now (w .entry)))) ⌝ }
 {
     set_pat_mode(w, 0);
     let f = form_at(w, i);
     let n = arity_at(w, i) as usize;
     let e = assign_first(w, f, n, i + 1);
     if e != 0 {
-        return Next::Refused(e);
+        return refused(e);
     }
     let r = tail(w, p + 1, d, n, i + 1);
-    let Next::At(j) = r else {
+    let Next::At(j) = next(r) else {
         return r;
     };
     let g = assign_last(w, n, i + 1);
     if g != 0 {
-        return Next::Refused(g);
+        return refused(g);
     }
-    Next::At(j)
+    j
 }
 
 // The right sides of && or ||.
-fn conds(w: &mut [u32], p: usize, d: usize, n: usize, i: usize) -> Next
+fn conds(w: &mut [u32], p: usize, d: usize, n: usize, i: usize) -> usize
     requires { ⌜ Here (now w) n i p d ⌝ }
-    ensures { λ r. ⌜ Did (now (w .entry)) (now (w .exit)) r (many (λ r. inCondF (walksF d .bare p r)) n i (abs (now (w .entry)))) ⌝ }
+    ensures { λ r. ⌜ Did (now (w .entry)) (now (w .exit)) (nextOf r) (many (λ r. inCondF (walksF d .bare p r)) n i (abs (now (w .entry)))) ⌝ }
 {
     let mut at = i;
     let mut k: usize = 0;
@@ -704,44 +719,44 @@ fn conds(w: &mut [u32], p: usize, d: usize, n: usize, i: usize) -> Next
         let old = w[11];
         let e = deeper(w);
         if e != 0 {
-            return Next::Refused(e);
+            return refused(e);
         }
         let r = arm(w, p, d, 0, at);
-        let Next::At(j) = r else {
+        let Next::At(j) = next(r) else {
             return r;
         };
         set_conds(w, old);
         at = j;
         k += 1;
     }
-    Next::At(at)
+    at
 }
 
 // A && or || again: its right side.
-fn logic(w: &mut [u32], p: usize, d: usize, i: usize) -> Next
+fn logic(w: &mut [u32], p: usize, d: usize, i: usize) -> usize
     requires { ⌜ Here (now w) 1 i p (d + 1) ⌝ }
-    ensures { λ r. ⌜ Did (now (w .entry)) (now (w .exit)) r (logicalF (walksF d) p i (abs (now (w .entry)))) ⌝ }
+    ensures { λ r. ⌜ Did (now (w .entry)) (now (w .exit)) (nextOf r) (logicalF (walksF d) p i (abs (now (w .entry)))) ⌝ }
 {
     let k = kind_at(w, i);
     if k != 32 {
-        return Next::At(skip(w, i));
+        return skip(w, i);
     }
     let f = form_at(w, i);
     if f >= 2 {
-        return Next::At(skip(w, i));
+        return skip(w, i);
     }
     let n = arity_at(w, i) as usize;
     if n == 0 {
-        return Next::At(i + 1);
+        return i + 1;
     }
     let j = skip(w, i + 1);
     conds(w, p + 1, d, n - 1, j)
 }
 
 // Which handler a kind has.
-fn own(w: &mut [u32], p: usize, d: usize, i: usize) -> Next
+fn own(w: &mut [u32], p: usize, d: usize, i: usize) -> usize
     requires { ⌜ Here (now w) 1 i p (d + 1) ⌝ }
-    ensures { λ r. ⌜ Did (now (w .entry)) (now (w .exit)) r (ownF (walksF d) p i (abs (now (w .entry)))) ⌝ }
+    ensures { λ r. ⌜ Did (now (w .entry)) (now (w .exit)) (nextOf r) (ownF (walksF d) p i (abs (now (w .entry)))) ⌝ }
 {
     let k = kind_at(w, i);
     match k {
@@ -770,30 +785,30 @@ fn own(w: &mut [u32], p: usize, d: usize, i: usize) -> Next
 }
 
 // The steps of visit_mut_expr at an identifier: a constant is followed; in Analysis it is read; in Inlining its value takes its place.
-fn ident(w: &mut [u32], p: usize, d: usize, i: usize) -> Next
+fn ident(w: &mut [u32], p: usize, d: usize, i: usize) -> usize
     requires { ⌜ (Here (now w) 1 i p (d + 1)) × (nodeOf (now w) i .kind ≡ 21) ⌝ }
-    ensures { λ r. ⌜ Did (now (w .entry)) (now (w .exit)) r (afterIdentF (walksF d) p i (abs (now (w .entry)))) ⌝ }
+    ensures { λ r. ⌜ Did (now (w .entry)) (now (w .exit)) (nextOf r) (afterIdentF (walksF d) p i (abs (now (w .entry)))) ⌝ }
 {
     match constant(w, i) {
         Constant::At(at, m) => {
             let r = inline_constant(w, i, p as u32, at, m);
             let Next::At(_) = r else {
-                return r;
+                return coded(r);
             };
             full(w, p, d, i)
         }
         Constant::Unknown => {
             if w[6] == 0 {
                 ident_analysis(w, i);
-                return Next::At(skip(w, i));
+                return skip(w, i);
             }
             match fate(w, i) {
-                Found::Nothing => Next::At(skip(w, i)),
-                Found::Void => inline_undefined(w, i, p as u32),
+                Found::Nothing => skip(w, i),
+                Found::Void => coded(inline_undefined(w, i, p as u32)),
                 Found::Value(at, m) => {
                     let r = inline_value(w, i, p as u32, at, m);
                     let Next::At(_) = r else {
-                        return r;
+                        return coded(r);
                     };
                     logic(w, p, d, i)
                 }
@@ -803,9 +818,9 @@ fn ident(w: &mut [u32], p: usize, d: usize, i: usize) -> Next
 }
 
 // The steps of visit_mut_expr after the node's own handler, which ended at j.
-fn after(w: &mut [u32], p: usize, d: usize, i: usize, j: usize) -> Next
+fn after(w: &mut [u32], p: usize, d: usize, i: usize, j: usize) -> usize
     requires { ⌜ (Here (now w) 1 i p (d + 1)) × (j ≡ i + count (treeFrom (tree (now w)) i)) ⌝ }
-    ensures { λ r. ⌜ Did (now (w .entry)) (now (w .exit)) r (afterF (walksF d) p i (abs (now (w .entry)))) ⌝ }
+    ensures { λ r. ⌜ Did (now (w .entry)) (now (w .exit)) (nextOf r) (afterF (walksF d) p i (abs (now (w .entry)))) ⌝ }
 {
     let k = kind_at(w, i);
     if k == 21 {
@@ -815,16 +830,16 @@ fn after(w: &mut [u32], p: usize, d: usize, i: usize, j: usize) -> Next
         return logic(w, p, d, i);
     }
     if k != 33 {
-        return Next::At(j);
+        return j;
     }
     let f = form_at(w, i);
     if f != 0 {
-        return Next::At(j);
+        return j;
     }
     if w[6] == 0 {
-        return Next::At(j);
+        return j;
     }
-    after_assign(w, i, p as u32)
+    coded(after_assign(w, i, p as u32))
 }
 
 // visit_mut_program's walk of the script, in the mode that is set.
@@ -832,5 +847,5 @@ pub fn program(w: &mut [u32]) -> Next
     requires { ⌜ Planted (now w) ⌝ }
     ensures { λ r. ⌜ Did (now (w .entry)) (now (w .exit)) r (ownF (walksF 199) 1 0 (abs (now (w .entry)))) ⌝ }
 {
-    own(w, 1, 199, 0)
+    next(own(w, 1, 199, 0))
 }

@@ -1,16 +1,17 @@
 // Small steps of the walks.
 ghost use mathlib.Core.Path.{_≡_};
-ghost use Rattle.words.specs.Layout.{tree};
+ghost use Rattle.words.specs.Layout.{tree, nodeOf};
 ghost use Rattle.scopes.specs.State.{varTypeOf};
 ghost use Rattle.definition.specs.Walk.{declKindOf};
 ghost use Rattle.nodes.specs.Nodes.{Planted};
 ghost use Rattle.state.specs.State.{abs};
 ghost use Rattle.declare_steps.specs.Steps.{Spot, named, declrAfter};
-ghost use Rattle.walk_laws.specs.Did.{Did, Here, Headed};
+ghost use Rattle.walk_laws.specs.Did.{Did, Here, Headed, bareNode, settledNode};
 use declare_steps::After;
 use declare_steps::declr_after;
 use declare_steps::type_of;
 use ident_steps::Next;
+use words::arity_at;
 use words::kind_at;
 
 // The kind of a declaration by its form.
@@ -39,6 +40,36 @@ pub fn nameless(w: &[u32], n: usize, i: usize) -> bool
         return false;
     }
     true
+}
+
+// Is node i an identifier or a literal without children: it has no handler of its own.
+pub fn bare(w: &[u32], i: usize) -> bool
+    requires { ⌜ Here (now w) 1 i 0 0 ⌝ }
+    ensures { λ r. ⌜ r ≡ bareNode (nodeOf (now (w .entry)) i) ⌝ }
+{
+    if arity_at(w, i) != 0 {
+        return false;
+    }
+    let k = kind_at(w, i);
+    if k == 21 {
+        return true;
+    }
+    k == 22
+}
+
+// Does visit_mut_expr do nothing behind the handler of node i: no identifier, no && or ||, no assignment.
+pub fn settled(w: &[u32], i: usize) -> bool
+    requires { ⌜ Here (now w) 1 i 0 0 ⌝ }
+    ensures { λ r. ⌜ r ≡ settledNode (nodeOf (now (w .entry)) i) ⌝ }
+{
+    let k = kind_at(w, i);
+    if k == 21 {
+        return false;
+    }
+    if k == 32 {
+        return false;
+    }
+    k != 33
 }
 
 // The end of a declarator of x in Inlining, whose declaration is of the given kind.

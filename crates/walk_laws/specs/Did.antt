@@ -2,13 +2,14 @@
 -- Assumes nothing: these are definitions.
 use mathlib.Core.Path.{_≡_}
 use mathlib.Core.List.{List}
-use Prim.Native.Nat.{ℕ, suc, _+_, _≤_, _<_}
+use Prim.Native.Nat.{ℕ, suc, _+_, _-_, _%_, _≤_, _<_}
 use mathlib.Core.Option.{Option, none, some}
-use lib.Dec.{eqb}
+use lib.Dec.{eqb, ltb}
 use Rattle.tree.specs.Combine.{Res, stop, done, _>>=_, _>>_, andThen, ret, iff, Flat, nodeAt, treeAt, forestAt, setArity, Walk as One, Walks as Many, onRest, act, actF, skip, many, splitF, eachButF, onKidsF}
-use Rattle.tree.specs.Tree.{Tree}
+use Rattle.tree.specs.Base.{pick}
+use Rattle.tree.specs.Tree.{Tree, Core}
 use Rattle.words.specs.Layout.{tree, nodeOf}
-use mathlib.Core.Bool.{Bool, true, false, not}
+use mathlib.Core.Bool.{Bool, true, false, not, _&&_, _||_}
 use Rattle.definition.specs.Scope.{VarType, markThisSensitive, identOf}
 use Rattle.definition.specs.Walk.{St, asCatch, setPatMode, modify, mark, when, writeForest, headBind}
 use Rattle.flat.specs.WalkF.{WalksF, visitMutStmtsF, catchParamF, declrToF}
@@ -17,6 +18,15 @@ use Rattle.shape.specs.Shape.{Room}
 use Rattle.state.specs.State.{abs, Ok}
 use Rattle.ident_steps.specs.declared.Next.{Next}
 use Rattle.ident_steps.specs.declared.Next.the-variants.{At, Refused}
+
+-- an answer in one word: the place where the next tree begins, or 65,536 and a refusal's number
+unfoldable pub nextOf : ℕ → Next
+nextOf r = pick (ltb r 65536) (At r) (Refused ((r - 65536) % 4294967296))
+
+-- the answers that have a word
+abbrev pub Low : Next → Type 0
+Low (At j) = j < 65536
+Low (Refused n) = Unit {0}
 
 -- a refusal's number is document 01's; after a refusal nothing is said of the state
 abbrev pub Lands : Next → List ℕ → Res (Flat St) ℕ → Type 0
@@ -34,6 +44,14 @@ pub record Here (w : List ℕ) (n i p d : ℕ) : Type 0 where
   pub planted : Planted w
   pub room : Room (tree w) n i
   pub depth : p + d ≤ 201
+
+-- an identifier or a literal without children
+abbrev pub bareNode : Core → Bool
+bareNode c = eqb (c .arity) 0 && (eqb (c .kind) 21 || eqb (c .kind) 22)
+
+-- no identifier, no && or ||, no assignment
+abbrev pub settledNode : Core → Bool
+settledNode c = not (eqb (c .kind) 21) && (not (eqb (c .kind) 32) && not (eqb (c .kind) 33))
 
 -- the first of n trees from i on is a binding
 pub record Bound (w : List ℕ) (n i : ℕ) : Type 0 where

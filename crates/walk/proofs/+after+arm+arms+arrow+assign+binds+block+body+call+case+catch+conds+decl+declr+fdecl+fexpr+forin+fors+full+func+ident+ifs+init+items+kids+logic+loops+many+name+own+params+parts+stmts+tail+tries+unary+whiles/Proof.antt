@@ -118,43 +118,43 @@ use Rattle.walk.proofs.+after+arm+arms+arrow+assign+binds+block+body+ca
   close,
 }
 use Rattle.walk.proofs.+after+arm+arms+arrow+assign+binds+block+body+call+case+catch+conds+decl+declr+fdecl+fexpr+forin+fors+full+func+ident+ifs+init+items+kids+logic+loops+many+name+own+params+parts+stmts+tail+tries+unary+whiles.Proof.Common.{μ-after, μ-arm, μ-arms, μ-arrow, μ-assign, μ-binds, μ-block, μ-body, μ-call, μ-case, μ-catch, μ-conds, μ-decl, μ-declr, μ-fdecl, μ-fexpr, μ-forin, μ-fors, μ-full, μ-func, μ-ident, μ-ifs, μ-init, μ-items, μ-kids, μ-logic, μ-loops, μ-many, μ-name, μ-own, μ-params, μ-parts, μ-stmts, μ-tail, μ-tries, μ-unary, μ-whiles, after-at, arm-at, arms-at, arrow-at, assign-at, binds-at, block-at, body-at, call-at, case-at, catch-at, conds-at, decl-at, declr-at, fdecl-at, fexpr-at, forin-at, fors-at, full-at, func-at, ident-at, ifs-at, init-at, items-at, kids-at, logic-at, loops-at, many-at, name-at, own-at, params-at, parts-at, stmts-at, tail-at, tries-at, unary-at, whiles-at}
-use Rattle.walk.proofs.+after+arm+arms+arrow+assign+binds+block+body+call+case+catch+conds+decl+declr+fdecl+fexpr+forin+fors+full+func+ident+ifs+init+items+kids+logic+loops+many+name+own+params+parts+stmts+tail+tries+unary+whiles.Proof.After.{after-calls, after-kind-at-requires, after-ident-requires, after-same-length, after-returns, after-logic-requires, after-same-length-2, after-returns-2, after-same-length-3, after-returns-3, after-form-at-requires, after-same-length-4, after-returns-4, after-slice-read-if5, after-same-length-5, after-returns-5, after-cast-after-assign, after-after-assign-requires, after-same-length-6, after-returns-6}
-use Rattle.walk.proofs.+after+arm+arms+arrow+assign+binds+block+body+call+case+catch+conds+decl+declr+fdecl+fexpr+forin+fors+full+func+ident+ifs+init+items+kids+logic+loops+many+name+own+params+parts+stmts+tail+tries+unary+whiles.Proof.Arm.{arm-calls, arm-slice-read-inl, arm-slice-read-decl, arm-slice-read-mode, arm-slice-read-test, arm-enter-requires, arm-same-length, arm-returns, arm-same-length-2, arm-returns-2, arm-sub-own, arm-own-requires, arm-enum-known-r, arm-enum-told, arm-same-length-3, arm-returns-3, arm-leave-requires, arm-same-length-4, arm-returns-4}
-use Rattle.walk.proofs.+after+arm+arms+arrow+assign+binds+block+body+call+case+catch+conds+decl+declr+fdecl+fexpr+forin+fors+full+func+ident+ifs+init+items+kids+logic+loops+many+name+own+params+parts+stmts+tail+tries+unary+whiles.Proof.Arms.{arms-calls, arms-Inv-loop, arms-μ-loop, arms-loop-holds, arms-arm-requires, arms-enum-known-r, arms-enum-told, arms-same-length, arms-returns, arms-add-k, arms-loop-less, arms-loop-again, arms-same-length-2, arms-returns-2}
-use Rattle.walk.proofs.+after+arm+arms+arrow+assign+binds+block+body+call+case+catch+conds+decl+declr+fdecl+fexpr+forin+fors+full+func+ident+ifs+init+items+kids+logic+loops+many+name+own+params+parts+stmts+tail+tries+unary+whiles.Proof.Arrow.{arrow-calls, arrow-slice-read-inl, arrow-slice-read-decl, arrow-slice-read-mode, arrow-slice-read-test, arrow-enter-requires, arrow-same-length, arrow-returns, arrow-kids-requires, arrow-enum-known-r, arrow-enum-told, arrow-same-length-2, arrow-returns-2, arrow-leave-requires, arrow-same-length-3, arrow-returns-3}
-use Rattle.walk.proofs.+after+arm+arms+arrow+assign+binds+block+body+call+case+catch+conds+decl+declr+fdecl+fexpr+forin+fors+full+func+ident+ifs+init+items+kids+logic+loops+many+name+own+params+parts+stmts+tail+tries+unary+whiles.Proof.Assign.{assign-calls, assign-set-pat-mode-requires, assign-form-at-requires, assign-arity-at-requires, assign-cast-n, assign-add-assign-first, assign-assign-first-requires, assign-same-length, assign-returns, assign-add-tail, assign-add-tail-2, assign-tail-requires, assign-enum-known-r, assign-enum-told, assign-same-length-2, assign-returns-2, assign-add-assign-last, assign-assign-last-requires, assign-same-length-3, assign-returns-3, assign-same-length-4, assign-returns-4}
-use Rattle.walk.proofs.+after+arm+arms+arrow+assign+binds+block+body+call+case+catch+conds+decl+declr+fdecl+fexpr+forin+fors+full+func+ident+ifs+init+items+kids+logic+loops+many+name+own+params+parts+stmts+tail+tries+unary+whiles.Proof.Binds.{binds-calls, binds-Inv-loop, binds-μ-loop, binds-loop-holds, binds-kind-at-requires, binds-num-at-requires, binds-full-requires, binds-enum-known-r, binds-enum-told, binds-same-length, binds-returns, binds-mark-caught-requires, binds-add-k, binds-loop-less, binds-loop-again, binds-same-length-2, binds-returns-2}
-use Rattle.walk.proofs.+after+arm+arms+arrow+assign+binds+block+body+call+case+catch+conds+decl+declr+fdecl+fexpr+forin+fors+full+func+ident+ifs+init+items+kids+logic+loops+many+name+own+params+parts+stmts+tail+tries+unary+whiles.Proof.Block.{block-calls, block-slice-read-inl, block-slice-read-decl, block-slice-read-mode, block-slice-read-test, block-enter-requires, block-same-length, block-returns, block-body-requires, block-enum-known-r, block-enum-told, block-same-length-2, block-returns-2, block-leave-requires, block-same-length-3, block-returns-3}
+use Rattle.walk.proofs.+after+arm+arms+arrow+assign+binds+block+body+call+case+catch+conds+decl+declr+fdecl+fexpr+forin+fors+full+func+ident+ifs+init+items+kids+logic+loops+many+name+own+params+parts+stmts+tail+tries+unary+whiles.Proof.After.{after-calls, after-kind-at-requires, after-ident-requires, after-same-length, after-returns, after-logic-requires, after-same-length-2, after-returns-2, after-same-length-3, after-returns-3, after-form-at-requires, after-same-length-4, after-returns-4, after-slice-read-if5, after-same-length-5, after-returns-5, after-cast-after-assign, after-after-assign-requires, after-coded-requires, after-same-length-6, after-returns-6}
+use Rattle.walk.proofs.+after+arm+arms+arrow+assign+binds+block+body+call+case+catch+conds+decl+declr+fdecl+fexpr+forin+fors+full+func+ident+ifs+init+items+kids+logic+loops+many+name+own+params+parts+stmts+tail+tries+unary+whiles.Proof.Arm.{arm-calls, arm-slice-read-inl, arm-slice-read-decl, arm-slice-read-mode, arm-slice-read-test, arm-enter-requires, arm-refused-requires, arm-same-length, arm-returns, arm-refused-requires-2, arm-same-length-2, arm-returns-2, arm-sub-own, arm-own-requires, arm-next-requires, arm-enum-known-j, arm-enum-told, arm-same-length-3, arm-returns-3, arm-leave-requires, arm-same-length-4, arm-returns-4}
+use Rattle.walk.proofs.+after+arm+arms+arrow+assign+binds+block+body+call+case+catch+conds+decl+declr+fdecl+fexpr+forin+fors+full+func+ident+ifs+init+items+kids+logic+loops+many+name+own+params+parts+stmts+tail+tries+unary+whiles.Proof.Arms.{arms-calls, arms-Inv-loop, arms-μ-loop, arms-loop-holds, arms-arm-requires, arms-next-requires, arms-enum-known-j, arms-enum-told, arms-same-length, arms-returns, arms-add-k, arms-loop-less, arms-loop-again, arms-same-length-2, arms-returns-2}
+use Rattle.walk.proofs.+after+arm+arms+arrow+assign+binds+block+body+call+case+catch+conds+decl+declr+fdecl+fexpr+forin+fors+full+func+ident+ifs+init+items+kids+logic+loops+many+name+own+params+parts+stmts+tail+tries+unary+whiles.Proof.Arrow.{arrow-calls, arrow-slice-read-inl, arrow-slice-read-decl, arrow-slice-read-mode, arrow-slice-read-test, arrow-enter-requires, arrow-refused-requires, arrow-same-length, arrow-returns, arrow-kids-requires, arrow-next-requires, arrow-enum-known-j, arrow-enum-told, arrow-same-length-2, arrow-returns-2, arrow-leave-requires, arrow-same-length-3, arrow-returns-3}
+use Rattle.walk.proofs.+after+arm+arms+arrow+assign+binds+block+body+call+case+catch+conds+decl+declr+fdecl+fexpr+forin+fors+full+func+ident+ifs+init+items+kids+logic+loops+many+name+own+params+parts+stmts+tail+tries+unary+whiles.Proof.Assign.{assign-calls, assign-set-pat-mode-requires, assign-form-at-requires, assign-arity-at-requires, assign-cast-n, assign-add-assign-first, assign-assign-first-requires, assign-refused-requires, assign-same-length, assign-returns, assign-add-tail, assign-add-tail-2, assign-tail-requires, assign-next-requires, assign-enum-known-j, assign-enum-told, assign-same-length-2, assign-returns-2, assign-add-assign-last, assign-assign-last-requires, assign-refused-requires-2, assign-same-length-3, assign-returns-3, assign-same-length-4, assign-returns-4}
+use Rattle.walk.proofs.+after+arm+arms+arrow+assign+binds+block+body+call+case+catch+conds+decl+declr+fdecl+fexpr+forin+fors+full+func+ident+ifs+init+items+kids+logic+loops+many+name+own+params+parts+stmts+tail+tries+unary+whiles.Proof.Binds.{binds-calls, binds-Inv-loop, binds-μ-loop, binds-loop-holds, binds-kind-at-requires, binds-num-at-requires, binds-full-requires, binds-next-requires, binds-enum-known-j, binds-enum-told, binds-same-length, binds-returns, binds-mark-caught-requires, binds-add-k, binds-loop-less, binds-loop-again, binds-same-length-2, binds-returns-2}
+use Rattle.walk.proofs.+after+arm+arms+arrow+assign+binds+block+body+call+case+catch+conds+decl+declr+fdecl+fexpr+forin+fors+full+func+ident+ifs+init+items+kids+logic+loops+many+name+own+params+parts+stmts+tail+tries+unary+whiles.Proof.Block.{block-calls, block-slice-read-inl, block-slice-read-decl, block-slice-read-mode, block-slice-read-test, block-enter-requires, block-refused-requires, block-same-length, block-returns, block-body-requires, block-next-requires, block-enum-known-j, block-enum-told, block-same-length-2, block-returns-2, block-leave-requires, block-same-length-3, block-returns-3}
 use Rattle.walk.proofs.+after+arm+arms+arrow+assign+binds+block+body+call+case+catch+conds+decl+declr+fdecl+fexpr+forin+fors+full+func+ident+ifs+init+items+kids+logic+loops+many+name+own+params+parts+stmts+tail+tries+unary+whiles.Proof.Body.{body-calls, body-arity-at-requires, body-cast-n, body-add-stmts, body-add-stmts-2, body-stmts-requires, body-same-length, body-returns}
-use Rattle.walk.proofs.+after+arm+arms+arrow+assign+binds+block+body+call+case+catch+conds+decl+declr+fdecl+fexpr+forin+fors+full+func+ident+ifs+init+items+kids+logic+loops+many+name+own+params+parts+stmts+tail+tries+unary+whiles.Proof.Call.{call-calls, call-arity-at-requires, call-cast-n, call-store-barrier-requires, call-add-t19, call-same-length, call-returns, call-add-full, call-add-full-2, call-full-requires, call-enum-known-r, call-enum-told, call-same-length-2, call-returns-2, call-add-mark-callee, call-mark-callee-requires, call-sub-write-args, call-write-args-requires, call-same-length-3, call-returns-3, call-add-many, call-sub-many, call-many-requires, call-enum-known-s, call-enum-told-2, call-same-length-4, call-returns-4, call-store-barrier-requires-2, call-same-length-5, call-returns-5}
-use Rattle.walk.proofs.+after+arm+arms+arrow+assign+binds+block+body+call+case+catch+conds+decl+declr+fdecl+fexpr+forin+fors+full+func+ident+ifs+init+items+kids+logic+loops+many+name+own+params+parts+stmts+tail+tries+unary+whiles.Proof.Case.{case-calls, case-slice-read-inl, case-slice-read-decl, case-slice-read-mode, case-slice-read-test, case-enter-requires, case-same-length, case-returns, case-items-requires, case-enum-known-r, case-enum-told, case-same-length-2, case-returns-2, case-leave-requires, case-same-length-3, case-returns-3}
-use Rattle.walk.proofs.+after+arm+arms+arrow+assign+binds+block+body+call+case+catch+conds+decl+declr+fdecl+fexpr+forin+fors+full+func+ident+ifs+init+items+kids+logic+loops+many+name+own+params+parts+stmts+tail+tries+unary+whiles.Proof.Catch.{catch-calls, catch-slice-read-inl, catch-slice-read-decl, catch-slice-read-mode, catch-slice-read-test, catch-enter-requires, catch-same-length, catch-returns, catch-set-pat-mode-requires, catch-arity-at-requires, catch-cast-n, catch-leave-requires, catch-add-t31, catch-same-length-2, catch-returns-2, catch-add-binds, catch-sub-binds, catch-add-binds-2, catch-binds-requires, catch-enum-known-r, catch-enum-told, catch-same-length-3, catch-returns-3, catch-add-full, catch-full-requires, catch-enum-known-s, catch-enum-told-2, catch-same-length-4, catch-returns-4, catch-leave-requires-2, catch-same-length-5, catch-returns-5}
-use Rattle.walk.proofs.+after+arm+arms+arrow+assign+binds+block+body+call+case+catch+conds+decl+declr+fdecl+fexpr+forin+fors+full+func+ident+ifs+init+items+kids+logic+loops+many+name+own+params+parts+stmts+tail+tries+unary+whiles.Proof.Conds.{conds-calls, conds-Inv-loop, conds-μ-loop, conds-loop-holds, conds-slice-read-old, conds-deeper-requires, conds-same-length, conds-returns, conds-arm-requires, conds-enum-known-r, conds-enum-told, conds-same-length-2, conds-returns-2, conds-set-conds-requires, conds-add-k, conds-loop-less, conds-loop-again, conds-same-length-3, conds-returns-3}
+use Rattle.walk.proofs.+after+arm+arms+arrow+assign+binds+block+body+call+case+catch+conds+decl+declr+fdecl+fexpr+forin+fors+full+func+ident+ifs+init+items+kids+logic+loops+many+name+own+params+parts+stmts+tail+tries+unary+whiles.Proof.Call.{call-calls, call-arity-at-requires, call-cast-n, call-store-barrier-requires, call-add-result, call-same-length, call-returns, call-add-full, call-add-full-2, call-full-requires, call-next-requires, call-enum-known-j, call-enum-told, call-same-length-2, call-returns-2, call-add-mark-callee, call-mark-callee-requires, call-sub-write-args, call-write-args-requires, call-refused-requires, call-same-length-3, call-returns-3, call-add-many, call-sub-many, call-many-requires, call-next-requires-2, call-enum-known-end, call-enum-told-2, call-same-length-4, call-returns-4, call-store-barrier-requires-2, call-same-length-5, call-returns-5}
+use Rattle.walk.proofs.+after+arm+arms+arrow+assign+binds+block+body+call+case+catch+conds+decl+declr+fdecl+fexpr+forin+fors+full+func+ident+ifs+init+items+kids+logic+loops+many+name+own+params+parts+stmts+tail+tries+unary+whiles.Proof.Case.{case-calls, case-slice-read-inl, case-slice-read-decl, case-slice-read-mode, case-slice-read-test, case-enter-requires, case-refused-requires, case-same-length, case-returns, case-items-requires, case-next-requires, case-enum-known-j, case-enum-told, case-same-length-2, case-returns-2, case-leave-requires, case-same-length-3, case-returns-3}
+use Rattle.walk.proofs.+after+arm+arms+arrow+assign+binds+block+body+call+case+catch+conds+decl+declr+fdecl+fexpr+forin+fors+full+func+ident+ifs+init+items+kids+logic+loops+many+name+own+params+parts+stmts+tail+tries+unary+whiles.Proof.Catch.{catch-calls, catch-slice-read-inl, catch-slice-read-decl, catch-slice-read-mode, catch-slice-read-test, catch-enter-requires, catch-refused-requires, catch-same-length, catch-returns, catch-set-pat-mode-requires, catch-arity-at-requires, catch-cast-n, catch-leave-requires, catch-add-result, catch-same-length-2, catch-returns-2, catch-add-binds, catch-sub-binds, catch-add-binds-2, catch-binds-requires, catch-next-requires, catch-enum-known-j, catch-enum-told, catch-same-length-3, catch-returns-3, catch-add-full, catch-full-requires, catch-next-requires-2, catch-enum-known-end, catch-enum-told-2, catch-same-length-4, catch-returns-4, catch-leave-requires-2, catch-same-length-5, catch-returns-5}
+use Rattle.walk.proofs.+after+arm+arms+arrow+assign+binds+block+body+call+case+catch+conds+decl+declr+fdecl+fexpr+forin+fors+full+func+ident+ifs+init+items+kids+logic+loops+many+name+own+params+parts+stmts+tail+tries+unary+whiles.Proof.Conds.{conds-calls, conds-Inv-loop, conds-μ-loop, conds-loop-holds, conds-slice-read-old, conds-deeper-requires, conds-refused-requires, conds-same-length, conds-returns, conds-arm-requires, conds-next-requires, conds-enum-known-j, conds-enum-told, conds-same-length-2, conds-returns-2, conds-set-conds-requires, conds-add-k, conds-loop-less, conds-loop-again, conds-same-length-3, conds-returns-3}
 use Rattle.walk.proofs.+after+arm+arms+arrow+assign+binds+block+body+call+case+catch+conds+decl+declr+fdecl+fexpr+forin+fors+full+func+ident+ifs+init+items+kids+logic+loops+many+name+own+params+parts+stmts+tail+tries+unary+whiles.Proof.Decl.{decl-calls, decl-form-at-requires, decl-decl-kind-requires, decl-set-var-decl-kind-requires, decl-kids-requires, decl-same-length, decl-returns}
-use Rattle.walk.proofs.+after+arm+arms+arrow+assign+binds+block+body+call+case+catch+conds+decl+declr+fdecl+fexpr+forin+fors+full+func+ident+ifs+init+items+kids+logic+loops+many+name+own+params+parts+stmts+tail+tries+unary+whiles.Proof.Declr.{declr-calls, declr-arity-at-requires, declr-cast-n, declr-add-tail, declr-add-tail-2, declr-tail-requires, declr-enum-told, declr-enum-told-2, declr-same-length, declr-returns, declr-set-pat-mode-requires, declr-add-nameless, declr-nameless-requires, declr-name-requires, declr-same-length-2, declr-returns-2, declr-slice-read-if2, declr-init-requires, declr-same-length-3, declr-returns-3, declr-add-ident-at, declr-ident-at-requires, declr-add-over, declr-over-requires, declr-enum-known-m, declr-enum-known-gone, declr-skip-requires, declr-same-length-4, declr-returns-4, declr-name-requires-2, declr-same-length-5, declr-returns-5, declr-same-length-6, declr-returns-6}
-use Rattle.walk.proofs.+after+arm+arms+arrow+assign+binds+block+body+call+case+catch+conds+decl+declr+fdecl+fexpr+forin+fors+full+func+ident+ifs+init+items+kids+logic+loops+many+name+own+params+parts+stmts+tail+tries+unary+whiles.Proof.Fdecl.{fdecl-calls, fdecl-declare-name-requires, fdecl-same-length, fdecl-returns, fdecl-arity-at-requires, fdecl-cast-n, fdecl-add-t14, fdecl-same-length-2, fdecl-returns-2, fdecl-add-skip, fdecl-skip-requires, fdecl-sub-func, fdecl-func-requires, fdecl-same-length-3, fdecl-returns-3}
-use Rattle.walk.proofs.+after+arm+arms+arrow+assign+binds+block+body+call+case+catch+conds+decl+declr+fdecl+fexpr+forin+fors+full+func+ident+ifs+init+items+kids+logic+loops+many+name+own+params+parts+stmts+tail+tries+unary+whiles.Proof.Fexpr.{fexpr-calls, fexpr-arity-at-requires, fexpr-cast-n, fexpr-form-at-requires, fexpr-add-func, fexpr-func-requires, fexpr-same-length, fexpr-returns, fexpr-write-name-requires, fexpr-same-length-2, fexpr-returns-2, fexpr-add-t20, fexpr-same-length-3, fexpr-returns-3, fexpr-add-skip, fexpr-skip-requires, fexpr-sub-func, fexpr-func-requires-2, fexpr-same-length-4, fexpr-returns-4}
-use Rattle.walk.proofs.+after+arm+arms+arrow+assign+binds+block+body+call+case+catch+conds+decl+declr+fdecl+fexpr+forin+fors+full+func+ident+ifs+init+items+kids+logic+loops+many+name+own+params+parts+stmts+tail+tries+unary+whiles.Proof.Forin.{forin-calls, forin-set-pat-mode-requires, forin-arity-at-requires, forin-cast-n, forin-add-t17, forin-same-length, forin-returns, forin-add-full, forin-add-full-2, forin-full-requires, forin-enum-known-r, forin-enum-told, forin-same-length-2, forin-returns-2, forin-add-write-tree, forin-write-tree-requires, forin-same-length-3, forin-returns-3, forin-sub-write-but-last, forin-write-but-last-requires, forin-same-length-4, forin-returns-4, forin-add-loops, forin-sub-loops, forin-loops-requires, forin-same-length-5, forin-returns-5}
-use Rattle.walk.proofs.+after+arm+arms+arrow+assign+binds+block+body+call+case+catch+conds+decl+declr+fdecl+fexpr+forin+fors+full+func+ident+ifs+init+items+kids+logic+loops+many+name+own+params+parts+stmts+tail+tries+unary+whiles.Proof.Fors.{fors-calls, fors-write-kids-but-last-requires, fors-same-length, fors-returns, fors-form-at-requires, fors-arity-at-requires, fors-cast-n, fors-add-loops, fors-add-loops-2, fors-loops-requires, fors-enum-known-r, fors-enum-told, fors-same-length-2, fors-returns-2, fors-store-barrier-requires, fors-same-length-3, fors-returns-3, fors-same-length-4, fors-returns-4}
-use Rattle.walk.proofs.+after+arm+arms+arrow+assign+binds+block+body+call+case+catch+conds+decl+declr+fdecl+fexpr+forin+fors+full+func+ident+ifs+init+items+kids+logic+loops+many+name+own+params+parts+stmts+tail+tries+unary+whiles.Proof.Full.{full-calls, full-returns, full-sub-own, full-own-requires, full-enum-known-r, full-enum-told, full-same-length, full-returns-2, full-sub-after, full-after-requires, full-same-length-2, full-returns-3}
-use Rattle.walk.proofs.+after+arm+arms+arrow+assign+binds+block+body+call+case+catch+conds+decl+declr+fdecl+fexpr+forin+fors+full+func+ident+ifs+init+items+kids+logic+loops+many+name+own+params+parts+stmts+tail+tries+unary+whiles.Proof.Func.{func-calls, func-slice-read-inl, func-slice-read-decl, func-slice-read-mode, func-slice-read-test, func-add-enter, func-enter-requires, func-same-length, func-returns, func-set-pat-mode-requires, func-add-params, func-params-requires, func-enum-known-r, func-enum-told, func-same-length-2, func-returns-2, func-leave-requires, func-same-length-3, func-returns-3}
-use Rattle.walk.proofs.+after+arm+arms+arrow+assign+binds+block+body+call+case+catch+conds+decl+declr+fdecl+fexpr+forin+fors+full+func+ident+ifs+init+items+kids+logic+loops+many+name+own+params+parts+stmts+tail+tries+unary+whiles.Proof.Ident.{ident-calls, ident-constant-requires, ident-enum-known-at, ident-cast-inline-constant, ident-inline-constant-requires, ident-enum-told, ident-enum-told-2, ident-same-length, ident-returns, ident-full-requires, ident-enum-told-3, ident-slice-read-if1, ident-ident-analysis-requires, ident-skip-requires, ident-same-length-2, ident-returns-2, ident-fate-requires, ident-enum-told-4, ident-skip-requires-2, ident-enum-told-5, ident-cast-inline-undefined, ident-inline-undefined-requires, ident-enum-known-at-2, ident-cast-inline-value, ident-inline-value-requires, ident-enum-told-6, ident-enum-told-7, ident-same-length-3, ident-returns-3, ident-logic-requires, ident-same-length-4, ident-returns-4, ident-same-length-5, ident-returns-5, ident-same-length-6, ident-returns-6, ident-same-length-7, ident-returns-7}
-use Rattle.walk.proofs.+after+arm+arms+arrow+assign+binds+block+body+call+case+catch+conds+decl+declr+fdecl+fexpr+forin+fors+full+func+ident+ifs+init+items+kids+logic+loops+many+name+own+params+parts+stmts+tail+tries+unary+whiles.Proof.Ifs.{ifs-calls, ifs-arity-at-requires, ifs-cast-n, ifs-add-t13, ifs-same-length, ifs-returns, ifs-slice-read-old, ifs-set-in-test-requires, ifs-add-full, ifs-add-full-2, ifs-full-requires, ifs-enum-known-r, ifs-enum-told, ifs-same-length-2, ifs-returns-2, ifs-set-in-test-requires-2, ifs-add-arms, ifs-sub-arms, ifs-arms-requires, ifs-same-length-3, ifs-returns-3}
-use Rattle.walk.proofs.+after+arm+arms+arrow+assign+binds+block+body+call+case+catch+conds+decl+declr+fdecl+fexpr+forin+fors+full+func+ident+ifs+init+items+kids+logic+loops+many+name+own+params+parts+stmts+tail+tries+unary+whiles.Proof.Init.{init-calls, init-slice-read-kind, init-name-requires, init-same-length, init-returns, init-add-ident-at, init-ident-at-requires, init-add-skip, init-skip-requires, init-sub-stays, init-stays-requires, init-skip-requires-2, init-same-length-2, init-returns-2, init-declr-end-requires, init-same-length-3, init-returns-3, init-add-full, init-full-requires, init-enum-told, init-enum-told-2, init-same-length-4, init-returns-4, init-skip-requires-3, init-sub-declr-end, init-declr-end-requires-2, init-same-length-5, init-returns-5}
-use Rattle.walk.proofs.+after+arm+arms+arrow+assign+binds+block+body+call+case+catch+conds+decl+declr+fdecl+fexpr+forin+fors+full+func+ident+ifs+init+items+kids+logic+loops+many+name+own+params+parts+stmts+tail+tries+unary+whiles.Proof.Items.{items-calls, items-form-at-requires, items-body-requires, items-same-length, items-returns, items-arity-at-requires, items-cast-n, items-add-t17, items-same-length-2, items-returns-2, items-add-full, items-add-full-2, items-full-requires, items-enum-known-r, items-enum-told, items-same-length-3, items-returns-3, items-add-stmts, items-sub-stmts, items-stmts-requires, items-same-length-4, items-returns-4}
+use Rattle.walk.proofs.+after+arm+arms+arrow+assign+binds+block+body+call+case+catch+conds+decl+declr+fdecl+fexpr+forin+fors+full+func+ident+ifs+init+items+kids+logic+loops+many+name+own+params+parts+stmts+tail+tries+unary+whiles.Proof.Declr.{declr-calls, declr-arity-at-requires, declr-cast-n, declr-add-tail, declr-add-tail-2, declr-tail-requires, declr-next-requires, declr-enum-told, declr-enum-told-2, declr-same-length, declr-returns, declr-set-pat-mode-requires, declr-add-nameless, declr-nameless-requires, declr-name-requires, declr-same-length-2, declr-returns-2, declr-slice-read-if2, declr-init-requires, declr-coded-requires, declr-same-length-3, declr-returns-3, declr-add-ident-at, declr-ident-at-requires, declr-add-over, declr-over-requires, declr-enum-known-m, declr-refused-requires, declr-enum-known-gone, declr-skip-requires, declr-same-length-4, declr-returns-4, declr-name-requires-2, declr-same-length-5, declr-returns-5, declr-same-length-6, declr-returns-6}
+use Rattle.walk.proofs.+after+arm+arms+arrow+assign+binds+block+body+call+case+catch+conds+decl+declr+fdecl+fexpr+forin+fors+full+func+ident+ifs+init+items+kids+logic+loops+many+name+own+params+parts+stmts+tail+tries+unary+whiles.Proof.Fdecl.{fdecl-calls, fdecl-declare-name-requires, fdecl-refused-requires, fdecl-same-length, fdecl-returns, fdecl-arity-at-requires, fdecl-cast-n, fdecl-add-result, fdecl-same-length-2, fdecl-returns-2, fdecl-add-skip, fdecl-skip-requires, fdecl-sub-func, fdecl-func-requires, fdecl-same-length-3, fdecl-returns-3}
+use Rattle.walk.proofs.+after+arm+arms+arrow+assign+binds+block+body+call+case+catch+conds+decl+declr+fdecl+fexpr+forin+fors+full+func+ident+ifs+init+items+kids+logic+loops+many+name+own+params+parts+stmts+tail+tries+unary+whiles.Proof.Fexpr.{fexpr-calls, fexpr-arity-at-requires, fexpr-cast-n, fexpr-form-at-requires, fexpr-add-func, fexpr-func-requires, fexpr-same-length, fexpr-returns, fexpr-write-name-requires, fexpr-refused-requires, fexpr-same-length-2, fexpr-returns-2, fexpr-add-result, fexpr-same-length-3, fexpr-returns-3, fexpr-add-skip, fexpr-skip-requires, fexpr-sub-func, fexpr-func-requires-2, fexpr-same-length-4, fexpr-returns-4}
+use Rattle.walk.proofs.+after+arm+arms+arrow+assign+binds+block+body+call+case+catch+conds+decl+declr+fdecl+fexpr+forin+fors+full+func+ident+ifs+init+items+kids+logic+loops+many+name+own+params+parts+stmts+tail+tries+unary+whiles.Proof.Forin.{forin-calls, forin-set-pat-mode-requires, forin-arity-at-requires, forin-cast-n, forin-add-result, forin-same-length, forin-returns, forin-add-full, forin-add-full-2, forin-full-requires, forin-next-requires, forin-enum-known-j, forin-enum-told, forin-same-length-2, forin-returns-2, forin-add-write-tree, forin-write-tree-requires, forin-refused-requires, forin-same-length-3, forin-returns-3, forin-sub-write-but-last, forin-write-but-last-requires, forin-refused-requires-2, forin-same-length-4, forin-returns-4, forin-add-loops, forin-sub-loops, forin-loops-requires, forin-same-length-5, forin-returns-5}
+use Rattle.walk.proofs.+after+arm+arms+arrow+assign+binds+block+body+call+case+catch+conds+decl+declr+fdecl+fexpr+forin+fors+full+func+ident+ifs+init+items+kids+logic+loops+many+name+own+params+parts+stmts+tail+tries+unary+whiles.Proof.Fors.{fors-calls, fors-write-kids-but-last-requires, fors-refused-requires, fors-same-length, fors-returns, fors-form-at-requires, fors-arity-at-requires, fors-cast-n, fors-add-loops, fors-add-loops-2, fors-loops-requires, fors-next-requires, fors-enum-known-j, fors-enum-told, fors-same-length-2, fors-returns-2, fors-store-barrier-requires, fors-same-length-3, fors-returns-3, fors-same-length-4, fors-returns-4}
+use Rattle.walk.proofs.+after+arm+arms+arrow+assign+binds+block+body+call+case+catch+conds+decl+declr+fdecl+fexpr+forin+fors+full+func+ident+ifs+init+items+kids+logic+loops+many+name+own+params+parts+stmts+tail+tries+unary+whiles.Proof.Full.{full-calls, full-refused-requires, full-returns, full-bare-requires, full-kind-at-requires, full-sub-ident, full-ident-requires, full-same-length, full-returns-2, full-add-result, full-same-length-2, full-returns-3, full-sub-own, full-own-requires, full-next-requires, full-enum-known-j, full-enum-told, full-same-length-3, full-returns-4, full-settled-requires, full-same-length-4, full-returns-5, full-sub-after, full-after-requires, full-same-length-5, full-returns-6}
+use Rattle.walk.proofs.+after+arm+arms+arrow+assign+binds+block+body+call+case+catch+conds+decl+declr+fdecl+fexpr+forin+fors+full+func+ident+ifs+init+items+kids+logic+loops+many+name+own+params+parts+stmts+tail+tries+unary+whiles.Proof.Func.{func-calls, func-slice-read-inl, func-slice-read-decl, func-slice-read-mode, func-slice-read-test, func-add-enter, func-enter-requires, func-refused-requires, func-same-length, func-returns, func-set-pat-mode-requires, func-add-params, func-params-requires, func-next-requires, func-enum-known-j, func-enum-told, func-same-length-2, func-returns-2, func-leave-requires, func-same-length-3, func-returns-3}
+use Rattle.walk.proofs.+after+arm+arms+arrow+assign+binds+block+body+call+case+catch+conds+decl+declr+fdecl+fexpr+forin+fors+full+func+ident+ifs+init+items+kids+logic+loops+many+name+own+params+parts+stmts+tail+tries+unary+whiles.Proof.Ident.{ident-calls, ident-constant-requires, ident-enum-known-at, ident-cast-inline-constant, ident-inline-constant-requires, ident-enum-told, ident-enum-told-2, ident-coded-requires, ident-same-length, ident-returns, ident-full-requires, ident-enum-told-3, ident-slice-read-if1, ident-ident-analysis-requires, ident-skip-requires, ident-same-length-2, ident-returns-2, ident-fate-requires, ident-enum-told-4, ident-skip-requires-2, ident-enum-told-5, ident-cast-inline-undefined, ident-inline-undefined-requires, ident-coded-requires-2, ident-enum-known-at-2, ident-cast-inline-value, ident-inline-value-requires, ident-enum-told-6, ident-enum-told-7, ident-coded-requires-3, ident-same-length-3, ident-returns-3, ident-logic-requires, ident-same-length-4, ident-returns-4, ident-same-length-5, ident-returns-5, ident-same-length-6, ident-returns-6, ident-same-length-7, ident-returns-7}
+use Rattle.walk.proofs.+after+arm+arms+arrow+assign+binds+block+body+call+case+catch+conds+decl+declr+fdecl+fexpr+forin+fors+full+func+ident+ifs+init+items+kids+logic+loops+many+name+own+params+parts+stmts+tail+tries+unary+whiles.Proof.Ifs.{ifs-calls, ifs-arity-at-requires, ifs-cast-n, ifs-add-result, ifs-same-length, ifs-returns, ifs-slice-read-old, ifs-set-in-test-requires, ifs-add-full, ifs-add-full-2, ifs-full-requires, ifs-next-requires, ifs-enum-known-j, ifs-enum-told, ifs-same-length-2, ifs-returns-2, ifs-set-in-test-requires-2, ifs-add-arms, ifs-sub-arms, ifs-arms-requires, ifs-same-length-3, ifs-returns-3}
+use Rattle.walk.proofs.+after+arm+arms+arrow+assign+binds+block+body+call+case+catch+conds+decl+declr+fdecl+fexpr+forin+fors+full+func+ident+ifs+init+items+kids+logic+loops+many+name+own+params+parts+stmts+tail+tries+unary+whiles.Proof.Init.{init-calls, init-slice-read-kind, init-name-requires, init-next-requires, init-same-length, init-returns, init-add-ident-at, init-ident-at-requires, init-add-skip, init-skip-requires, init-sub-stays, init-stays-requires, init-skip-requires-2, init-same-length-2, init-returns-2, init-declr-end-requires, init-same-length-3, init-returns-3, init-add-full, init-full-requires, init-next-requires-2, init-enum-told, init-enum-told-2, init-same-length-4, init-returns-4, init-skip-requires-3, init-sub-declr-end, init-declr-end-requires-2, init-same-length-5, init-returns-5}
+use Rattle.walk.proofs.+after+arm+arms+arrow+assign+binds+block+body+call+case+catch+conds+decl+declr+fdecl+fexpr+forin+fors+full+func+ident+ifs+init+items+kids+logic+loops+many+name+own+params+parts+stmts+tail+tries+unary+whiles.Proof.Items.{items-calls, items-form-at-requires, items-body-requires, items-same-length, items-returns, items-arity-at-requires, items-cast-n, items-add-result, items-same-length-2, items-returns-2, items-add-full, items-add-full-2, items-full-requires, items-next-requires, items-enum-known-j, items-enum-told, items-same-length-3, items-returns-3, items-add-stmts, items-sub-stmts, items-stmts-requires, items-same-length-4, items-returns-4}
 use Rattle.walk.proofs.+after+arm+arms+arrow+assign+binds+block+body+call+case+catch+conds+decl+declr+fdecl+fexpr+forin+fors+full+func+ident+ifs+init+items+kids+logic+loops+many+name+own+params+parts+stmts+tail+tries+unary+whiles.Proof.Kids.{kids-calls, kids-arity-at-requires, kids-cast-n, kids-add-many, kids-add-many-2, kids-many-requires, kids-same-length, kids-returns}
-use Rattle.walk.proofs.+after+arm+arms+arrow+assign+binds+block+body+call+case+catch+conds+decl+declr+fdecl+fexpr+forin+fors+full+func+ident+ifs+init+items+kids+logic+loops+many+name+own+params+parts+stmts+tail+tries+unary+whiles.Proof.Logic.{logic-calls, logic-kind-at-requires, logic-skip-requires, logic-same-length, logic-returns, logic-form-at-requires, logic-skip-requires-2, logic-same-length-2, logic-returns-2, logic-arity-at-requires, logic-cast-n, logic-add-t23, logic-same-length-3, logic-returns-3, logic-add-skip, logic-skip-requires-3, logic-add-conds, logic-sub-conds, logic-conds-requires, logic-same-length-4, logic-returns-4}
-use Rattle.walk.proofs.+after+arm+arms+arrow+assign+binds+block+body+call+case+catch+conds+decl+declr+fdecl+fexpr+forin+fors+full+func+ident+ifs+init+items+kids+logic+loops+many+name+own+params+parts+stmts+tail+tries+unary+whiles.Proof.Loops.{loops-calls, loops-returns, loops-sub-many, loops-many-requires, loops-enum-known-r, loops-enum-told, loops-same-length, loops-returns-2, loops-arm-requires, loops-same-length-2, loops-returns-3}
-use Rattle.walk.proofs.+after+arm+arms+arrow+assign+binds+block+body+call+case+catch+conds+decl+declr+fdecl+fexpr+forin+fors+full+func+ident+ifs+init+items+kids+logic+loops+many+name+own+params+parts+stmts+tail+tries+unary+whiles.Proof.Many.{many-calls, many-Inv-loop, many-μ-loop, many-loop-holds, many-full-requires, many-enum-known-r, many-enum-told, many-same-length, many-returns, many-add-k, many-loop-less, many-loop-again, many-same-length-2, many-returns-2}
-use Rattle.walk.proofs.+after+arm+arms+arrow+assign+binds+block+body+call+case+catch+conds+decl+declr+fdecl+fexpr+forin+fors+full+func+ident+ifs+init+items+kids+logic+loops+many+name+own+params+parts+stmts+tail+tries+unary+whiles.Proof.Name.{name-calls, name-add-t8, name-returns, name-add-full, name-add-full-2, name-full-requires, name-enum-told, name-enum-told-2, name-same-length, name-returns-2, name-skip-requires, name-same-length-2, name-returns-3}
+use Rattle.walk.proofs.+after+arm+arms+arrow+assign+binds+block+body+call+case+catch+conds+decl+declr+fdecl+fexpr+forin+fors+full+func+ident+ifs+init+items+kids+logic+loops+many+name+own+params+parts+stmts+tail+tries+unary+whiles.Proof.Logic.{logic-calls, logic-kind-at-requires, logic-skip-requires, logic-same-length, logic-returns, logic-form-at-requires, logic-skip-requires-2, logic-same-length-2, logic-returns-2, logic-arity-at-requires, logic-cast-n, logic-add-result, logic-same-length-3, logic-returns-3, logic-add-skip, logic-skip-requires-3, logic-add-conds, logic-sub-conds, logic-conds-requires, logic-same-length-4, logic-returns-4}
+use Rattle.walk.proofs.+after+arm+arms+arrow+assign+binds+block+body+call+case+catch+conds+decl+declr+fdecl+fexpr+forin+fors+full+func+ident+ifs+init+items+kids+logic+loops+many+name+own+params+parts+stmts+tail+tries+unary+whiles.Proof.Loops.{loops-calls, loops-returns, loops-sub-many, loops-many-requires, loops-next-requires, loops-enum-known-j, loops-enum-told, loops-same-length, loops-returns-2, loops-arm-requires, loops-same-length-2, loops-returns-3}
+use Rattle.walk.proofs.+after+arm+arms+arrow+assign+binds+block+body+call+case+catch+conds+decl+declr+fdecl+fexpr+forin+fors+full+func+ident+ifs+init+items+kids+logic+loops+many+name+own+params+parts+stmts+tail+tries+unary+whiles.Proof.Many.{many-calls, many-Inv-loop, many-μ-loop, many-loop-holds, many-full-requires, many-next-requires, many-enum-known-j, many-enum-told, many-same-length, many-returns, many-add-k, many-loop-less, many-loop-again, many-same-length-2, many-returns-2}
+use Rattle.walk.proofs.+after+arm+arms+arrow+assign+binds+block+body+call+case+catch+conds+decl+declr+fdecl+fexpr+forin+fors+full+func+ident+ifs+init+items+kids+logic+loops+many+name+own+params+parts+stmts+tail+tries+unary+whiles.Proof.Name.{name-calls, name-add-result, name-returns, name-add-full, name-add-full-2, name-full-requires, name-next-requires, name-enum-told, name-enum-told-2, name-same-length, name-returns-2, name-skip-requires, name-same-length-2, name-returns-3}
 use Rattle.walk.proofs.+after+arm+arms+arrow+assign+binds+block+body+call+case+catch+conds+decl+declr+fdecl+fexpr+forin+fors+full+func+ident+ifs+init+items+kids+logic+loops+many+name+own+params+parts+stmts+tail+tries+unary+whiles.Proof.Own.{own-calls, own-kind-at-requires, own-body-requires, own-block-requires, own-decl-requires, own-declr-requires, own-fdecl-requires, own-ifs-requires, own-fors-requires, own-tries-requires, own-catch-requires, own-case-requires, own-pats-requires, own-unary-requires, own-update-requires, own-assign-requires, own-call-requires, own-call-requires-2, own-fexpr-requires, own-arrow-requires, own-whiles-requires, own-forin-requires, own-kids-requires, own-same-length, own-returns, own-same-length-2, own-returns-2, own-same-length-3, own-returns-3, own-same-length-4, own-returns-4, own-same-length-5, own-returns-5, own-same-length-6, own-returns-6, own-same-length-7, own-returns-7, own-same-length-8, own-returns-8, own-same-length-9, own-returns-9, own-same-length-10, own-returns-10, own-same-length-11, own-returns-11, own-same-length-12, own-returns-12, own-same-length-13, own-returns-13, own-same-length-14, own-returns-14, own-same-length-15, own-returns-15, own-same-length-16, own-returns-16, own-same-length-17, own-returns-17, own-same-length-18, own-returns-18, own-same-length-19, own-returns-19, own-same-length-20, own-returns-20, own-same-length-21, own-returns-21}
-use Rattle.walk.proofs.+after+arm+arms+arrow+assign+binds+block+body+call+case+catch+conds+decl+declr+fdecl+fexpr+forin+fors+full+func+ident+ifs+init+items+kids+logic+loops+many+name+own+params+parts+stmts+tail+tries+unary+whiles.Proof.Params.{params-calls, params-returns, params-sub-many, params-many-requires, params-enum-known-r, params-enum-told, params-same-length, params-returns-2, params-same-length-2, params-returns-3, params-sub-body, params-body-requires, params-same-length-3, params-returns-4}
-use Rattle.walk.proofs.+after+arm+arms+arrow+assign+binds+block+body+call+case+catch+conds+decl+declr+fdecl+fexpr+forin+fors+full+func+ident+ifs+init+items+kids+logic+loops+many+name+own+params+parts+stmts+tail+tries+unary+whiles.Proof.Parts.{parts-calls, parts-Inv-loop, parts-μ-loop, parts-loop-holds, parts-kind-at-requires, parts-skip-requires, parts-add-k, parts-loop-less, parts-loop-again, parts-full-requires, parts-enum-known-r, parts-enum-told, parts-same-length, parts-returns, parts-add-k-2, parts-loop-less-2, parts-loop-again-2, parts-same-length-2, parts-returns-2}
-use Rattle.walk.proofs.+after+arm+arms+arrow+assign+binds+block+body+call+case+catch+conds+decl+declr+fdecl+fexpr+forin+fors+full+func+ident+ifs+init+items+kids+logic+loops+many+name+own+params+parts+stmts+tail+tries+unary+whiles.Proof.Stmts.{stmts-calls, stmts-slice-read-if1, stmts-many-requires, stmts-same-length, stmts-returns, stmts-set-inlining-requires, stmts-many-requires-2, stmts-enum-told, stmts-enum-told-2, stmts-same-length-2, stmts-returns-2, stmts-set-inlining-requires-2, stmts-many-requires-3, stmts-same-length-3, stmts-returns-3}
+use Rattle.walk.proofs.+after+arm+arms+arrow+assign+binds+block+body+call+case+catch+conds+decl+declr+fdecl+fexpr+forin+fors+full+func+ident+ifs+init+items+kids+logic+loops+many+name+own+params+parts+stmts+tail+tries+unary+whiles.Proof.Params.{params-calls, params-returns, params-sub-many, params-many-requires, params-next-requires, params-enum-known-j, params-enum-told, params-same-length, params-returns-2, params-refused-requires, params-same-length-2, params-returns-3, params-sub-body, params-body-requires, params-same-length-3, params-returns-4}
+use Rattle.walk.proofs.+after+arm+arms+arrow+assign+binds+block+body+call+case+catch+conds+decl+declr+fdecl+fexpr+forin+fors+full+func+ident+ifs+init+items+kids+logic+loops+many+name+own+params+parts+stmts+tail+tries+unary+whiles.Proof.Parts.{parts-calls, parts-Inv-loop, parts-μ-loop, parts-loop-holds, parts-kind-at-requires, parts-skip-requires, parts-add-k, parts-loop-less, parts-loop-again, parts-full-requires, parts-next-requires, parts-enum-known-j, parts-enum-told, parts-same-length, parts-returns, parts-add-k-2, parts-loop-less-2, parts-loop-again-2, parts-same-length-2, parts-returns-2}
+use Rattle.walk.proofs.+after+arm+arms+arrow+assign+binds+block+body+call+case+catch+conds+decl+declr+fdecl+fexpr+forin+fors+full+func+ident+ifs+init+items+kids+logic+loops+many+name+own+params+parts+stmts+tail+tries+unary+whiles.Proof.Stmts.{stmts-calls, stmts-slice-read-if1, stmts-many-requires, stmts-same-length, stmts-returns, stmts-set-inlining-requires, stmts-many-requires-2, stmts-next-requires, stmts-enum-told, stmts-enum-told-2, stmts-same-length-2, stmts-returns-2, stmts-set-inlining-requires-2, stmts-many-requires-3, stmts-same-length-3, stmts-returns-3}
 use Rattle.walk.proofs.+after+arm+arms+arrow+assign+binds+block+body+call+case+catch+conds+decl+declr+fdecl+fexpr+forin+fors+full+func+ident+ifs+init+items+kids+logic+loops+many+name+own+params+parts+stmts+tail+tries+unary+whiles.Proof.Tail.{tail-calls, tail-returns, tail-skip-requires, tail-sub-many, tail-many-requires, tail-same-length, tail-returns-2}
-use Rattle.walk.proofs.+after+arm+arms+arrow+assign+binds+block+body+call+case+catch+conds+decl+declr+fdecl+fexpr+forin+fors+full+func+ident+ifs+init+items+kids+logic+loops+many+name+own+params+parts+stmts+tail+tries+unary+whiles.Proof.Tries.{tries-calls, tries-arity-at-requires, tries-cast-n, tries-add-t12, tries-same-length, tries-returns, tries-add-write-tree, tries-write-tree-requires, tries-same-length-2, tries-returns-2, tries-add-skip, tries-skip-requires, tries-add-parts, tries-sub-parts, tries-parts-requires, tries-same-length-3, tries-returns-3}
+use Rattle.walk.proofs.+after+arm+arms+arrow+assign+binds+block+body+call+case+catch+conds+decl+declr+fdecl+fexpr+forin+fors+full+func+ident+ifs+init+items+kids+logic+loops+many+name+own+params+parts+stmts+tail+tries+unary+whiles.Proof.Tries.{tries-calls, tries-arity-at-requires, tries-cast-n, tries-add-result, tries-same-length, tries-returns, tries-add-write-tree, tries-write-tree-requires, tries-refused-requires, tries-same-length-2, tries-returns-2, tries-add-skip, tries-skip-requires, tries-add-parts, tries-sub-parts, tries-parts-requires, tries-same-length-3, tries-returns-3}
 use Rattle.walk.proofs.+after+arm+arms+arrow+assign+binds+block+body+call+case+catch+conds+decl+declr+fdecl+fexpr+forin+fors+full+func+ident+ifs+init+items+kids+logic+loops+many+name+own+params+parts+stmts+tail+tries+unary+whiles.Proof.Unary.{unary-calls, unary-form-at-requires, unary-kids-requires, unary-same-length, unary-returns, unary-update-requires, unary-same-length-2, unary-returns-2}
-use Rattle.walk.proofs.+after+arm+arms+arrow+assign+binds+block+body+call+case+catch+conds+decl+declr+fdecl+fexpr+forin+fors+full+func+ident+ifs+init+items+kids+logic+loops+many+name+own+params+parts+stmts+tail+tries+unary+whiles.Proof.Whiles.{whiles-calls, whiles-write-kids-but-last-requires, whiles-same-length, whiles-returns, whiles-arity-at-requires, whiles-cast-n, whiles-add-loops, whiles-add-loops-2, whiles-loops-requires, whiles-same-length-2, whiles-returns-2}
+use Rattle.walk.proofs.+after+arm+arms+arrow+assign+binds+block+body+call+case+catch+conds+decl+declr+fdecl+fexpr+forin+fors+full+func+ident+ifs+init+items+kids+logic+loops+many+name+own+params+parts+stmts+tail+tries+unary+whiles.Proof.Whiles.{whiles-calls, whiles-write-kids-but-last-requires, whiles-refused-requires, whiles-same-length, whiles-returns, whiles-arity-at-requires, whiles-cast-n, whiles-add-loops, whiles-add-loops-2, whiles-loops-requires, whiles-same-length-2, whiles-returns-2}
 
 pub +after+arm+arms+arrow+assign+binds+block+body+call+case+catch+conds+decl+declr+fdecl+fexpr+forin+fors+full+func+ident+ifs+init+items+kids+logic+loops+many+name+own+params+parts+stmts+tail+tries+unary+whiles-spec :
     {M : Type 1} → statement M
@@ -217,6 +217,7 @@ pub +after+arm+arms+arrow+assign+binds+block+body+call+case+catch+conds+decl+dec
     (after-returns-5 t)
     (after-cast-after-assign t)
     (after-after-assign-requires t)
+    (after-coded-requires t)
     (after-same-length-6 t)
     (after-returns-6 t))
     (λ t. arm-lts.spec (arm-calls t)
@@ -227,13 +228,16 @@ pub +after+arm+arms+arrow+assign+binds+block+body+call+case+catch+conds+decl+dec
     (arm-slice-read-mode t)
     (arm-slice-read-test t)
     (arm-enter-requires t)
+    (arm-refused-requires t)
     (arm-same-length t)
     (arm-returns t)
+    (arm-refused-requires-2 t)
     (arm-same-length-2 t)
     (arm-returns-2 t)
     (arm-sub-own t)
     (arm-own-requires t)
-    (arm-enum-known-r t)
+    (arm-next-requires t)
+    (arm-enum-known-j t)
     (arm-enum-told t)
     (arm-same-length-3 t)
     (arm-returns-3 t)
@@ -247,7 +251,8 @@ pub +after+arm+arms+arrow+assign+binds+block+body+call+case+catch+conds+decl+dec
     arms-μ-loop
     (arms-loop-holds t)
     (arms-arm-requires t)
-    (arms-enum-known-r t)
+    (arms-next-requires t)
+    (arms-enum-known-j t)
     (arms-enum-told t)
     (arms-same-length t)
     (arms-returns t)
@@ -264,10 +269,12 @@ pub +after+arm+arms+arrow+assign+binds+block+body+call+case+catch+conds+decl+dec
     (arrow-slice-read-mode t)
     (arrow-slice-read-test t)
     (arrow-enter-requires t)
+    (arrow-refused-requires t)
     (arrow-same-length t)
     (arrow-returns t)
     (arrow-kids-requires t)
-    (arrow-enum-known-r t)
+    (arrow-next-requires t)
+    (arrow-enum-known-j t)
     (arrow-enum-told t)
     (arrow-same-length-2 t)
     (arrow-returns-2 t)
@@ -283,17 +290,20 @@ pub +after+arm+arms+arrow+assign+binds+block+body+call+case+catch+conds+decl+dec
     (assign-cast-n t)
     (assign-add-assign-first t)
     (assign-assign-first-requires t)
+    (assign-refused-requires t)
     (assign-same-length t)
     (assign-returns t)
     (assign-add-tail t)
     (assign-add-tail-2 t)
     (assign-tail-requires t)
-    (assign-enum-known-r t)
+    (assign-next-requires t)
+    (assign-enum-known-j t)
     (assign-enum-told t)
     (assign-same-length-2 t)
     (assign-returns-2 t)
     (assign-add-assign-last t)
     (assign-assign-last-requires t)
+    (assign-refused-requires-2 t)
     (assign-same-length-3 t)
     (assign-returns-3 t)
     (assign-same-length-4 t)
@@ -307,7 +317,8 @@ pub +after+arm+arms+arrow+assign+binds+block+body+call+case+catch+conds+decl+dec
     (binds-kind-at-requires t)
     (binds-num-at-requires t)
     (binds-full-requires t)
-    (binds-enum-known-r t)
+    (binds-next-requires t)
+    (binds-enum-known-j t)
     (binds-enum-told t)
     (binds-same-length t)
     (binds-returns t)
@@ -325,10 +336,12 @@ pub +after+arm+arms+arrow+assign+binds+block+body+call+case+catch+conds+decl+dec
     (block-slice-read-mode t)
     (block-slice-read-test t)
     (block-enter-requires t)
+    (block-refused-requires t)
     (block-same-length t)
     (block-returns t)
     (block-body-requires t)
-    (block-enum-known-r t)
+    (block-next-requires t)
+    (block-enum-known-j t)
     (block-enum-told t)
     (block-same-length-2 t)
     (block-returns-2 t)
@@ -351,13 +364,14 @@ pub +after+arm+arms+arrow+assign+binds+block+body+call+case+catch+conds+decl+dec
     (call-arity-at-requires t)
     (call-cast-n t)
     (call-store-barrier-requires t)
-    (call-add-t19 t)
+    (call-add-result t)
     (call-same-length t)
     (call-returns t)
     (call-add-full t)
     (call-add-full-2 t)
     (call-full-requires t)
-    (call-enum-known-r t)
+    (call-next-requires t)
+    (call-enum-known-j t)
     (call-enum-told t)
     (call-same-length-2 t)
     (call-returns-2 t)
@@ -365,12 +379,14 @@ pub +after+arm+arms+arrow+assign+binds+block+body+call+case+catch+conds+decl+dec
     (call-mark-callee-requires t)
     (call-sub-write-args t)
     (call-write-args-requires t)
+    (call-refused-requires t)
     (call-same-length-3 t)
     (call-returns-3 t)
     (call-add-many t)
     (call-sub-many t)
     (call-many-requires t)
-    (call-enum-known-s t)
+    (call-next-requires-2 t)
+    (call-enum-known-end t)
     (call-enum-told-2 t)
     (call-same-length-4 t)
     (call-returns-4 t)
@@ -385,10 +401,12 @@ pub +after+arm+arms+arrow+assign+binds+block+body+call+case+catch+conds+decl+dec
     (case-slice-read-mode t)
     (case-slice-read-test t)
     (case-enter-requires t)
+    (case-refused-requires t)
     (case-same-length t)
     (case-returns t)
     (case-items-requires t)
-    (case-enum-known-r t)
+    (case-next-requires t)
+    (case-enum-known-j t)
     (case-enum-told t)
     (case-same-length-2 t)
     (case-returns-2 t)
@@ -403,26 +421,29 @@ pub +after+arm+arms+arrow+assign+binds+block+body+call+case+catch+conds+decl+dec
     (catch-slice-read-mode t)
     (catch-slice-read-test t)
     (catch-enter-requires t)
+    (catch-refused-requires t)
     (catch-same-length t)
     (catch-returns t)
     (catch-set-pat-mode-requires t)
     (catch-arity-at-requires t)
     (catch-cast-n t)
     (catch-leave-requires t)
-    (catch-add-t31 t)
+    (catch-add-result t)
     (catch-same-length-2 t)
     (catch-returns-2 t)
     (catch-add-binds t)
     (catch-sub-binds t)
     (catch-add-binds-2 t)
     (catch-binds-requires t)
-    (catch-enum-known-r t)
+    (catch-next-requires t)
+    (catch-enum-known-j t)
     (catch-enum-told t)
     (catch-same-length-3 t)
     (catch-returns-3 t)
     (catch-add-full t)
     (catch-full-requires t)
-    (catch-enum-known-s t)
+    (catch-next-requires-2 t)
+    (catch-enum-known-end t)
     (catch-enum-told-2 t)
     (catch-same-length-4 t)
     (catch-returns-4 t)
@@ -437,10 +458,12 @@ pub +after+arm+arms+arrow+assign+binds+block+body+call+case+catch+conds+decl+dec
     (conds-loop-holds t)
     (conds-slice-read-old t)
     (conds-deeper-requires t)
+    (conds-refused-requires t)
     (conds-same-length t)
     (conds-returns t)
     (conds-arm-requires t)
-    (conds-enum-known-r t)
+    (conds-next-requires t)
+    (conds-enum-known-j t)
     (conds-enum-told t)
     (conds-same-length-2 t)
     (conds-returns-2 t)
@@ -467,6 +490,7 @@ pub +after+arm+arms+arrow+assign+binds+block+body+call+case+catch+conds+decl+dec
     (declr-add-tail t)
     (declr-add-tail-2 t)
     (declr-tail-requires t)
+    (declr-next-requires t)
     (declr-enum-told t)
     (declr-enum-told-2 t)
     (declr-same-length t)
@@ -479,6 +503,7 @@ pub +after+arm+arms+arrow+assign+binds+block+body+call+case+catch+conds+decl+dec
     (declr-returns-2 t)
     (declr-slice-read-if2 t)
     (declr-init-requires t)
+    (declr-coded-requires t)
     (declr-same-length-3 t)
     (declr-returns-3 t)
     (declr-add-ident-at t)
@@ -486,6 +511,7 @@ pub +after+arm+arms+arrow+assign+binds+block+body+call+case+catch+conds+decl+dec
     (declr-add-over t)
     (declr-over-requires t)
     (declr-enum-known-m t)
+    (declr-refused-requires t)
     (declr-enum-known-gone t)
     (declr-skip-requires t)
     (declr-same-length-4 t)
@@ -499,11 +525,12 @@ pub +after+arm+arms+arrow+assign+binds+block+body+call+case+catch+conds+decl+dec
     (fdecl-at t)
     fdecl.Post
     (fdecl-declare-name-requires t)
+    (fdecl-refused-requires t)
     (fdecl-same-length t)
     (fdecl-returns t)
     (fdecl-arity-at-requires t)
     (fdecl-cast-n t)
-    (fdecl-add-t14 t)
+    (fdecl-add-result t)
     (fdecl-same-length-2 t)
     (fdecl-returns-2 t)
     (fdecl-add-skip t)
@@ -523,9 +550,10 @@ pub +after+arm+arms+arrow+assign+binds+block+body+call+case+catch+conds+decl+dec
     (fexpr-same-length t)
     (fexpr-returns t)
     (fexpr-write-name-requires t)
+    (fexpr-refused-requires t)
     (fexpr-same-length-2 t)
     (fexpr-returns-2 t)
-    (fexpr-add-t20 t)
+    (fexpr-add-result t)
     (fexpr-same-length-3 t)
     (fexpr-returns-3 t)
     (fexpr-add-skip t)
@@ -540,22 +568,25 @@ pub +after+arm+arms+arrow+assign+binds+block+body+call+case+catch+conds+decl+dec
     (forin-set-pat-mode-requires t)
     (forin-arity-at-requires t)
     (forin-cast-n t)
-    (forin-add-t17 t)
+    (forin-add-result t)
     (forin-same-length t)
     (forin-returns t)
     (forin-add-full t)
     (forin-add-full-2 t)
     (forin-full-requires t)
-    (forin-enum-known-r t)
+    (forin-next-requires t)
+    (forin-enum-known-j t)
     (forin-enum-told t)
     (forin-same-length-2 t)
     (forin-returns-2 t)
     (forin-add-write-tree t)
     (forin-write-tree-requires t)
+    (forin-refused-requires t)
     (forin-same-length-3 t)
     (forin-returns-3 t)
     (forin-sub-write-but-last t)
     (forin-write-but-last-requires t)
+    (forin-refused-requires-2 t)
     (forin-same-length-4 t)
     (forin-returns-4 t)
     (forin-add-loops t)
@@ -567,6 +598,7 @@ pub +after+arm+arms+arrow+assign+binds+block+body+call+case+catch+conds+decl+dec
     (fors-at t)
     fors.Post
     (fors-write-kids-but-last-requires t)
+    (fors-refused-requires t)
     (fors-same-length t)
     (fors-returns t)
     (fors-form-at-requires t)
@@ -575,7 +607,8 @@ pub +after+arm+arms+arrow+assign+binds+block+body+call+case+catch+conds+decl+dec
     (fors-add-loops t)
     (fors-add-loops-2 t)
     (fors-loops-requires t)
-    (fors-enum-known-r t)
+    (fors-next-requires t)
+    (fors-enum-known-j t)
     (fors-enum-told t)
     (fors-same-length-2 t)
     (fors-returns-2 t)
@@ -587,17 +620,31 @@ pub +after+arm+arms+arrow+assign+binds+block+body+call+case+catch+conds+decl+dec
     (λ t. full-lts.spec (full-calls t)
     (full-at t)
     full.Post
+    (full-refused-requires t)
     (full-returns t)
-    (full-sub-own t)
-    (full-own-requires t)
-    (full-enum-known-r t)
-    (full-enum-told t)
+    (full-bare-requires t)
+    (full-kind-at-requires t)
+    (full-sub-ident t)
+    (full-ident-requires t)
     (full-same-length t)
     (full-returns-2 t)
+    (full-add-result t)
+    (full-same-length-2 t)
+    (full-returns-3 t)
+    (full-sub-own t)
+    (full-own-requires t)
+    (full-next-requires t)
+    (full-enum-known-j t)
+    (full-enum-told t)
+    (full-same-length-3 t)
+    (full-returns-4 t)
+    (full-settled-requires t)
+    (full-same-length-4 t)
+    (full-returns-5 t)
     (full-sub-after t)
     (full-after-requires t)
-    (full-same-length-2 t)
-    (full-returns-3 t))
+    (full-same-length-5 t)
+    (full-returns-6 t))
     (λ t. func-lts.spec (func-calls t)
     (func-at t)
     func.Post
@@ -607,12 +654,14 @@ pub +after+arm+arms+arrow+assign+binds+block+body+call+case+catch+conds+decl+dec
     (func-slice-read-test t)
     (func-add-enter t)
     (func-enter-requires t)
+    (func-refused-requires t)
     (func-same-length t)
     (func-returns t)
     (func-set-pat-mode-requires t)
     (func-add-params t)
     (func-params-requires t)
-    (func-enum-known-r t)
+    (func-next-requires t)
+    (func-enum-known-j t)
     (func-enum-told t)
     (func-same-length-2 t)
     (func-returns-2 t)
@@ -628,6 +677,7 @@ pub +after+arm+arms+arrow+assign+binds+block+body+call+case+catch+conds+decl+dec
     (ident-inline-constant-requires t)
     (ident-enum-told t)
     (ident-enum-told-2 t)
+    (ident-coded-requires t)
     (ident-same-length t)
     (ident-returns t)
     (ident-full-requires t)
@@ -643,11 +693,13 @@ pub +after+arm+arms+arrow+assign+binds+block+body+call+case+catch+conds+decl+dec
     (ident-enum-told-5 t)
     (ident-cast-inline-undefined t)
     (ident-inline-undefined-requires t)
+    (ident-coded-requires-2 t)
     (ident-enum-known-at-2 t)
     (ident-cast-inline-value t)
     (ident-inline-value-requires t)
     (ident-enum-told-6 t)
     (ident-enum-told-7 t)
+    (ident-coded-requires-3 t)
     (ident-same-length-3 t)
     (ident-returns-3 t)
     (ident-logic-requires t)
@@ -664,7 +716,7 @@ pub +after+arm+arms+arrow+assign+binds+block+body+call+case+catch+conds+decl+dec
     ifs.Post
     (ifs-arity-at-requires t)
     (ifs-cast-n t)
-    (ifs-add-t13 t)
+    (ifs-add-result t)
     (ifs-same-length t)
     (ifs-returns t)
     (ifs-slice-read-old t)
@@ -672,7 +724,8 @@ pub +after+arm+arms+arrow+assign+binds+block+body+call+case+catch+conds+decl+dec
     (ifs-add-full t)
     (ifs-add-full-2 t)
     (ifs-full-requires t)
-    (ifs-enum-known-r t)
+    (ifs-next-requires t)
+    (ifs-enum-known-j t)
     (ifs-enum-told t)
     (ifs-same-length-2 t)
     (ifs-returns-2 t)
@@ -687,6 +740,7 @@ pub +after+arm+arms+arrow+assign+binds+block+body+call+case+catch+conds+decl+dec
     init.Post
     (init-slice-read-kind t)
     (init-name-requires t)
+    (init-next-requires t)
     (init-same-length t)
     (init-returns t)
     (init-add-ident-at t)
@@ -703,6 +757,7 @@ pub +after+arm+arms+arrow+assign+binds+block+body+call+case+catch+conds+decl+dec
     (init-returns-3 t)
     (init-add-full t)
     (init-full-requires t)
+    (init-next-requires-2 t)
     (init-enum-told t)
     (init-enum-told-2 t)
     (init-same-length-4 t)
@@ -721,13 +776,14 @@ pub +after+arm+arms+arrow+assign+binds+block+body+call+case+catch+conds+decl+dec
     (items-returns t)
     (items-arity-at-requires t)
     (items-cast-n t)
-    (items-add-t17 t)
+    (items-add-result t)
     (items-same-length-2 t)
     (items-returns-2 t)
     (items-add-full t)
     (items-add-full-2 t)
     (items-full-requires t)
-    (items-enum-known-r t)
+    (items-next-requires t)
+    (items-enum-known-j t)
     (items-enum-told t)
     (items-same-length-3 t)
     (items-returns-3 t)
@@ -759,7 +815,7 @@ pub +after+arm+arms+arrow+assign+binds+block+body+call+case+catch+conds+decl+dec
     (logic-returns-2 t)
     (logic-arity-at-requires t)
     (logic-cast-n t)
-    (logic-add-t23 t)
+    (logic-add-result t)
     (logic-same-length-3 t)
     (logic-returns-3 t)
     (logic-add-skip t)
@@ -775,7 +831,8 @@ pub +after+arm+arms+arrow+assign+binds+block+body+call+case+catch+conds+decl+dec
     (loops-returns t)
     (loops-sub-many t)
     (loops-many-requires t)
-    (loops-enum-known-r t)
+    (loops-next-requires t)
+    (loops-enum-known-j t)
     (loops-enum-told t)
     (loops-same-length t)
     (loops-returns-2 t)
@@ -789,7 +846,8 @@ pub +after+arm+arms+arrow+assign+binds+block+body+call+case+catch+conds+decl+dec
     many-μ-loop
     (many-loop-holds t)
     (many-full-requires t)
-    (many-enum-known-r t)
+    (many-next-requires t)
+    (many-enum-known-j t)
     (many-enum-told t)
     (many-same-length t)
     (many-returns t)
@@ -801,11 +859,12 @@ pub +after+arm+arms+arrow+assign+binds+block+body+call+case+catch+conds+decl+dec
     (λ t. name-lts.spec (name-calls t)
     (name-at t)
     name.Post
-    (name-add-t8 t)
+    (name-add-result t)
     (name-returns t)
     (name-add-full t)
     (name-add-full-2 t)
     (name-full-requires t)
+    (name-next-requires t)
     (name-enum-told t)
     (name-enum-told-2 t)
     (name-same-length t)
@@ -886,10 +945,12 @@ pub +after+arm+arms+arrow+assign+binds+block+body+call+case+catch+conds+decl+dec
     (params-returns t)
     (params-sub-many t)
     (params-many-requires t)
-    (params-enum-known-r t)
+    (params-next-requires t)
+    (params-enum-known-j t)
     (params-enum-told t)
     (params-same-length t)
     (params-returns-2 t)
+    (params-refused-requires t)
     (params-same-length-2 t)
     (params-returns-3 t)
     (params-sub-body t)
@@ -908,7 +969,8 @@ pub +after+arm+arms+arrow+assign+binds+block+body+call+case+catch+conds+decl+dec
     (parts-loop-less t)
     (parts-loop-again t)
     (parts-full-requires t)
-    (parts-enum-known-r t)
+    (parts-next-requires t)
+    (parts-enum-known-j t)
     (parts-enum-told t)
     (parts-same-length t)
     (parts-returns t)
@@ -926,6 +988,7 @@ pub +after+arm+arms+arrow+assign+binds+block+body+call+case+catch+conds+decl+dec
     (stmts-returns t)
     (stmts-set-inlining-requires t)
     (stmts-many-requires-2 t)
+    (stmts-next-requires t)
     (stmts-enum-told t)
     (stmts-enum-told-2 t)
     (stmts-same-length-2 t)
@@ -948,11 +1011,12 @@ pub +after+arm+arms+arrow+assign+binds+block+body+call+case+catch+conds+decl+dec
     tries.Post
     (tries-arity-at-requires t)
     (tries-cast-n t)
-    (tries-add-t12 t)
+    (tries-add-result t)
     (tries-same-length t)
     (tries-returns t)
     (tries-add-write-tree t)
     (tries-write-tree-requires t)
+    (tries-refused-requires t)
     (tries-same-length-2 t)
     (tries-returns-2 t)
     (tries-add-skip t)
@@ -976,6 +1040,7 @@ pub +after+arm+arms+arrow+assign+binds+block+body+call+case+catch+conds+decl+dec
     (whiles-at t)
     whiles.Post
     (whiles-write-kids-but-last-requires t)
+    (whiles-refused-requires t)
     (whiles-same-length t)
     (whiles-returns t)
     (whiles-arity-at-requires t)

@@ -1,26 +1,32 @@
 -- `pats` meets its contract: the step, then past the tree. Assumes nothing.
-use borrow.Author.Needs.{needs}
+use mathlib.Core.Path.{sym}
 use Rattle.definition.specs.Walk.{when, isBind, patBy}
 use Rattle.flat.specs.WalkF.{visitMutPatF}
 use Rattle.walk_laws.proofs.Laws as laws
 use Rattle.walk_laws.proofs.Heres as heres
 use Rattle.walk_laws.proofs.Ways as ways
+use Rattle.walk_laws.proofs.Codes as codes
+use borrow.Author.Needs.{needs}
 use Rattle.walk.proofs.pats.Statement.{statement}
 use Rattle.walk.proofs.pats.Tie as tie
 use Rattle.walk.proofs.pats.Reads as reads
 use Rattle.walk.proofs.pats.Lts as lts
-use Rattle.write_steps.proofs.declared.pat_step.Reads as pat-step-reads
 use Rattle.nodes.proofs.skip.Reads as skip-reads
+use Rattle.walk.proofs.answer.refused.Reads as refused-reads
+use Rattle.write_steps.proofs.declared.pat_step.Reads as pat-step-reads
 
 pat-step-requires : tie.Need-pat-step-requires
 pat-step-requires c κs = heres.at-skip (c .before .before .pre)
+
+refused-requires : tie.Need-refused-requires
+refused-requires c κs = search needs
 
 same-length : tie.Need-same-length
 same-length c = search needs
 
 returns : tie.Need-returns
 unfolding visitMutPatF
-returns c = laws.act-stop _ (c .if1 .taken) (c .before .before .before .pat-step .ensures)
+returns c = ways.did-as (sym (c .refused .ensures)) (laws.act-stop _ (c .before .if1 .taken) (c .before .before .before .before .pat-step .ensures))
 
 skip-requires : tie.Need-skip-requires
 skip-requires c κs = heres.at-skip (heres.here-tree (λ t s. when (isBind t) (patBy (s .patMode) t) s) (c .before .before .before .before .before .before .before .args .i) (c .before .if1 .left) (c .before .before .before .before .pat-step .ensures) (c .before .before .before .before .before .before .before .pre))
@@ -30,9 +36,16 @@ same-length-2 c = search needs
 
 returns-2 : tie.Need-returns-2
 unfolding visitMutPatF
-returns-2 c = laws.act-then _ (c .before .before .if1 .left) (c .before .before .before .before .before .pat-step .ensures) (ways.did-skip (c .before .before .before .before .before .before .before .before .args .i) (c .before .before .before .before .before .pat-step .ensures .ok .planted) (c .skip .ensures .0))
+returns-2 c = codes.did-at (codes.low-end (c .before .before .before .before .before .pat-step .ensures .ok .planted) (c .skip .ensures .2)) (laws.act-then _ (c .before .before .if1 .left) (c .before .before .before .before .before .pat-step .ensures) (ways.did-skip (c .before .before .before .before .before .before .before .before .args .i) (c .before .before .before .before .before .pat-step .ensures .ok .planted) (c .skip .ensures .0)))
 
 pub pats-spec : {M : Type 1} → statement M
 pats-spec =
     tie.close
-    (tie.spec pat-step-requires same-length returns skip-requires same-length-2 returns-2)
+    (tie.spec
+    pat-step-requires
+    refused-requires
+    same-length
+    returns
+    skip-requires
+    same-length-2
+    returns-2)

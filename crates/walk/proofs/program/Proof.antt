@@ -1,20 +1,26 @@
--- `program` meets its contract: the script's own handler at depth 1. Assumes nothing.
+-- `program` meets its contract: the script's own handler at depth 1, and its answer. Assumes nothing.
+use mathlib.Core.Path.{sym}
 use borrow.Author.Needs.{needs}
 use Rattle.walk_laws.proofs.Heres as heres
+use Rattle.walk_laws.proofs.Ways as ways
 use Rattle.walk.proofs.program.Statement.{statement}
 use Rattle.walk.proofs.program.Tie as tie
 use Rattle.walk.proofs.program.Reads as reads
 use Rattle.walk.proofs.program.Lts as lts
 use Rattle.walk.proofs.own.Reads as own-reads
+use Rattle.walk.proofs.answer.next.Reads as next-reads
 
 own-requires : tie.Need-own-requires
 own-requires c κs = heres.here-root (c .before .before .pre)
+
+next-requires : tie.Need-next-requires
+next-requires c κs = tt
 
 same-length : tie.Need-same-length
 same-length c = search needs
 
 returns : tie.Need-returns
-returns c = search needs
+returns c = ways.did-as (sym (c .next .ensures .0)) (c .before .before .before .own .ensures)
 
 pub program-spec : {M : Type 1} → statement M
-program-spec = tie.close (tie.spec own-requires same-length returns)
+program-spec = tie.close (tie.spec own-requires next-requires same-length returns)

@@ -9,17 +9,20 @@ use Rattle.definition.specs.Scope.{cond as vCond, loop as vLoop, block as vBloc
 use Rattle.definition.specs.Walk.{opening, restore, deeper, shallower, modify, setVarDeclKind, setPatMode, asParam, asCatch, assigning, declKindOf, writeTree, writeForest, butLast, when, mark, assignFirst, assignLast, storeInlineBarrierM, declareName, writeName, handlers, hPlain, hScript, hBlock, hDecl, hDeclr, hFun, hIf, hWhile, hFor, hForIn, hTry, hCatch, hCase, hPat, hUnary, hUpdate, hAssign, hCall, hNew, hFunExpr, hArrow}
 use Rattle.flat.specs.WalkF.{walksF, inCondF, visitMutStmtsF, plainF, visitMutBlockStmtF, scriptF, visitWithChildF, visitMutVarDeclF, visitMutFunctionF, visitMutFnDeclF, visitMutFnExprF, visitMutArrowExprF, testedF, visitMutIfStmtF, visitMutWhileStmtF, visitMutForStmtF, visitMutForInStmtF, visitMutTryStmtF, catchParamF, visitMutCatchClauseF, visitMutSwitchCaseF, visitMutUnaryExprF, visitMutUpdateExprF, visitMutCallExprF, visitMutAssignExprF, assignKidsF, handleF, ownF, logicalF, afterF}
 use Rattle.walk_laws.specs.Did.{Did, clauseF, clausesF, caughtF, itemsF}
+use Rattle.walk_laws.proofs.Codes as codes
 use Rattle.walk_laws.proofs.Heres as heres
 use Rattle.walk_laws.proofs.Ways as ways
 use Rattle.ident_steps.proofs.enter.Reads as enter-reads
 use Rattle.ident_steps.proofs.leave.Reads as leave-reads
 use Rattle.walk.proofs.+after+arm+arms+arrow+assign+binds+block+body+call+case+catch+conds+decl+declr+fdecl+fexpr+forin+fors+full+func+ident+ifs+init+items+kids+logic+loops+many+name+own+params+parts+stmts+tail+tries+unary+whiles.Lts-case as case-lts
+use Rattle.walk.proofs.answer.next.Reads as next-reads
+use Rattle.walk.proofs.answer.refused.Reads as refused-reads
 use Rattle.walk.proofs.case.Reads as case
 use Rattle.walk.proofs.items.Reads as items
 use Rattle.walk.proofs.+after+arm+arms+arrow+assign+binds+block+body+call+case+catch+conds+decl+declr+fdecl+fexpr+forin+fors+full+func+ident+ifs+init+items+kids+logic+loops+many+name+own+params+parts+stmts+tail+tries+unary+whiles.Proof.Common.{case-at, items-below}
 
 abbrev pub case-calls : ℕ → case-lts.Claims
-case-calls t = (enter-reads.Asked, enter-reads.Learnt, items-below t, items.Post, leave-reads.Asked, leave-reads.Learnt)
+case-calls t = (enter-reads.Asked, enter-reads.Learnt, refused-reads.Asked, refused-reads.Learnt, items-below t, items.Post, next-reads.Asked, next-reads.Learnt, leave-reads.Asked, leave-reads.Learnt)
 
 pub case-slice-read-inl : (t : ℕ) → case-lts.Need-slice-read-inl (case-calls t) (case-at t) case.Post
 case-slice-read-inl t c =
@@ -46,17 +49,21 @@ case-enter-requires t c κs =
     let at-entry = c .before .before .before .before .before .before in
     at-entry .pre .1 .planted
 
+pub case-refused-requires : (t : ℕ) → case-lts.Need-refused-requires (case-calls t) (case-at t) case.Post
+case-refused-requires t c κs = tt
+
 pub case-same-length : (t : ℕ) → case-lts.Need-same-length (case-calls t) (case-at t) case.Post
 case-same-length t c =
-    let at-enter = c .before .before .before in
+    let at-enter = c .before .before .before .before in
     at-enter .enter .kept .0
 
 pub case-returns : (t : ℕ) → case-lts.Need-returns (case-calls t) (case-at t) case.Post
 unfolding visitMutSwitchCaseF
 case-returns t c =
-    let at-enter = c .before .before .before in
+    let at-if1 = c .before in
+    let at-enter = at-if1 .before .before .before in
     let at-entry = at-enter .before .before .before .before .before .before .before in
-    ways.scope-full vBlock (itemsF (walksF (at-entry .args .d)) (at-entry .args .p) (at-entry .args .i)) (at-enter .enter .ensures) (c .if1 .taken)
+    ways.did-as (sym (c .refused .ensures)) (ways.scope-full vBlock (itemsF (walksF (at-entry .args .d)) (at-entry .args .p) (at-entry .args .i)) (at-enter .enter .ensures) (at-if1 .if1 .taken))
 
 pub case-items-requires : (t : ℕ) → case-lts.Need-items-requires (case-calls t) (case-at t) case.Post
 case-items-requires t c κs =
@@ -65,36 +72,40 @@ case-items-requires t c κs =
     let at-entry = at-enter .before .before .before .before .before .before .before in
     (omega (arith, at-entry .pre .0), (heres.here-rest (opening vBlock) (at-if1 .if1 .left) (at-enter .enter .ensures) (at-entry .pre .1)))
 
-pub case-enum-known-r : (t : ℕ) → case-lts.Need-enum-known-r (case-calls t) (case-at t) case.Post
-case-enum-known-r t c = search needs
+pub case-next-requires : (t : ℕ) → case-lts.Need-next-requires (case-calls t) (case-at t) case.Post
+case-next-requires t c κs = tt
+
+pub case-enum-known-j : (t : ℕ) → case-lts.Need-enum-known-j (case-calls t) (case-at t) case.Post
+case-enum-known-j t c = search needs
 
 pub case-enum-told : (t : ℕ) → case-lts.Need-enum-told (case-calls t) (case-at t) case.Post
 case-enum-told t c = search needs
 
 pub case-same-length-2 : (t : ℕ) → case-lts.Need-same-length-2 (case-calls t) (case-at t) case.Post
 case-same-length-2 t c =
-    let at-items = c .before .before .before .before in
+    let at-items = c .before .before .before .before .before in
     let at-enter = at-items .before .before .before .before .before in
     at-items .items .kept .0 ∙ at-enter .enter .kept .0
 
 pub case-returns-2 : (t : ℕ) → case-lts.Need-returns-2 (case-calls t) (case-at t) case.Post
 unfolding visitMutSwitchCaseF
 case-returns-2 t c =
-    let at-items = c .before .before .before .before in
+    let at-next = c .before .before in
+    let at-items = at-next .before .before .before in
     let at-if1 = at-items .before .before in
     let at-enter = at-if1 .before .before .before in
     let at-entry = at-enter .before .before .before .before .before .before .before in
-    ways.scope-stop vBlock (itemsF (walksF (at-entry .args .d)) (at-entry .args .p) (at-entry .args .i)) (at-enter .enter .ensures) (at-if1 .if1 .left) (c .enum-told .given .1) (at-items .items .ensures)
+    ways.scope-stop vBlock (itemsF (walksF (at-entry .args .d)) (at-entry .args .p) (at-entry .args .i)) (at-enter .enter .ensures) (at-if1 .if1 .left) (sym (at-next .next .ensures .0) ∙ c .enum-told .given .1) (at-items .items .ensures)
 
 pub case-leave-requires : (t : ℕ) → case-lts.Need-leave-requires (case-calls t) (case-at t) case.Post
 case-leave-requires t c κs =
-    let at-items = c .before .before .before .before .before .before in
+    let at-items = c .before .before .before .before .before .before .before in
     at-items .items .ensures .ok .planted
 
 pub case-same-length-3 : (t : ℕ) → case-lts.Need-same-length-3 (case-calls t) (case-at t) case.Post
 case-same-length-3 t c =
     let at-leave = c .before .before in
-    let at-items = at-leave .before .before .before .before .before .before .before in
+    let at-items = at-leave .before .before .before .before .before .before .before .before in
     let at-enter = at-items .before .before .before .before .before in
     at-leave .leave .kept .0 ∙ at-items .items .kept .0 ∙ at-enter .enter .kept .0
 
@@ -102,9 +113,10 @@ pub case-returns-3 : (t : ℕ) → case-lts.Need-returns-3 (case-calls t) (case-
 unfolding visitMutSwitchCaseF
 case-returns-3 t c =
     let at-leave = c .before .before in
-    let at-r = at-leave .before .before .before in
-    let at-items = at-r .before .before .before .before in
+    let at-j = at-leave .before .before .before in
+    let at-next = at-j .before .before in
+    let at-items = at-next .before .before .before in
     let at-if1 = at-items .before .before in
     let at-enter = at-if1 .before .before .before in
     let at-entry = at-enter .before .before .before .before .before .before .before in
-    ways.scope-then vBlock (itemsF (walksF (at-entry .args .d)) (at-entry .args .p) (at-entry .args .i)) (at-enter .enter .ensures) (at-if1 .if1 .left) (at-r .r .given .1) (at-items .items .ensures) (at-leave .leave .ensures)
+    codes.did-got (at-next .next .ensures .1) (at-j .j .given .1) (ways.scope-then vBlock (itemsF (walksF (at-entry .args .d)) (at-entry .args .p) (at-entry .args .i)) (at-enter .enter .ensures) (at-if1 .if1 .left) (sym (at-next .next .ensures .0) ∙ at-j .j .given .1) (at-items .items .ensures) (at-leave .leave .ensures))

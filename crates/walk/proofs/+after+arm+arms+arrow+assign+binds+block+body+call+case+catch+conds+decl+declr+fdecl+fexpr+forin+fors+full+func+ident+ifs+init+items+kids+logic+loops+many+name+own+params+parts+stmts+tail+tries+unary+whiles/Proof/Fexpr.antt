@@ -11,11 +11,13 @@ use Rattle.tree.proofs.Sims.{sim-each, sim-skip, sim-node, sim-if, sim-within, 
 use Rattle.definition.specs.Tree.{kids, headT}
 use Rattle.definition.specs.Walk.{opening, restore, deeper, shallower, modify, setVarDeclKind, setPatMode, asParam, asCatch, assigning, declKindOf, writeTree, writeForest, butLast, when, mark, assignFirst, assignLast, storeInlineBarrierM, declareName, writeName, handlers, hPlain, hScript, hBlock, hDecl, hDeclr, hFun, hIf, hWhile, hFor, hForIn, hTry, hCatch, hCase, hPat, hUnary, hUpdate, hAssign, hCall, hNew, hFunExpr, hArrow}
 use Rattle.flat.specs.WalkF.{walksF, inCondF, visitMutStmtsF, plainF, visitMutBlockStmtF, scriptF, visitWithChildF, visitMutVarDeclF, visitMutFunctionF, visitMutFnDeclF, visitMutFnExprF, visitMutArrowExprF, testedF, visitMutIfStmtF, visitMutWhileStmtF, visitMutForStmtF, visitMutForInStmtF, visitMutTryStmtF, catchParamF, visitMutCatchClauseF, visitMutSwitchCaseF, visitMutUnaryExprF, visitMutUpdateExprF, visitMutCallExprF, visitMutAssignExprF, assignKidsF, handleF, ownF, logicalF, afterF}
+use Rattle.walk_laws.proofs.Codes as codes
 use Rattle.walk_laws.proofs.Laws as laws
 use Rattle.walk_laws.proofs.Heres as heres
 use Rattle.walk_laws.proofs.Ways as ways
 use Rattle.nodes.proofs.skip.Reads as skip-reads
 use Rattle.walk.proofs.+after+arm+arms+arrow+assign+binds+block+body+call+case+catch+conds+decl+declr+fdecl+fexpr+forin+fors+full+func+ident+ifs+init+items+kids+logic+loops+many+name+own+params+parts+stmts+tail+tries+unary+whiles.Lts-fexpr as fexpr-lts
+use Rattle.walk.proofs.answer.refused.Reads as refused-reads
 use Rattle.walk.proofs.fexpr.Reads as fexpr
 use Rattle.walk.proofs.func.Reads as func
 use Rattle.words.proofs.arity_at.Reads as arity-at-reads
@@ -24,7 +26,7 @@ use Rattle.write_steps.proofs.write_name.Reads as write-name-reads
 use Rattle.walk.proofs.+after+arm+arms+arrow+assign+binds+block+body+call+case+catch+conds+decl+declr+fdecl+fexpr+forin+fors+full+func+ident+ifs+init+items+kids+logic+loops+many+name+own+params+parts+stmts+tail+tries+unary+whiles.Proof.Common.{fexpr-at, func-below}
 
 abbrev pub fexpr-calls : ℕ → fexpr-lts.Claims
-fexpr-calls t = (arity-at-reads.Asked, arity-at-reads.Learnt, form-at-reads.Asked, form-at-reads.Learnt, func-below t, func.Post, write-name-reads.Asked, write-name-reads.Learnt, skip-reads.Asked, skip-reads.Learnt)
+fexpr-calls t = (arity-at-reads.Asked, arity-at-reads.Learnt, form-at-reads.Asked, form-at-reads.Learnt, func-below t, func.Post, write-name-reads.Asked, write-name-reads.Learnt, refused-reads.Asked, refused-reads.Learnt, skip-reads.Asked, skip-reads.Learnt)
 
 pub fexpr-arity-at-requires : (t : ℕ) → fexpr-lts.Need-arity-at-requires (fexpr-calls t) (fexpr-at t) fexpr.Post
 fexpr-arity-at-requires t c κs =
@@ -70,22 +72,26 @@ fexpr-write-name-requires t c κs =
     let at-entry = c .before .before .before .before .before .before .before in
     heres.at-skip (at-entry .pre .1)
 
+pub fexpr-refused-requires : (t : ℕ) → fexpr-lts.Need-refused-requires (fexpr-calls t) (fexpr-at t) fexpr.Post
+fexpr-refused-requires t c κs = tt
+
 pub fexpr-same-length-2 : (t : ℕ) → fexpr-lts.Need-same-length-2 (fexpr-calls t) (fexpr-at t) fexpr.Post
 fexpr-same-length-2 t c =
-    let at-write-name = c .before .before .before in
+    let at-write-name = c .before .before .before .before in
     at-write-name .write-name .kept .0
 
 pub fexpr-returns-2 : (t : ℕ) → fexpr-lts.Need-returns-2 (fexpr-calls t) (fexpr-at t) fexpr.Post
 unfolding visitMutFnExprF
 fexpr-returns-2 t c =
-    let at-write-name = c .before .before .before in
+    let at-if2 = c .before in
+    let at-write-name = at-if2 .before .before .before in
     let at-if1 = at-write-name .before .before in
     let at-form-at = at-if1 .before in
     let at-entry = at-form-at .before .before .before .before .before in
-    ways.iff-yes _ _ (ways.form-yes (at-entry .pre .1) (at-form-at .form-at .ensures) (at-if1 .if1 .left)) (laws.act-stop _ (c .if2 .taken) (at-write-name .write-name .ensures))
+    ways.did-as (sym (c .refused .ensures)) (ways.iff-yes _ _ (ways.form-yes (at-entry .pre .1) (at-form-at .form-at .ensures) (at-if1 .if1 .left)) (laws.act-stop _ (at-if2 .if2 .taken) (at-write-name .write-name .ensures)))
 
-pub fexpr-add-t20 : (t : ℕ) → fexpr-lts.Need-add-t20 (fexpr-calls t) (fexpr-at t) fexpr.Post
-fexpr-add-t20 t c =
+pub fexpr-add-result : (t : ℕ) → fexpr-lts.Need-add-result (fexpr-calls t) (fexpr-at t) fexpr.Post
+fexpr-add-result t c =
     let at-entry = c .before .before .before .before .before .before .before .before .before .before .before .before in
     omega (arith, (at-entry .pre .1) .depth, heres.at-node (at-entry .pre .1) .1)
 
@@ -103,7 +109,7 @@ fexpr-returns-3 t c =
     let at-form-at = at-if1 .before in
     let at-arity-at = at-form-at .before .before in
     let at-entry = at-arity-at .before .before .before in
-    ways.iff-yes _ _ (ways.form-yes (at-entry .pre .1) (at-form-at .form-at .ensures) (at-if1 .if1 .left)) (laws.act-then _ (at-if2 .if2 .left) (at-write-name .write-name .ensures) (ways.on-kids (λ q. splitF skip (visitMutFunctionF (walksF (at-entry .args .d)) (at-entry .args .p) false)) (heres.here-tree (λ t. writeName (headT (kids t))) (at-entry .args .i) (at-if2 .if2 .left) (at-write-name .write-name .ensures) (at-entry .pre .1)) (heres.arity-tree (λ t. writeName (headT (kids t))) (at-entry .args .i) (at-if2 .if2 .left) (at-write-name .write-name .ensures) (at-entry .pre .1) (at-arity-at .arity-at .ensures)) (ways.split-none skip (visitMutFunctionF (walksF (at-entry .args .d)) (at-entry .args .p) false) (at-arity-at .arity-at .result) (at-entry .args .i + 1) (c .if3 .taken) ((heres.here-tree (λ t. writeName (headT (kids t))) (at-entry .args .i) (at-if2 .if2 .left) (at-write-name .write-name .ensures) (at-entry .pre .1)) .planted))))
+    codes.did-at (codes.low-next (at-entry .pre .1)) (ways.iff-yes _ _ (ways.form-yes (at-entry .pre .1) (at-form-at .form-at .ensures) (at-if1 .if1 .left)) (laws.act-then _ (at-if2 .if2 .left) (at-write-name .write-name .ensures) (ways.on-kids (λ q. splitF skip (visitMutFunctionF (walksF (at-entry .args .d)) (at-entry .args .p) false)) (heres.here-tree (λ t. writeName (headT (kids t))) (at-entry .args .i) (at-if2 .if2 .left) (at-write-name .write-name .ensures) (at-entry .pre .1)) (heres.arity-tree (λ t. writeName (headT (kids t))) (at-entry .args .i) (at-if2 .if2 .left) (at-write-name .write-name .ensures) (at-entry .pre .1) (at-arity-at .arity-at .ensures)) (ways.split-none skip (visitMutFunctionF (walksF (at-entry .args .d)) (at-entry .args .p) false) (at-arity-at .arity-at .result) (at-entry .args .i + 1) (c .if3 .taken) ((heres.here-tree (λ t. writeName (headT (kids t))) (at-entry .args .i) (at-if2 .if2 .left) (at-write-name .write-name .ensures) (at-entry .pre .1)) .planted)))))
 
 pub fexpr-add-skip : (t : ℕ) → fexpr-lts.Need-add-skip (fexpr-calls t) (fexpr-at t) fexpr.Post
 fexpr-add-skip t c =

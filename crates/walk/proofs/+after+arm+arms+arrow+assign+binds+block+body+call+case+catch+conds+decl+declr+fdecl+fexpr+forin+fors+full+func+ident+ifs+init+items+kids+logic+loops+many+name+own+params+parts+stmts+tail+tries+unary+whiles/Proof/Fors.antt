@@ -11,10 +11,13 @@ use Rattle.definition.specs.Tree.{kids, headT}
 use Rattle.definition.specs.Scope.{cond as vCond, loop as vLoop, block as vBlock, fn as vFn, markThisSensitive, identOf}
 use Rattle.definition.specs.Walk.{opening, restore, deeper, shallower, modify, setVarDeclKind, setPatMode, asParam, asCatch, assigning, declKindOf, writeTree, writeForest, butLast, when, mark, assignFirst, assignLast, storeInlineBarrierM, declareName, writeName, handlers, hPlain, hScript, hBlock, hDecl, hDeclr, hFun, hIf, hWhile, hFor, hForIn, hTry, hCatch, hCase, hPat, hUnary, hUpdate, hAssign, hCall, hNew, hFunExpr, hArrow}
 use Rattle.flat.specs.WalkF.{walksF, inCondF, visitMutStmtsF, plainF, visitMutBlockStmtF, scriptF, visitWithChildF, visitMutVarDeclF, visitMutFunctionF, visitMutFnDeclF, visitMutFnExprF, visitMutArrowExprF, testedF, visitMutIfStmtF, visitMutWhileStmtF, visitMutForStmtF, visitMutForInStmtF, visitMutTryStmtF, catchParamF, visitMutCatchClauseF, visitMutSwitchCaseF, visitMutUnaryExprF, visitMutUpdateExprF, visitMutCallExprF, visitMutAssignExprF, assignKidsF, handleF, ownF, logicalF, afterF}
+use Rattle.walk_laws.proofs.Codes as codes
 use Rattle.walk_laws.proofs.Laws as laws
 use Rattle.walk_laws.proofs.Heres as heres
 use Rattle.walk_laws.proofs.Ways as ways
 use Rattle.walk.proofs.+after+arm+arms+arrow+assign+binds+block+body+call+case+catch+conds+decl+declr+fdecl+fexpr+forin+fors+full+func+ident+ifs+init+items+kids+logic+loops+many+name+own+params+parts+stmts+tail+tries+unary+whiles.Lts-fors as fors-lts
+use Rattle.walk.proofs.answer.next.Reads as next-reads
+use Rattle.walk.proofs.answer.refused.Reads as refused-reads
 use Rattle.walk.proofs.fors.Reads as fors
 use Rattle.walk.proofs.loops.Reads as loops
 use Rattle.words.proofs.arity_at.Reads as arity-at-reads
@@ -24,23 +27,27 @@ use Rattle.write_steps.proofs.write_kids_but_last.Reads as write-kids-but-last-
 use Rattle.walk.proofs.+after+arm+arms+arrow+assign+binds+block+body+call+case+catch+conds+decl+declr+fdecl+fexpr+forin+fors+full+func+ident+ifs+init+items+kids+logic+loops+many+name+own+params+parts+stmts+tail+tries+unary+whiles.Proof.Common.{fors-at, loops-below}
 
 abbrev pub fors-calls : ℕ → fors-lts.Claims
-fors-calls t = (write-kids-but-last-reads.Asked, write-kids-but-last-reads.Learnt, form-at-reads.Asked, form-at-reads.Learnt, arity-at-reads.Asked, arity-at-reads.Learnt, loops-below t, loops.Post, store-barrier-reads.Asked, store-barrier-reads.Learnt)
+fors-calls t = (write-kids-but-last-reads.Asked, write-kids-but-last-reads.Learnt, refused-reads.Asked, refused-reads.Learnt, form-at-reads.Asked, form-at-reads.Learnt, arity-at-reads.Asked, arity-at-reads.Learnt, loops-below t, loops.Post, next-reads.Asked, next-reads.Learnt, store-barrier-reads.Asked, store-barrier-reads.Learnt)
 
 pub fors-write-kids-but-last-requires : (t : ℕ) → fors-lts.Need-write-kids-but-last-requires (fors-calls t) (fors-at t) fors.Post
 fors-write-kids-but-last-requires t c κs =
     let at-entry = c .before .before in
     heres.at-skip (at-entry .pre .1)
 
+pub fors-refused-requires : (t : ℕ) → fors-lts.Need-refused-requires (fors-calls t) (fors-at t) fors.Post
+fors-refused-requires t c κs = tt
+
 pub fors-same-length : (t : ℕ) → fors-lts.Need-same-length (fors-calls t) (fors-at t) fors.Post
 fors-same-length t c =
-    let at-write-kids-but-last = c .before .before .before in
+    let at-write-kids-but-last = c .before .before .before .before in
     at-write-kids-but-last .write-kids-but-last .kept .0
 
 pub fors-returns : (t : ℕ) → fors-lts.Need-returns (fors-calls t) (fors-at t) fors.Post
 unfolding visitMutForStmtF
 fors-returns t c =
-    let at-write-kids-but-last = c .before .before .before in
-    laws.act-stop _ (c .if1 .taken) (at-write-kids-but-last .write-kids-but-last .ensures)
+    let at-if1 = c .before in
+    let at-write-kids-but-last = at-if1 .before .before .before in
+    ways.did-as (sym (c .refused .ensures)) (laws.act-stop _ (at-if1 .if1 .taken) (at-write-kids-but-last .write-kids-but-last .ensures))
 
 pub fors-form-at-requires : (t : ℕ) → fors-lts.Need-form-at-requires (fors-calls t) (fors-at t) fors.Post
 fors-form-at-requires t c κs =
@@ -77,37 +84,41 @@ fors-loops-requires t c κs =
     let at-entry = at-write-kids-but-last .before .before .before in
     (omega (arith, at-entry .pre .0), heres.here-kids (heres.here-tree (λ t. writeForest true (butLast (kids t))) (at-entry .args .i) (at-if1 .if1 .left) (at-write-kids-but-last .write-kids-but-last .ensures) (at-entry .pre .1)) (at-arity-at .arity-at .ensures))
 
-pub fors-enum-known-r : (t : ℕ) → fors-lts.Need-enum-known-r (fors-calls t) (fors-at t) fors.Post
-fors-enum-known-r t c = search needs
+pub fors-next-requires : (t : ℕ) → fors-lts.Need-next-requires (fors-calls t) (fors-at t) fors.Post
+fors-next-requires t c κs = tt
+
+pub fors-enum-known-j : (t : ℕ) → fors-lts.Need-enum-known-j (fors-calls t) (fors-at t) fors.Post
+fors-enum-known-j t c = search needs
 
 pub fors-enum-told : (t : ℕ) → fors-lts.Need-enum-told (fors-calls t) (fors-at t) fors.Post
 fors-enum-told t c = search needs
 
 pub fors-same-length-2 : (t : ℕ) → fors-lts.Need-same-length-2 (fors-calls t) (fors-at t) fors.Post
 fors-same-length-2 t c =
-    let at-loops = c .before .before .before .before in
+    let at-loops = c .before .before .before .before .before in
     let at-write-kids-but-last = at-loops .before .before .before .before .before .before .before .before .before in
     at-loops .loops .kept .0 ∙ at-write-kids-but-last .write-kids-but-last .kept .0
 
 pub fors-returns-2 : (t : ℕ) → fors-lts.Need-returns-2 (fors-calls t) (fors-at t) fors.Post
 unfolding visitMutForStmtF
 fors-returns-2 t c =
-    let at-loops = c .before .before .before .before in
+    let at-next = c .before .before in
+    let at-loops = at-next .before .before .before in
     let at-arity-at = at-loops .before .before in
     let at-if1 = at-arity-at .before .before .before .before in
     let at-write-kids-but-last = at-if1 .before .before .before in
     let at-entry = at-write-kids-but-last .before .before .before in
-    laws.act-then _ (at-if1 .if1 .left) (at-write-kids-but-last .write-kids-but-last .ensures) (laws.did-stop _ _ (c .enum-told .given .1) (ways.on-kids (λ q. eachButF (walksF (at-entry .args .d) .full q) (visitWithChildF (walksF (at-entry .args .d)) q vLoop)) (heres.here-tree (λ t. writeForest true (butLast (kids t))) (at-entry .args .i) (at-if1 .if1 .left) (at-write-kids-but-last .write-kids-but-last .ensures) (at-entry .pre .1)) (at-arity-at .arity-at .ensures) (at-loops .loops .ensures)))
+    laws.act-then _ (at-if1 .if1 .left) (at-write-kids-but-last .write-kids-but-last .ensures) (laws.did-stop _ _ (sym (at-next .next .ensures .0) ∙ c .enum-told .given .1) (ways.on-kids (λ q. eachButF (walksF (at-entry .args .d) .full q) (visitWithChildF (walksF (at-entry .args .d)) q vLoop)) (heres.here-tree (λ t. writeForest true (butLast (kids t))) (at-entry .args .i) (at-if1 .if1 .left) (at-write-kids-but-last .write-kids-but-last .ensures) (at-entry .pre .1)) (at-arity-at .arity-at .ensures) (at-loops .loops .ensures)))
 
 pub fors-store-barrier-requires : (t : ℕ) → fors-lts.Need-store-barrier-requires (fors-calls t) (fors-at t) fors.Post
 fors-store-barrier-requires t c κs =
-    let at-loops = c .before .before .before .before .before .before .before in
+    let at-loops = c .before .before .before .before .before .before .before .before in
     at-loops .loops .ensures .ok .planted
 
 pub fors-same-length-3 : (t : ℕ) → fors-lts.Need-same-length-3 (fors-calls t) (fors-at t) fors.Post
 fors-same-length-3 t c =
     let at-store-barrier = c .before .before in
-    let at-loops = at-store-barrier .before .before .before .before .before .before .before .before in
+    let at-loops = at-store-barrier .before .before .before .before .before .before .before .before .before in
     let at-write-kids-but-last = at-loops .before .before .before .before .before .before .before .before .before in
     at-store-barrier .store-barrier .kept .0 ∙ at-loops .loops .kept .0 ∙ at-write-kids-but-last .write-kids-but-last .kept .0
 
@@ -116,29 +127,31 @@ unfolding visitMutForStmtF
 fors-returns-3 t c =
     let at-store-barrier = c .before .before in
     let at-if2 = at-store-barrier .before .before in
-    let at-r = at-if2 .before .before in
-    let at-loops = at-r .before .before .before .before in
+    let at-j = at-if2 .before .before in
+    let at-next = at-j .before .before in
+    let at-loops = at-next .before .before .before in
     let at-arity-at = at-loops .before .before in
     let at-form-at = at-arity-at .before .before in
     let at-if1 = at-form-at .before .before in
     let at-write-kids-but-last = at-if1 .before .before .before in
     let at-entry = at-write-kids-but-last .before .before .before in
-    laws.act-then _ (at-if1 .if1 .left) (at-write-kids-but-last .write-kids-but-last .ensures) (laws.did-then (at-r .r .given .0 .0) _ (at-r .r .given .1) (ways.on-kids (λ q. eachButF (walksF (at-entry .args .d) .full q) (visitWithChildF (walksF (at-entry .args .d)) q vLoop)) (heres.here-tree (λ t. writeForest true (butLast (kids t))) (at-entry .args .i) (at-if1 .if1 .left) (at-write-kids-but-last .write-kids-but-last .ensures) (at-entry .pre .1)) (at-arity-at .arity-at .ensures) (at-loops .loops .ensures)) (ways.act-end (at-r .r .given .0 .0) refl (ways.when-yes storeInlineBarrierM (ways.form-yes (heres.here-tree (λ t. writeForest true (butLast (kids t))) (at-entry .args .i) (at-if1 .if1 .left) (at-write-kids-but-last .write-kids-but-last .ensures) (at-entry .pre .1)) (at-form-at .form-at .ensures) (at-if2 .if2 .taken)) (at-store-barrier .store-barrier .ensures))))
+    codes.did-got (at-next .next .ensures .1) (at-j .j .given .1) (laws.act-then _ (at-if1 .if1 .left) (at-write-kids-but-last .write-kids-but-last .ensures) (laws.did-then (at-j .j .given .0 .0) _ (sym (at-next .next .ensures .0) ∙ at-j .j .given .1) (ways.on-kids (λ q. eachButF (walksF (at-entry .args .d) .full q) (visitWithChildF (walksF (at-entry .args .d)) q vLoop)) (heres.here-tree (λ t. writeForest true (butLast (kids t))) (at-entry .args .i) (at-if1 .if1 .left) (at-write-kids-but-last .write-kids-but-last .ensures) (at-entry .pre .1)) (at-arity-at .arity-at .ensures) (at-loops .loops .ensures)) (ways.act-end (at-j .j .given .0 .0) refl (ways.when-yes storeInlineBarrierM (ways.form-yes (heres.here-tree (λ t. writeForest true (butLast (kids t))) (at-entry .args .i) (at-if1 .if1 .left) (at-write-kids-but-last .write-kids-but-last .ensures) (at-entry .pre .1)) (at-form-at .form-at .ensures) (at-if2 .if2 .taken)) (at-store-barrier .store-barrier .ensures)))))
 
 pub fors-same-length-4 : (t : ℕ) → fors-lts.Need-same-length-4 (fors-calls t) (fors-at t) fors.Post
 fors-same-length-4 t c =
-    let at-loops = c .before .before .before .before .before .before in
+    let at-loops = c .before .before .before .before .before .before .before in
     let at-write-kids-but-last = at-loops .before .before .before .before .before .before .before .before .before in
     at-loops .loops .kept .0 ∙ at-write-kids-but-last .write-kids-but-last .kept .0
 
 pub fors-returns-4 : (t : ℕ) → fors-lts.Need-returns-4 (fors-calls t) (fors-at t) fors.Post
 unfolding visitMutForStmtF
 fors-returns-4 t c =
-    let at-r = c .before .before in
-    let at-loops = at-r .before .before .before .before in
+    let at-j = c .before .before in
+    let at-next = at-j .before .before in
+    let at-loops = at-next .before .before .before in
     let at-arity-at = at-loops .before .before in
     let at-form-at = at-arity-at .before .before in
     let at-if1 = at-form-at .before .before in
     let at-write-kids-but-last = at-if1 .before .before .before in
     let at-entry = at-write-kids-but-last .before .before .before in
-    laws.act-then _ (at-if1 .if1 .left) (at-write-kids-but-last .write-kids-but-last .ensures) (laws.did-then (at-r .r .given .0 .0) _ (at-r .r .given .1) (ways.on-kids (λ q. eachButF (walksF (at-entry .args .d) .full q) (visitWithChildF (walksF (at-entry .args .d)) q vLoop)) (heres.here-tree (λ t. writeForest true (butLast (kids t))) (at-entry .args .i) (at-if1 .if1 .left) (at-write-kids-but-last .write-kids-but-last .ensures) (at-entry .pre .1)) (at-arity-at .arity-at .ensures) (at-loops .loops .ensures)) (ways.when-no storeInlineBarrierM (at-r .r .given .0 .0) (ways.form-no (heres.here-tree (λ t. writeForest true (butLast (kids t))) (at-entry .args .i) (at-if1 .if1 .left) (at-write-kids-but-last .write-kids-but-last .ensures) (at-entry .pre .1)) 0 (at-form-at .form-at .ensures) (c .if2 .left)) (at-loops .loops .ensures .ok .planted)))
+    codes.did-got (at-next .next .ensures .1) (at-j .j .given .1) (laws.act-then _ (at-if1 .if1 .left) (at-write-kids-but-last .write-kids-but-last .ensures) (laws.did-then (at-j .j .given .0 .0) _ (sym (at-next .next .ensures .0) ∙ at-j .j .given .1) (ways.on-kids (λ q. eachButF (walksF (at-entry .args .d) .full q) (visitWithChildF (walksF (at-entry .args .d)) q vLoop)) (heres.here-tree (λ t. writeForest true (butLast (kids t))) (at-entry .args .i) (at-if1 .if1 .left) (at-write-kids-but-last .write-kids-but-last .ensures) (at-entry .pre .1)) (at-arity-at .arity-at .ensures) (at-loops .loops .ensures)) (ways.when-no storeInlineBarrierM (at-j .j .given .0 .0) (ways.form-no (heres.here-tree (λ t. writeForest true (butLast (kids t))) (at-entry .args .i) (at-if1 .if1 .left) (at-write-kids-but-last .write-kids-but-last .ensures) (at-entry .pre .1)) 0 (at-form-at .form-at .ensures) (c .if2 .left)) (at-loops .loops .ensures .ok .planted))))

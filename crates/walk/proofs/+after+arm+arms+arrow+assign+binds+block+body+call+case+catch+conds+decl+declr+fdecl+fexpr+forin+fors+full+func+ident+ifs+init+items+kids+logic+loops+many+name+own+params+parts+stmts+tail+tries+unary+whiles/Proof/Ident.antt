@@ -7,6 +7,8 @@ use mathlib.Core.Option.{some}
 use borrow.Author.Needs.{needs}
 use native.Mathlib.Omega.{arith}
 use Rattle.flat.specs.WalkF.{walksF, inCondF, visitMutStmtsF, plainF, visitMutBlockStmtF, scriptF, visitWithChildF, visitMutVarDeclF, visitMutFunctionF, visitMutFnDeclF, visitMutFnExprF, visitMutArrowExprF, testedF, visitMutIfStmtF, visitMutWhileStmtF, visitMutForStmtF, visitMutForInStmtF, visitMutTryStmtF, catchParamF, visitMutCatchClauseF, visitMutSwitchCaseF, visitMutUnaryExprF, visitMutUpdateExprF, visitMutCallExprF, visitMutAssignExprF, assignKidsF, handleF, ownF, logicalF, afterF}
+use Rattle.flat.proofs.Sim.{sims, sim-own, sim-after, sim-afterIdent, sim-declr, sim-name, sim-branch, sim-tested, sim-catchParam, sim-stmts}
+use Rattle.walk_laws.proofs.Codes as codes
 use Rattle.walk_laws.proofs.Heres as heres
 use Rattle.walk_laws.proofs.Ways as ways
 use Rattle.walk_laws.proofs.Idents as idents
@@ -19,13 +21,14 @@ use Rattle.ident_steps.proofs.inline_undefined.Reads as inline-undefined-reads
 use Rattle.ident_steps.proofs.inline_value.Reads as inline-value-reads
 use Rattle.nodes.proofs.skip.Reads as skip-reads
 use Rattle.walk.proofs.+after+arm+arms+arrow+assign+binds+block+body+call+case+catch+conds+decl+declr+fdecl+fexpr+forin+fors+full+func+ident+ifs+init+items+kids+logic+loops+many+name+own+params+parts+stmts+tail+tries+unary+whiles.Lts-ident as ident-lts
+use Rattle.walk.proofs.answer.coded.Reads as coded-reads
 use Rattle.walk.proofs.full.Reads as full
 use Rattle.walk.proofs.ident.Reads as ident
 use Rattle.walk.proofs.logic.Reads as logic
 use Rattle.walk.proofs.+after+arm+arms+arrow+assign+binds+block+body+call+case+catch+conds+decl+declr+fdecl+fexpr+forin+fors+full+func+ident+ifs+init+items+kids+logic+loops+many+name+own+params+parts+stmts+tail+tries+unary+whiles.Proof.Common.{full-below, ident-at, logic-below}
 
 abbrev pub ident-calls : ℕ → ident-lts.Claims
-ident-calls t = (constant-reads.Asked, constant-reads.Learnt, inline-constant-reads.Asked, inline-constant-reads.Learnt, full-below t, full.Post, ident-analysis-reads.Asked, ident-analysis-reads.Learnt, skip-reads.Asked, skip-reads.Learnt, fate-reads.Asked, fate-reads.Learnt, inline-undefined-reads.Asked, inline-undefined-reads.Learnt, inline-value-reads.Asked, inline-value-reads.Learnt, logic-below t, logic.Post)
+ident-calls t = (constant-reads.Asked, constant-reads.Learnt, inline-constant-reads.Asked, inline-constant-reads.Learnt, coded-reads.Asked, coded-reads.Learnt, full-below t, full.Post, ident-analysis-reads.Asked, ident-analysis-reads.Learnt, skip-reads.Asked, skip-reads.Learnt, fate-reads.Asked, fate-reads.Learnt, inline-undefined-reads.Asked, inline-undefined-reads.Learnt, inline-value-reads.Asked, inline-value-reads.Learnt, logic-below t, logic.Post)
 
 pub ident-constant-requires : (t : ℕ) → ident-lts.Need-constant-requires (ident-calls t) (ident-at t) ident.Post
 ident-constant-requires t c κs =
@@ -53,18 +56,22 @@ ident-enum-told t c = search needs
 pub ident-enum-told-2 : (t : ℕ) → ident-lts.Need-enum-told-2 (ident-calls t) (ident-at t) ident.Post
 ident-enum-told-2 t c = search needs
 
+pub ident-coded-requires : (t : ℕ) → ident-lts.Need-coded-requires (ident-calls t) (ident-at t) ident.Post
+ident-coded-requires t c κs = codes.low-stop (c .enum-told2 .given .1)
+
 pub ident-same-length : (t : ℕ) → ident-lts.Need-same-length (ident-calls t) (ident-at t) ident.Post
 ident-same-length t c =
-    let at-inline-constant = c .before .before .before .before in
+    let at-inline-constant = c .before .before .before .before .before in
     at-inline-constant .inline-constant .kept .0
 
 pub ident-returns : (t : ℕ) → ident-lts.Need-returns (ident-calls t) (ident-at t) ident.Post
 ident-returns t c =
-    let at-inline-constant = c .before .before .before .before in
+    let at-enum-told2 = c .before in
+    let at-inline-constant = at-enum-told2 .before .before .before .before in
     let at-at = at-inline-constant .before .before .before in
     let at-constant = at-at .before .before in
     let at-entry = at-constant .before .before .before in
-    ways.ident-by (walksF (at-entry .args .d)) (at-entry .args .p) (at-entry .args .i) (some (valueFrom (at-entry .args .w .now) 3088 (at-at .at .given .0 .0) (at-at .at .given .0 .1 .0))) ((idents.named-at (at-entry .args .w .now) (at-entry .args .i) (at-at .at .given .0 .0) (at-at .at .given .0 .1 .0) (at-at .at .given .1) (at-constant .constant .ensures)) .0) (ways.const-stop (walksF (at-entry .args .d)) (at-entry .args .p) (at-entry .args .i) (valueFrom (at-entry .args .w .now) 3088 (at-at .at .given .0 .0) (at-at .at .given .0 .1 .0)) (c .enum-told2 .given .1) (idents.goes-did (at-inline-constant .inline-constant .ensures)))
+    ways.did-as (sym (c .coded .ensures)) (ways.ident-by (walksF (at-entry .args .d)) (at-entry .args .p) (at-entry .args .i) (some (valueFrom (at-entry .args .w .now) 3088 (at-at .at .given .0 .0) (at-at .at .given .0 .1 .0))) ((idents.named-at (at-entry .args .w .now) (at-entry .args .i) (at-at .at .given .0 .0) (at-at .at .given .0 .1 .0) (at-at .at .given .1) (at-constant .constant .ensures)) .0) (ways.const-stop (walksF (at-entry .args .d)) (at-entry .args .p) (at-entry .args .i) (valueFrom (at-entry .args .w .now) 3088 (at-at .at .given .0 .0) (at-at .at .given .0 .1 .0)) (at-enum-told2 .enum-told2 .given .1) (idents.goes-did (at-inline-constant .inline-constant .ensures))))
 
 pub ident-full-requires : (t : ℕ) → ident-lts.Need-full-requires (ident-calls t) (ident-at t) ident.Post
 ident-full-requires t c κs =
@@ -105,7 +112,7 @@ ident-returns-2 t c =
     let at-enum-told3 = at-if1 .before .before in
     let at-constant = at-enum-told3 .before .before in
     let at-entry = at-constant .before .before .before in
-    idents.no-const-analysis (walksF (at-entry .args .d)) (at-entry .args .p) (at-entry .args .i) (idents.named-unknown (at-entry .args .w .now) (at-entry .args .i) (at-enum-told3 .enum-told3 .given .1) (at-constant .constant .ensures)) (at-if1 .if1 .taken) (ways.analysis-then (at-entry .args .i) (at-ident-analysis .ident-analysis .ensures) (ways.did-skip (at-entry .args .i) (at-ident-analysis .ident-analysis .ensures .ok .planted) (c .skip .ensures .0)))
+    codes.did-at (codes.low-end ((heres.at-skip (idents.here-analysis (at-entry .pre .1 .0) (at-ident-analysis .ident-analysis .ensures))) .0) (c .skip .ensures .2)) (idents.no-const-analysis (walksF (at-entry .args .d)) (at-entry .args .p) (at-entry .args .i) (idents.named-unknown (at-entry .args .w .now) (at-entry .args .i) (at-enum-told3 .enum-told3 .given .1) (at-constant .constant .ensures)) (at-if1 .if1 .taken) (ways.analysis-then (at-entry .args .i) (at-ident-analysis .ident-analysis .ensures) (ways.did-skip (at-entry .args .i) (at-ident-analysis .ident-analysis .ensures .ok .planted) (c .skip .ensures .0))))
 
 pub ident-fate-requires : (t : ℕ) → ident-lts.Need-fate-requires (ident-calls t) (ident-at t) ident.Post
 ident-fate-requires t c κs =
@@ -133,6 +140,17 @@ ident-inline-undefined-requires t c κs =
     let at-entry = c .before .before .before .before .before .before .before .before .before .before .before .before in
     heres.at-skip (at-entry .pre .1 .0)
 
+pub ident-coded-requires-2 : (t : ℕ) → ident-lts.Need-coded-requires-2 (ident-calls t) (ident-at t) ident.Post
+ident-coded-requires-2 t c κs =
+    let at-inline-undefined = c .before .before in
+    let at-enum-told5 = at-inline-undefined .before .before in
+    let at-fate = at-enum-told5 .before .before in
+    let at-if1 = at-fate .before .before in
+    let at-enum-told3 = at-if1 .before .before in
+    let at-constant = at-enum-told3 .before .before in
+    let at-entry = at-constant .before .before .before in
+    codes.low-did (sim-afterIdent (sims (at-entry .args .d)) (at-entry .args .p)) (at-inline-undefined .inline-undefined .result) (at-entry .pre .1 .0) (idents.no-const-inlining (walksF (at-entry .args .d)) (at-entry .args .p) (at-entry .args .i) (idents.named-unknown (at-entry .args .w .now) (at-entry .args .i) (at-enum-told3 .enum-told3 .given .1) (at-constant .constant .ensures)) (at-if1 .if1 .left) (idents.found-void (walksF (at-entry .args .d)) (at-entry .args .p) (at-entry .args .i) (idents.fated-void (at-entry .args .w .now) (at-entry .args .i) (at-enum-told5 .enum-told5 .given .1) (at-fate .fate .ensures)) (idents.goes-did (at-inline-undefined .inline-undefined .ensures))))
+
 pub ident-enum-known-at-2 : (t : ℕ) → ident-lts.Need-enum-known-at-2 (ident-calls t) (ident-at t) ident.Post
 ident-enum-known-at-2 t c = search needs
 
@@ -154,21 +172,25 @@ ident-enum-told-6 t c = search needs
 pub ident-enum-told-7 : (t : ℕ) → ident-lts.Need-enum-told-7 (ident-calls t) (ident-at t) ident.Post
 ident-enum-told-7 t c = search needs
 
+pub ident-coded-requires-3 : (t : ℕ) → ident-lts.Need-coded-requires-3 (ident-calls t) (ident-at t) ident.Post
+ident-coded-requires-3 t c κs = codes.low-stop (c .enum-told7 .given .1)
+
 pub ident-same-length-3 : (t : ℕ) → ident-lts.Need-same-length-3 (ident-calls t) (ident-at t) ident.Post
 ident-same-length-3 t c =
-    let at-inline-value = c .before .before .before .before in
+    let at-inline-value = c .before .before .before .before .before in
     at-inline-value .inline-value .kept .0
 
 pub ident-returns-3 : (t : ℕ) → ident-lts.Need-returns-3 (ident-calls t) (ident-at t) ident.Post
 ident-returns-3 t c =
-    let at-inline-value = c .before .before .before .before in
+    let at-enum-told7 = c .before in
+    let at-inline-value = at-enum-told7 .before .before .before .before in
     let at-at2 = at-inline-value .before .before .before in
     let at-fate = at-at2 .before .before in
     let at-if1 = at-fate .before .before in
     let at-enum-told3 = at-if1 .before .before in
     let at-constant = at-enum-told3 .before .before in
     let at-entry = at-constant .before .before .before in
-    idents.no-const-inlining (walksF (at-entry .args .d)) (at-entry .args .p) (at-entry .args .i) (idents.named-unknown (at-entry .args .w .now) (at-entry .args .i) (at-enum-told3 .enum-told3 .given .1) (at-constant .constant .ensures)) (at-if1 .if1 .left) (idents.found-value (walksF (at-entry .args .d)) (at-entry .args .p) (at-entry .args .i) (valueFrom (at-entry .args .w .now) 2064 (at-at2 .at2 .given .0 .0) (at-at2 .at2 .given .0 .1 .0)) ((idents.fated-value (at-entry .args .w .now) (at-entry .args .i) (at-at2 .at2 .given .0 .0) (at-at2 .at2 .given .0 .1 .0) (at-at2 .at2 .given .1) (at-fate .fate .ensures)) .0) (λ b. ways.value-stop (walksF (at-entry .args .d)) (at-entry .args .p) (at-entry .args .i) b (valueFrom (at-entry .args .w .now) 2064 (at-at2 .at2 .given .0 .0) (at-at2 .at2 .given .0 .1 .0)) (c .enum-told7 .given .1) (idents.goes-did (at-inline-value .inline-value .ensures))))
+    ways.did-as (sym (c .coded3 .ensures)) (idents.no-const-inlining (walksF (at-entry .args .d)) (at-entry .args .p) (at-entry .args .i) (idents.named-unknown (at-entry .args .w .now) (at-entry .args .i) (at-enum-told3 .enum-told3 .given .1) (at-constant .constant .ensures)) (at-if1 .if1 .left) (idents.found-value (walksF (at-entry .args .d)) (at-entry .args .p) (at-entry .args .i) (valueFrom (at-entry .args .w .now) 2064 (at-at2 .at2 .given .0 .0) (at-at2 .at2 .given .0 .1 .0)) ((idents.fated-value (at-entry .args .w .now) (at-entry .args .i) (at-at2 .at2 .given .0 .0) (at-at2 .at2 .given .0 .1 .0) (at-at2 .at2 .given .1) (at-fate .fate .ensures)) .0) (λ b. ways.value-stop (walksF (at-entry .args .d)) (at-entry .args .p) (at-entry .args .i) b (valueFrom (at-entry .args .w .now) 2064 (at-at2 .at2 .given .0 .0) (at-at2 .at2 .given .0 .1 .0)) (at-enum-told7 .enum-told7 .given .1) (idents.goes-did (at-inline-value .inline-value .ensures)))))
 
 pub ident-logic-requires : (t : ℕ) → ident-lts.Need-logic-requires (ident-calls t) (ident-at t) ident.Post
 ident-logic-requires t c κs =
@@ -205,23 +227,23 @@ ident-returns-5 t c =
     let at-enum-told3 = at-if1 .before .before in
     let at-constant = at-enum-told3 .before .before in
     let at-entry = at-constant .before .before .before in
-    idents.no-const-inlining (walksF (at-entry .args .d)) (at-entry .args .p) (at-entry .args .i) (idents.named-unknown (at-entry .args .w .now) (at-entry .args .i) (at-enum-told3 .enum-told3 .given .1) (at-constant .constant .ensures)) (at-if1 .if1 .left) (idents.found-nothing (walksF (at-entry .args .d)) (at-entry .args .p) (at-entry .args .i) (idents.fated-nothing (at-entry .args .w .now) (at-entry .args .i) (at-enum-told4 .enum-told4 .given .1) (at-fate .fate .ensures)) (ways.did-skip (at-entry .args .i) ((at-entry .pre .1 .0) .planted) (c .skip2 .ensures .0)))
+    codes.did-at (codes.low-end ((heres.at-skip (at-entry .pre .1 .0)) .0) (c .skip2 .ensures .2)) (idents.no-const-inlining (walksF (at-entry .args .d)) (at-entry .args .p) (at-entry .args .i) (idents.named-unknown (at-entry .args .w .now) (at-entry .args .i) (at-enum-told3 .enum-told3 .given .1) (at-constant .constant .ensures)) (at-if1 .if1 .left) (idents.found-nothing (walksF (at-entry .args .d)) (at-entry .args .p) (at-entry .args .i) (idents.fated-nothing (at-entry .args .w .now) (at-entry .args .i) (at-enum-told4 .enum-told4 .given .1) (at-fate .fate .ensures)) (ways.did-skip (at-entry .args .i) ((at-entry .pre .1 .0) .planted) (c .skip2 .ensures .0))))
 
 pub ident-same-length-6 : (t : ℕ) → ident-lts.Need-same-length-6 (ident-calls t) (ident-at t) ident.Post
 ident-same-length-6 t c =
-    let at-inline-undefined = c .before .before in
+    let at-inline-undefined = c .before .before .before in
     at-inline-undefined .inline-undefined .kept .0
 
 pub ident-returns-6 : (t : ℕ) → ident-lts.Need-returns-6 (ident-calls t) (ident-at t) ident.Post
 ident-returns-6 t c =
-    let at-inline-undefined = c .before .before in
+    let at-inline-undefined = c .before .before .before in
     let at-enum-told5 = at-inline-undefined .before .before in
     let at-fate = at-enum-told5 .before .before in
     let at-if1 = at-fate .before .before in
     let at-enum-told3 = at-if1 .before .before in
     let at-constant = at-enum-told3 .before .before in
     let at-entry = at-constant .before .before .before in
-    idents.no-const-inlining (walksF (at-entry .args .d)) (at-entry .args .p) (at-entry .args .i) (idents.named-unknown (at-entry .args .w .now) (at-entry .args .i) (at-enum-told3 .enum-told3 .given .1) (at-constant .constant .ensures)) (at-if1 .if1 .left) (idents.found-void (walksF (at-entry .args .d)) (at-entry .args .p) (at-entry .args .i) (idents.fated-void (at-entry .args .w .now) (at-entry .args .i) (at-enum-told5 .enum-told5 .given .1) (at-fate .fate .ensures)) (idents.goes-did (at-inline-undefined .inline-undefined .ensures)))
+    ways.did-as (sym (c .coded2 .ensures)) (idents.no-const-inlining (walksF (at-entry .args .d)) (at-entry .args .p) (at-entry .args .i) (idents.named-unknown (at-entry .args .w .now) (at-entry .args .i) (at-enum-told3 .enum-told3 .given .1) (at-constant .constant .ensures)) (at-if1 .if1 .left) (idents.found-void (walksF (at-entry .args .d)) (at-entry .args .p) (at-entry .args .i) (idents.fated-void (at-entry .args .w .now) (at-entry .args .i) (at-enum-told5 .enum-told5 .given .1) (at-fate .fate .ensures)) (idents.goes-did (at-inline-undefined .inline-undefined .ensures))))
 
 pub ident-same-length-7 : (t : ℕ) → ident-lts.Need-same-length-7 (ident-calls t) (ident-at t) ident.Post
 ident-same-length-7 t c =

@@ -9,7 +9,7 @@ use Rattle.tree.specs.Combine.{andThen, onRest, _>>=_, _>>_, ret, act, actF, if
 use Rattle.tree.proofs.Sims.{sim-each, sim-skip, sim-node, sim-if, sim-within, sim-split}
 use Rattle.state.specs.State.{abs, rest}
 use Rattle.flat.specs.WalkF.{walksF, inCondF, visitMutStmtsF, plainF, visitMutBlockStmtF, scriptF, visitWithChildF, visitMutVarDeclF, visitMutFunctionF, visitMutFnDeclF, visitMutFnExprF, visitMutArrowExprF, testedF, visitMutIfStmtF, visitMutWhileStmtF, visitMutForStmtF, visitMutForInStmtF, visitMutTryStmtF, catchParamF, visitMutCatchClauseF, visitMutSwitchCaseF, visitMutUnaryExprF, visitMutUpdateExprF, visitMutCallExprF, visitMutAssignExprF, assignKidsF, handleF, ownF, logicalF, afterF}
-use Rattle.flat.proofs.Sim.{sims, sim-own, sim-name, sim-branch, sim-tested, sim-catchParam, sim-stmts}
+use Rattle.flat.proofs.Sim.{sims, sim-own, sim-after, sim-afterIdent, sim-declr, sim-name, sim-branch, sim-tested, sim-catchParam, sim-stmts}
 use Rattle.walk_laws.proofs.Heres as heres
 use Rattle.walk_laws.proofs.Ways as ways
 use Rattle.walk_laws.proofs.Declrs as declrs
@@ -17,6 +17,7 @@ use Rattle.declare_steps.proofs.stays.Reads as stays-reads
 use Rattle.look.proofs.ident_at.Reads as ident-at-reads
 use Rattle.nodes.proofs.skip.Reads as skip-reads
 use Rattle.walk.proofs.+after+arm+arms+arrow+assign+binds+block+body+call+case+catch+conds+decl+declr+fdecl+fexpr+forin+fors+full+func+ident+ifs+init+items+kids+logic+loops+many+name+own+params+parts+stmts+tail+tries+unary+whiles.Lts-init as init-lts
+use Rattle.walk.proofs.answer.next.Reads as next-reads
 use Rattle.walk.proofs.full.Reads as full
 use Rattle.walk.proofs.init.Reads as init
 use Rattle.walk.proofs.name.Reads as name
@@ -24,7 +25,7 @@ use Rattle.walk.proofs.steps.declr_end.Reads as declr-end-reads
 use Rattle.walk.proofs.+after+arm+arms+arrow+assign+binds+block+body+call+case+catch+conds+decl+declr+fdecl+fexpr+forin+fors+full+func+ident+ifs+init+items+kids+logic+loops+many+name+own+params+parts+stmts+tail+tries+unary+whiles.Proof.Common.{full-below, init-at, name-below}
 
 abbrev pub init-calls : ℕ → init-lts.Claims
-init-calls t = (name-below t, name.Post, ident-at-reads.Asked, ident-at-reads.Learnt, skip-reads.Asked, skip-reads.Learnt, stays-reads.Asked, stays-reads.Learnt, declr-end-reads.Asked, declr-end-reads.Learnt, full-below t, full.Post)
+init-calls t = (name-below t, name.Post, next-reads.Asked, next-reads.Learnt, ident-at-reads.Asked, ident-at-reads.Learnt, skip-reads.Asked, skip-reads.Learnt, stays-reads.Asked, stays-reads.Learnt, declr-end-reads.Asked, declr-end-reads.Learnt, full-below t, full.Post)
 
 pub init-slice-read-kind : (t : ℕ) → init-lts.Need-slice-read-kind (init-calls t) (init-at t) init.Post
 init-slice-read-kind t c =
@@ -36,17 +37,20 @@ init-name-requires t c κs =
     let at-entry = c .before .before .before .before in
     (omega (arith, at-entry .pre .0), ((at-entry .pre .1 .0), (at-entry .pre .1 .1)))
 
+pub init-next-requires : (t : ℕ) → init-lts.Need-next-requires (init-calls t) (init-at t) init.Post
+init-next-requires t c κs = tt
+
 pub init-same-length : (t : ℕ) → init-lts.Need-same-length (init-calls t) (init-at t) init.Post
 init-same-length t c =
-    let at-name = c .before .before in
+    let at-name = c .before .before .before in
     at-name .name .kept .0
 
 pub init-returns : (t : ℕ) → init-lts.Need-returns (init-calls t) (init-at t) init.Post
 init-returns t c =
-    let at-name = c .before .before in
+    let at-name = c .before .before .before in
     let at-if1 = at-name .before .before in
     let at-entry = at-if1 .before .before .before in
-    declrs.end-const (walksF (at-entry .args .d)) (at-entry .args .p) (sim-name (sims (at-entry .args .d)) (at-entry .args .p)) (at-entry .pre .1 .0) (at-entry .pre .1 .1) (treeAt (abs (at-entry .args .w .now)) (at-entry .args .i + 1)) (rest (at-entry .args .w .now) .varDeclKind) (declrs.kind-const (at-entry .args .w .now) (at-if1 .if1 .taken)) (at-name .name .ensures)
+    ways.did-as (sym (c .next .ensures .0)) (declrs.end-const (walksF (at-entry .args .d)) (at-entry .args .p) (sim-name (sims (at-entry .args .d)) (at-entry .args .p)) (at-entry .pre .1 .0) (at-entry .pre .1 .1) (treeAt (abs (at-entry .args .w .now)) (at-entry .args .i + 1)) (rest (at-entry .args .w .now) .varDeclKind) (declrs.kind-const (at-entry .args .w .now) (at-if1 .if1 .taken)) (at-name .name .ensures))
 
 pub init-add-ident-at : (t : ℕ) → init-lts.Need-add-ident-at (init-calls t) (init-at t) init.Post
 init-add-ident-at t c =
@@ -133,6 +137,9 @@ init-full-requires t c κs =
     let at-entry = at-skip .before .before .before .before .before .before .before in
     (omega (arith, at-entry .pre .0), (heres.here-one (λ z. omega (arith, z, at-if3 .if3 .left, (at-entry .pre .1 .2) .some)) (heres.here-next sim-skip (heres.here-kids (at-entry .pre .1 .0) (at-entry .pre .1 .1)) refl (λ z. omega (arith, z, (at-entry .pre .1 .2) .some)) (ways.did-skip (at-entry .args .i + 1) ((at-entry .pre .1 .0) .planted) (at-skip .skip .ensures .0)))))
 
+pub init-next-requires-2 : (t : ℕ) → init-lts.Need-next-requires-2 (init-calls t) (init-at t) init.Post
+init-next-requires-2 t c κs = tt
+
 pub init-enum-told : (t : ℕ) → init-lts.Need-enum-told (init-calls t) (init-at t) init.Post
 init-enum-told t c = search needs
 
@@ -141,12 +148,13 @@ init-enum-told-2 t c = search needs
 
 pub init-same-length-4 : (t : ℕ) → init-lts.Need-same-length-4 (init-calls t) (init-at t) init.Post
 init-same-length-4 t c =
-    let at-full = c .before .before .before .before in
+    let at-full = c .before .before .before .before .before in
     at-full .full .kept .0
 
 pub init-returns-4 : (t : ℕ) → init-lts.Need-returns-4 (init-calls t) (init-at t) init.Post
 init-returns-4 t c =
-    let at-full = c .before .before .before .before in
+    let at-next2 = c .before .before in
+    let at-full = at-next2 .before .before .before in
     let at-if3 = at-full .before .before in
     let at-if2 = at-if3 .before in
     let at-stays = at-if2 .before in
@@ -154,36 +162,38 @@ init-returns-4 t c =
     let at-ident-at = at-skip .before .before in
     let at-if1 = at-ident-at .before .before in
     let at-entry = at-if1 .before .before .before in
-    declrs.init-stop (walksF (at-entry .args .d)) (at-entry .args .p) (sims (at-entry .args .d) .full (suc (at-entry .args .p))) (at-entry .pre .1 .0) (at-entry .pre .1 .1) (at-entry .pre .1 .2) (at-skip .skip .ensures .0) (rest (at-entry .args .w .now) .varDeclKind) (declrs.kind-other (at-entry .args .w .now) (omega (arith, at-if1 .if1 .left))) (at-ident-at .ident-at .result) (at-ident-at .ident-at .ensures) (at-stays .stays .ensures) (at-if2 .if2 .left) (at-if3 .if3 .left) (c .enum-told2 .given .1) (at-full .full .ensures)
+    ways.did-as (sym (at-next2 .next2 .ensures .0)) (declrs.init-stop (walksF (at-entry .args .d)) (at-entry .args .p) (sims (at-entry .args .d) .full (suc (at-entry .args .p))) (at-entry .pre .1 .0) (at-entry .pre .1 .1) (at-entry .pre .1 .2) (at-skip .skip .ensures .0) (rest (at-entry .args .w .now) .varDeclKind) (declrs.kind-other (at-entry .args .w .now) (omega (arith, at-if1 .if1 .left))) (at-ident-at .ident-at .result) (at-ident-at .ident-at .ensures) (at-stays .stays .ensures) (at-if2 .if2 .left) (at-if3 .if3 .left) (sym (at-next2 .next2 .ensures .0) ∙ c .enum-told2 .given .1) (at-full .full .ensures))
 
 pub init-skip-requires-3 : (t : ℕ) → init-lts.Need-skip-requires-3 (init-calls t) (init-at t) init.Post
 init-skip-requires-3 t c κs =
     let at-enum-told = c .before in
-    let at-full = at-enum-told .before .before .before .before in
+    let at-next2 = at-enum-told .before .before in
+    let at-full = at-next2 .before .before .before in
     let at-if3 = at-full .before .before in
     let at-skip = at-if3 .before .before .before .before in
     let at-entry = at-skip .before .before .before .before .before .before .before in
-    heres.here-below (at-entry .args .i) (omega (arith, at-skip .skip .ensures .1)) (heres.here-still (sims (at-entry .args .d) .full (at-entry .args .p + 1)) (heres.here-one (λ z. omega (arith, z, at-if3 .if3 .left, (at-entry .pre .1 .2) .some)) (heres.here-next sim-skip (heres.here-kids (at-entry .pre .1 .0) (at-entry .pre .1 .1)) refl (λ z. omega (arith, z, (at-entry .pre .1 .2) .some)) (ways.did-skip (at-entry .args .i + 1) ((at-entry .pre .1 .0) .planted) (at-skip .skip .ensures .0)))) (at-enum-told .enum-told .given .1) refl (at-full .full .ensures))
+    heres.here-below (at-entry .args .i) (omega (arith, at-skip .skip .ensures .1)) (heres.here-still (sims (at-entry .args .d) .full (at-entry .args .p + 1)) (heres.here-one (λ z. omega (arith, z, at-if3 .if3 .left, (at-entry .pre .1 .2) .some)) (heres.here-next sim-skip (heres.here-kids (at-entry .pre .1 .0) (at-entry .pre .1 .1)) refl (λ z. omega (arith, z, (at-entry .pre .1 .2) .some)) (ways.did-skip (at-entry .args .i + 1) ((at-entry .pre .1 .0) .planted) (at-skip .skip .ensures .0)))) (sym (at-next2 .next2 .ensures .0) ∙ at-enum-told .enum-told .given .1) refl (at-full .full .ensures))
 
 pub init-sub-declr-end : (t : ℕ) → init-lts.Need-sub-declr-end (init-calls t) (init-at t) init.Post
 init-sub-declr-end t c =
-    let at-entry = c .before .before .before .before .before .before .before .before .before .before .before .before .before .before .before .before .before .before .before .before in
+    let at-entry = c .before .before .before .before .before .before .before .before .before .before .before .before .before .before .before .before .before .before .before .before .before in
     omega (arith, (at-entry .pre .1 .2) .some)
 
 pub init-declr-end-requires-2 : (t : ℕ) → init-lts.Need-declr-end-requires-2 (init-calls t) (init-at t) init.Post
 init-declr-end-requires-2 t c κs =
     let at-skip3 = c .before in
     let at-enum-told = at-skip3 .before .before in
-    let at-full = at-enum-told .before .before .before .before in
+    let at-next2 = at-enum-told .before .before in
+    let at-full = at-next2 .before .before .before in
     let at-if3 = at-full .before .before in
     let at-skip = at-if3 .before .before .before .before in
     let at-entry = at-skip .before .before .before .before .before .before .before in
-    (at-full .full .ensures .ok .planted, declrs.spot (walksF (at-entry .args .d)) (at-entry .args .p) (sims (at-entry .args .d) .full (suc (at-entry .args .p))) (at-entry .pre .1 .0) (at-entry .pre .1 .1) (at-entry .pre .1 .2) (at-skip .skip .ensures .0) (declrs.walked (walksF (at-entry .args .d)) (at-entry .args .p) (sims (at-entry .args .d) .full (suc (at-entry .args .p))) (at-entry .pre .1 .0) (at-entry .pre .1 .1) (at-entry .pre .1 .2) (at-skip .skip .ensures .0) (at-if3 .if3 .left) (at-enum-told .enum-told .given .1) (at-full .full .ensures) (at-skip3 .skip3 .ensures .0)) (λ z. at-skip3 .skip3 .ensures .0))
+    (at-full .full .ensures .ok .planted, declrs.spot (walksF (at-entry .args .d)) (at-entry .args .p) (sims (at-entry .args .d) .full (suc (at-entry .args .p))) (at-entry .pre .1 .0) (at-entry .pre .1 .1) (at-entry .pre .1 .2) (at-skip .skip .ensures .0) (declrs.walked (walksF (at-entry .args .d)) (at-entry .args .p) (sims (at-entry .args .d) .full (suc (at-entry .args .p))) (at-entry .pre .1 .0) (at-entry .pre .1 .1) (at-entry .pre .1 .2) (at-skip .skip .ensures .0) (at-if3 .if3 .left) (sym (at-next2 .next2 .ensures .0) ∙ at-enum-told .enum-told .given .1) (at-full .full .ensures) (at-skip3 .skip3 .ensures .0)) (λ z. at-skip3 .skip3 .ensures .0))
 
 pub init-same-length-5 : (t : ℕ) → init-lts.Need-same-length-5 (init-calls t) (init-at t) init.Post
 init-same-length-5 t c =
     let at-declr-end2 = c .before .before in
-    let at-full = at-declr-end2 .before .before .before .before .before .before .before .before in
+    let at-full = at-declr-end2 .before .before .before .before .before .before .before .before .before in
     at-declr-end2 .declr-end2 .kept .0 ∙ at-full .full .kept .0
 
 pub init-returns-5 : (t : ℕ) → init-lts.Need-returns-5 (init-calls t) (init-at t) init.Post
@@ -191,7 +201,8 @@ init-returns-5 t c =
     let at-declr-end2 = c .before .before in
     let at-skip3 = at-declr-end2 .before .before in
     let at-enum-told = at-skip3 .before .before in
-    let at-full = at-enum-told .before .before .before .before in
+    let at-next2 = at-enum-told .before .before in
+    let at-full = at-next2 .before .before .before in
     let at-if3 = at-full .before .before in
     let at-if2 = at-if3 .before in
     let at-stays = at-if2 .before in
@@ -199,4 +210,4 @@ init-returns-5 t c =
     let at-ident-at = at-skip .before .before in
     let at-if1 = at-ident-at .before .before in
     let at-entry = at-if1 .before .before .before in
-    declrs.init-then (walksF (at-entry .args .d)) (at-entry .args .p) (sims (at-entry .args .d) .full (suc (at-entry .args .p))) (at-entry .pre .1 .0) (at-entry .pre .1 .1) (at-entry .pre .1 .2) (at-skip .skip .ensures .0) (rest (at-entry .args .w .now) .varDeclKind) (declrs.kind-other (at-entry .args .w .now) (omega (arith, at-if1 .if1 .left))) (at-ident-at .ident-at .result) (at-ident-at .ident-at .ensures) (at-stays .stays .ensures) (at-if2 .if2 .left) (declrs.walked (walksF (at-entry .args .d)) (at-entry .args .p) (sims (at-entry .args .d) .full (suc (at-entry .args .p))) (at-entry .pre .1 .0) (at-entry .pre .1 .1) (at-entry .pre .1 .2) (at-skip .skip .ensures .0) (at-if3 .if3 .left) (at-enum-told .enum-told .given .1) (at-full .full .ensures) (at-skip3 .skip3 .ensures .0)) (declrs.after-kind (at-entry .args .w .now) (at-entry .args .i) (at-ident-at .ident-at .result) (at-entry .args .n - 1) (at-skip .skip .result) (at-skip3 .skip3 .result) (at-declr-end2 .declr-end2 .ensures))
+    declrs.init-then (walksF (at-entry .args .d)) (at-entry .args .p) (sims (at-entry .args .d) .full (suc (at-entry .args .p))) (at-entry .pre .1 .0) (at-entry .pre .1 .1) (at-entry .pre .1 .2) (at-skip .skip .ensures .0) (rest (at-entry .args .w .now) .varDeclKind) (declrs.kind-other (at-entry .args .w .now) (omega (arith, at-if1 .if1 .left))) (at-ident-at .ident-at .result) (at-ident-at .ident-at .ensures) (at-stays .stays .ensures) (at-if2 .if2 .left) (declrs.walked (walksF (at-entry .args .d)) (at-entry .args .p) (sims (at-entry .args .d) .full (suc (at-entry .args .p))) (at-entry .pre .1 .0) (at-entry .pre .1 .1) (at-entry .pre .1 .2) (at-skip .skip .ensures .0) (at-if3 .if3 .left) (sym (at-next2 .next2 .ensures .0) ∙ at-enum-told .enum-told .given .1) (at-full .full .ensures) (at-skip3 .skip3 .ensures .0)) (declrs.after-kind (at-entry .args .w .now) (at-entry .args .i) (at-ident-at .ident-at .result) (at-entry .args .n - 1) (at-skip .skip .result) (at-skip3 .skip3 .result) (at-declr-end2 .declr-end2 .ensures))

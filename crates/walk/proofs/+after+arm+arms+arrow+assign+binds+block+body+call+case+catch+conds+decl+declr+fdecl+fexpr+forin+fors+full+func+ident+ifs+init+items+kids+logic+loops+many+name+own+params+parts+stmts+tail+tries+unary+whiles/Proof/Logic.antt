@@ -10,6 +10,7 @@ use Rattle.tree.specs.Combine.{andThen, onRest, _>>=_, _>>_, ret, act, actF, if
 use Rattle.tree.proofs.Sims.{sim-each, sim-skip, sim-node, sim-if, sim-within, sim-split}
 use Rattle.state.specs.State.{abs, rest}
 use Rattle.flat.specs.WalkF.{walksF, inCondF, visitMutStmtsF, plainF, visitMutBlockStmtF, scriptF, visitWithChildF, visitMutVarDeclF, visitMutFunctionF, visitMutFnDeclF, visitMutFnExprF, visitMutArrowExprF, testedF, visitMutIfStmtF, visitMutWhileStmtF, visitMutForStmtF, visitMutForInStmtF, visitMutTryStmtF, catchParamF, visitMutCatchClauseF, visitMutSwitchCaseF, visitMutUnaryExprF, visitMutUpdateExprF, visitMutCallExprF, visitMutAssignExprF, assignKidsF, handleF, ownF, logicalF, afterF}
+use Rattle.walk_laws.proofs.Codes as codes
 use Rattle.walk_laws.proofs.Heres as heres
 use Rattle.walk_laws.proofs.Ways as ways
 use Rattle.nodes.proofs.skip.Reads as skip-reads
@@ -43,7 +44,7 @@ logic-returns t c =
     let at-if1 = c .before .before in
     let at-kind-at = at-if1 .before in
     let at-entry = at-kind-at .before .before .before in
-    ways.iff-no _ _ (ways.first-no _ (ways.kind-no (at-entry .pre .1) 32 (at-kind-at .kind-at .ensures) (at-if1 .if1 .taken))) (ways.did-skip (at-entry .args .i) (at-entry .pre .1 .planted) (c .skip .ensures .0))
+    codes.did-at (codes.low-end ((heres.at-skip (at-entry .pre .1)) .0) (c .skip .ensures .2)) (ways.iff-no _ _ (ways.first-no _ (ways.kind-no (at-entry .pre .1) 32 (at-kind-at .kind-at .ensures) (at-if1 .if1 .taken))) (ways.did-skip (at-entry .args .i) (at-entry .pre .1 .planted) (c .skip .ensures .0)))
 
 pub logic-form-at-requires : (t : ℕ) → logic-lts.Need-form-at-requires (logic-calls t) (logic-at t) logic.Post
 logic-form-at-requires t c κs =
@@ -64,7 +65,7 @@ logic-returns-2 t c =
     let at-if2 = c .before .before in
     let at-form-at = at-if2 .before in
     let at-entry = at-form-at .before .before .before .before .before .before in
-    ways.iff-no _ _ (ways.second-no (eqb (nodeAt (abs (at-entry .args .w .now)) (at-entry .args .i) .kind) 32) (ways.form-high (at-entry .pre .1) (at-form-at .form-at .ensures) (at-if2 .if2 .taken))) (ways.did-skip (at-entry .args .i) (at-entry .pre .1 .planted) (c .skip2 .ensures .0))
+    codes.did-at (codes.low-end ((heres.at-skip (at-entry .pre .1)) .0) (c .skip2 .ensures .2)) (ways.iff-no _ _ (ways.second-no (eqb (nodeAt (abs (at-entry .args .w .now)) (at-entry .args .i) .kind) 32) (ways.form-high (at-entry .pre .1) (at-form-at .form-at .ensures) (at-if2 .if2 .taken))) (ways.did-skip (at-entry .args .i) (at-entry .pre .1 .planted) (c .skip2 .ensures .0)))
 
 pub logic-arity-at-requires : (t : ℕ) → logic-lts.Need-arity-at-requires (logic-calls t) (logic-at t) logic.Post
 logic-arity-at-requires t c κs =
@@ -74,8 +75,8 @@ logic-arity-at-requires t c κs =
 pub logic-cast-n : (t : ℕ) → logic-lts.Need-cast-n (logic-calls t) (logic-at t) logic.Post
 logic-cast-n t c = search needs
 
-pub logic-add-t23 : (t : ℕ) → logic-lts.Need-add-t23 (logic-calls t) (logic-at t) logic.Post
-logic-add-t23 t c =
+pub logic-add-result : (t : ℕ) → logic-lts.Need-add-result (logic-calls t) (logic-at t) logic.Post
+logic-add-result t c =
     let at-entry = c .before .before .before .before .before .before .before .before .before .before in
     omega (arith, (at-entry .pre .1) .depth, heres.at-node (at-entry .pre .1) .1)
 
@@ -91,7 +92,7 @@ logic-returns-3 t c =
     let at-if1 = at-form-at .before .before in
     let at-kind-at = at-if1 .before in
     let at-entry = at-kind-at .before .before .before in
-    ways.iff-yes _ _ (ways.both-yes (ways.kind-yes (at-entry .pre .1) (at-kind-at .kind-at .ensures) (at-if1 .if1 .left)) (ways.form-low (at-entry .pre .1) (at-form-at .form-at .ensures) (at-if2 .if2 .left))) (ways.on-kids (λ q. splitF skip (many (λ r. inCondF (walksF (at-entry .args .d) .bare q r)))) (at-entry .pre .1) (at-arity-at .arity-at .ensures) (ways.split-none skip (many (λ r. inCondF (walksF (at-entry .args .d) .bare (at-entry .args .p + 1) r))) (at-arity-at .arity-at .result) (at-entry .args .i + 1) (c .if3 .taken) (at-entry .pre .1 .planted)))
+    codes.did-at (codes.low-next (at-entry .pre .1)) (ways.iff-yes _ _ (ways.both-yes (ways.kind-yes (at-entry .pre .1) (at-kind-at .kind-at .ensures) (at-if1 .if1 .left)) (ways.form-low (at-entry .pre .1) (at-form-at .form-at .ensures) (at-if2 .if2 .left))) (ways.on-kids (λ q. splitF skip (many (λ r. inCondF (walksF (at-entry .args .d) .bare q r)))) (at-entry .pre .1) (at-arity-at .arity-at .ensures) (ways.split-none skip (many (λ r. inCondF (walksF (at-entry .args .d) .bare (at-entry .args .p + 1) r))) (at-arity-at .arity-at .result) (at-entry .args .i + 1) (c .if3 .taken) (at-entry .pre .1 .planted))))
 
 pub logic-add-skip : (t : ℕ) → logic-lts.Need-add-skip (logic-calls t) (logic-at t) logic.Post
 logic-add-skip t c =

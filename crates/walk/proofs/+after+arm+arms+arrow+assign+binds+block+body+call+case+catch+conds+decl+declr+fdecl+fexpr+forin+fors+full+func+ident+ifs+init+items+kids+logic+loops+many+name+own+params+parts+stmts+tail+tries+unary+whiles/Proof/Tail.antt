@@ -7,6 +7,7 @@ use native.Mathlib.Omega.{arith}
 use Rattle.tree.specs.Combine.{andThen, onRest, _>>=_, _>>_, ret, act, actF, iff, skip, many, splitF, eachButF, onKidsF, nodeAt, skips, treeAt}
 use Rattle.tree.proofs.Sims.{sim-each, sim-skip, sim-node, sim-if, sim-within, sim-split}
 use Rattle.flat.specs.WalkF.{walksF, inCondF, visitMutStmtsF, plainF, visitMutBlockStmtF, scriptF, visitWithChildF, visitMutVarDeclF, visitMutFunctionF, visitMutFnDeclF, visitMutFnExprF, visitMutArrowExprF, testedF, visitMutIfStmtF, visitMutWhileStmtF, visitMutForStmtF, visitMutForInStmtF, visitMutTryStmtF, catchParamF, visitMutCatchClauseF, visitMutSwitchCaseF, visitMutUnaryExprF, visitMutUpdateExprF, visitMutCallExprF, visitMutAssignExprF, assignKidsF, handleF, ownF, logicalF, afterF}
+use Rattle.walk_laws.proofs.Codes as codes
 use Rattle.walk_laws.proofs.Heres as heres
 use Rattle.walk_laws.proofs.Ways as ways
 use Rattle.nodes.proofs.skip.Reads as skip-reads
@@ -21,7 +22,7 @@ tail-calls t = (skip-reads.Asked, skip-reads.Learnt, many-below t, many.Post)
 pub tail-returns : (t : ℕ) → tail-lts.Need-returns (tail-calls t) (tail-at t) tail.Post
 tail-returns t c =
     let at-entry = c .before .before in
-    ways.split-none skip (many (walksF (at-entry .args .d) .full (at-entry .args .p))) (at-entry .args .n) (at-entry .args .i) (c .if1 .taken) (at-entry .pre .1 .planted)
+    codes.did-at (codes.low-here (at-entry .pre .1)) (ways.split-none skip (many (walksF (at-entry .args .d) .full (at-entry .args .p))) (at-entry .args .n) (at-entry .args .i) (c .if1 .taken) (at-entry .pre .1 .planted))
 
 pub tail-skip-requires : (t : ℕ) → tail-lts.Need-skip-requires (tail-calls t) (tail-at t) tail.Post
 tail-skip-requires t c κs =

@@ -15,6 +15,7 @@ use Rattle.walk_laws.proofs.Laws as laws
 use Rattle.walk_laws.proofs.Heres as heres
 use Rattle.walk_laws.proofs.Ways as ways
 use Rattle.walk.proofs.+after+arm+arms+arrow+assign+binds+block+body+call+case+catch+conds+decl+declr+fdecl+fexpr+forin+fors+full+func+ident+ifs+init+items+kids+logic+loops+many+name+own+params+parts+stmts+tail+tries+unary+whiles.Lts-whiles as whiles-lts
+use Rattle.walk.proofs.answer.refused.Reads as refused-reads
 use Rattle.walk.proofs.loops.Reads as loops
 use Rattle.walk.proofs.whiles.Reads as whiles
 use Rattle.words.proofs.arity_at.Reads as arity-at-reads
@@ -22,24 +23,28 @@ use Rattle.write_steps.proofs.write_kids_but_last.Reads as write-kids-but-last-
 use Rattle.walk.proofs.+after+arm+arms+arrow+assign+binds+block+body+call+case+catch+conds+decl+declr+fdecl+fexpr+forin+fors+full+func+ident+ifs+init+items+kids+logic+loops+many+name+own+params+parts+stmts+tail+tries+unary+whiles.Proof.Common.{loops-below, whiles-at}
 
 abbrev pub whiles-calls : ℕ → whiles-lts.Claims
-whiles-calls t = (write-kids-but-last-reads.Asked, write-kids-but-last-reads.Learnt, arity-at-reads.Asked, arity-at-reads.Learnt, loops-below t, loops.Post)
+whiles-calls t = (write-kids-but-last-reads.Asked, write-kids-but-last-reads.Learnt, refused-reads.Asked, refused-reads.Learnt, arity-at-reads.Asked, arity-at-reads.Learnt, loops-below t, loops.Post)
 
 pub whiles-write-kids-but-last-requires : (t : ℕ) → whiles-lts.Need-write-kids-but-last-requires (whiles-calls t) (whiles-at t) whiles.Post
 whiles-write-kids-but-last-requires t c κs =
     let at-entry = c .before .before in
     heres.at-skip (at-entry .pre .1)
 
+pub whiles-refused-requires : (t : ℕ) → whiles-lts.Need-refused-requires (whiles-calls t) (whiles-at t) whiles.Post
+whiles-refused-requires t c κs = tt
+
 pub whiles-same-length : (t : ℕ) → whiles-lts.Need-same-length (whiles-calls t) (whiles-at t) whiles.Post
 whiles-same-length t c =
-    let at-write-kids-but-last = c .before .before .before in
+    let at-write-kids-but-last = c .before .before .before .before in
     at-write-kids-but-last .write-kids-but-last .kept .0
 
 pub whiles-returns : (t : ℕ) → whiles-lts.Need-returns (whiles-calls t) (whiles-at t) whiles.Post
 unfolding visitMutWhileStmtF
 whiles-returns t c =
-    let at-write-kids-but-last = c .before .before .before in
+    let at-if1 = c .before in
+    let at-write-kids-but-last = at-if1 .before .before .before in
     let at-entry = at-write-kids-but-last .before .before .before in
-    laws.act-stop (λ x. onKidsF (eachButF (walksF (at-entry .args .d) .full (suc (at-entry .args .p))) (visitWithChildF (walksF (at-entry .args .d)) (suc (at-entry .args .p)) vLoop)) (at-entry .args .i)) (c .if1 .taken) (at-write-kids-but-last .write-kids-but-last .ensures)
+    ways.did-as (sym (c .refused .ensures)) (laws.act-stop (λ x. onKidsF (eachButF (walksF (at-entry .args .d) .full (suc (at-entry .args .p))) (visitWithChildF (walksF (at-entry .args .d)) (suc (at-entry .args .p)) vLoop)) (at-entry .args .i)) (at-if1 .if1 .taken) (at-write-kids-but-last .write-kids-but-last .ensures))
 
 pub whiles-arity-at-requires : (t : ℕ) → whiles-lts.Need-arity-at-requires (whiles-calls t) (whiles-at t) whiles.Post
 whiles-arity-at-requires t c κs =
