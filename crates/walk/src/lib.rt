@@ -1,6 +1,4 @@
 // mod.rs: its walks over the tree's nodes in the working words. They call each other in a cycle; the depth that is left falls at every call.
-pub mod answer;
-pub mod steps;
 
 ghost use Prim.Native.Nat.{_+_, _≤_};
 ghost use mathlib.Core.Path.{_≡_};
@@ -15,9 +13,6 @@ ghost use Rattle.definition.specs.Scope.{loop};
 ghost use Rattle.flat.specs.WalkF.{walksF, visitMutStmtsF, plainF, visitMutBlockStmtF, scriptF, visitWithChildF, visitMutVarDeclF, visitMutFunctionF, visitMutFnDeclF, visitMutFnExprF, visitMutArrowExprF, visitMutIfStmtF, visitMutWhileStmtF, visitMutForStmtF, visitMutForInStmtF, visitMutTryStmtF, catchParamF, visitMutCatchClauseF, visitMutSwitchCaseF, visitMutPatF, visitMutUnaryExprF, visitMutUpdateExprF, visitMutCallExprF, visitMutAssignExprF, ownF, logicalF, afterF, inCondF, nameLastF, visitMutVarDeclaratorF, afterIdentF};
 ghost use Rattle.state.specs.State.{abs, rest};
 ghost use Rattle.walk_laws.specs.Did.{Did, Here, nextOf, clausesF, itemsF, declrEndF, Bound};
-use answer::coded;
-use answer::next;
-use answer::refused;
 use declare_steps::Told;
 use declare_steps::over;
 use declare_steps::stays;
@@ -41,11 +36,14 @@ use state::set_in_test;
 use state::set_inlining;
 use state::set_pat_mode;
 use state::set_var_decl_kind;
-use steps::bare;
-use steps::decl_kind;
-use steps::declr_end;
-use steps::nameless;
-use steps::settled;
+use walk_steps::answer::coded;
+use walk_steps::answer::next;
+use walk_steps::answer::refused;
+use walk_steps::steps::bare;
+use walk_steps::steps::decl_kind;
+use walk_steps::steps::declr_end;
+use walk_steps::steps::nameless;
+use walk_steps::steps::settled;
 use words::arity_at;
 use words::form_at;
 use words::kind_at;

@@ -19,8 +19,8 @@ use Rattle.ident_steps.proofs.enter.Reads as enter-reads
 use Rattle.ident_steps.proofs.leave.Reads as leave-reads
 use Rattle.state.proofs.set_pat_mode.Reads as set-pat-mode-reads
 use Rattle.walk.proofs.+after+arm+arms+arrow+assign+binds+block+body+call+case+catch+conds+decl+declr+fdecl+fexpr+forin+fors+full+func+ident+ifs+init+items+kids+logic+loops+many+name+own+params+parts+stmts+tail+tries+unary+whiles.Lts-catch as catch-lts
-use Rattle.walk.proofs.answer.next.Reads as next-reads
-use Rattle.walk.proofs.answer.refused.Reads as refused-reads
+use Rattle.walk_steps.proofs.answer.next.Reads as next-reads
+use Rattle.walk_steps.proofs.answer.refused.Reads as refused-reads
 use Rattle.walk.proofs.binds.Reads as binds
 use Rattle.walk.proofs.catch.Reads as catch
 use Rattle.walk.proofs.full.Reads as full

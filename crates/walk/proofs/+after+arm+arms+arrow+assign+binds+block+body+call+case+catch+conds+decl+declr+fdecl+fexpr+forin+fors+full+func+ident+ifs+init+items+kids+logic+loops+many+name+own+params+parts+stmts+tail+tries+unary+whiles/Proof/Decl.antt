@@ -15,7 +15,7 @@ use Rattle.state.proofs.set_var_decl_kind.Reads as set-var-decl-kind-reads
 use Rattle.walk.proofs.+after+arm+arms+arrow+assign+binds+block+body+call+case+catch+conds+decl+declr+fdecl+fexpr+forin+fors+full+func+ident+ifs+init+items+kids+logic+loops+many+name+own+params+parts+stmts+tail+tries+unary+whiles.Lts-decl as decl-lts
 use Rattle.walk.proofs.decl.Reads as decl
 use Rattle.walk.proofs.kids.Reads as kids
-use Rattle.walk.proofs.steps.decl_kind.Reads as decl-kind-reads
+use Rattle.walk_steps.proofs.steps.decl_kind.Reads as decl-kind-reads
 use Rattle.words.proofs.form_at.Reads as form-at-reads
 use Rattle.walk.proofs.+after+arm+arms+arrow+assign+binds+block+body+call+case+catch+conds+decl+declr+fdecl+fexpr+forin+fors+full+func+ident+ifs+init+items+kids+logic+loops+many+name+own+params+parts+stmts+tail+tries+unary+whiles.Proof.Common.{decl-at, kids-below}
 

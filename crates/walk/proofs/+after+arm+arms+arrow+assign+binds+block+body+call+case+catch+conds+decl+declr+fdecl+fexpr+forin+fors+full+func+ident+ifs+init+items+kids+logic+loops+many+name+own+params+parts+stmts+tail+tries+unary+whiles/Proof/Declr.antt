@@ -19,13 +19,13 @@ use Rattle.look.proofs.ident_at.Reads as ident-at-reads
 use Rattle.nodes.proofs.skip.Reads as skip-reads
 use Rattle.state.proofs.set_pat_mode.Reads as set-pat-mode-reads
 use Rattle.walk.proofs.+after+arm+arms+arrow+assign+binds+block+body+call+case+catch+conds+decl+declr+fdecl+fexpr+forin+fors+full+func+ident+ifs+init+items+kids+logic+loops+many+name+own+params+parts+stmts+tail+tries+unary+whiles.Lts-declr as declr-lts
-use Rattle.walk.proofs.answer.coded.Reads as coded-reads
-use Rattle.walk.proofs.answer.next.Reads as next-reads
-use Rattle.walk.proofs.answer.refused.Reads as refused-reads
+use Rattle.walk_steps.proofs.answer.coded.Reads as coded-reads
+use Rattle.walk_steps.proofs.answer.next.Reads as next-reads
+use Rattle.walk_steps.proofs.answer.refused.Reads as refused-reads
 use Rattle.walk.proofs.declr.Reads as declr
 use Rattle.walk.proofs.init.Reads as init
 use Rattle.walk.proofs.name.Reads as name
-use Rattle.walk.proofs.steps.nameless.Reads as nameless-reads
+use Rattle.walk_steps.proofs.steps.nameless.Reads as nameless-reads
 use Rattle.walk.proofs.tail.Reads as tail
 use Rattle.words.proofs.arity_at.Reads as arity-at-reads
 use Rattle.walk.proofs.+after+arm+arms+arrow+assign+binds+block+body+call+case+catch+conds+decl+declr+fdecl+fexpr+forin+fors+full+func+ident+ifs+init+items+kids+logic+loops+many+name+own+params+parts+stmts+tail+tries+unary+whiles.Proof.Common.{declr-at, init-below, name-below, tail-below}

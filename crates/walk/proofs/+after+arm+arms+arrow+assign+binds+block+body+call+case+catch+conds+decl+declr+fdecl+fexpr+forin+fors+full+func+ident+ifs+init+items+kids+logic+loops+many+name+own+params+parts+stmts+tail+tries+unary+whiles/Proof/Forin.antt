@@ -17,8 +17,8 @@ use Rattle.walk_laws.proofs.Heres as heres
 use Rattle.walk_laws.proofs.Ways as ways
 use Rattle.state.proofs.set_pat_mode.Reads as set-pat-mode-reads
 use Rattle.walk.proofs.+after+arm+arms+arrow+assign+binds+block+body+call+case+catch+conds+decl+declr+fdecl+fexpr+forin+fors+full+func+ident+ifs+init+items+kids+logic+loops+many+name+own+params+parts+stmts+tail+tries+unary+whiles.Lts-forin as forin-lts
-use Rattle.walk.proofs.answer.next.Reads as next-reads
-use Rattle.walk.proofs.answer.refused.Reads as refused-reads
+use Rattle.walk_steps.proofs.answer.next.Reads as next-reads
+use Rattle.walk_steps.proofs.answer.refused.Reads as refused-reads
 use Rattle.walk.proofs.forin.Reads as forin
 use Rattle.walk.proofs.full.Reads as full
 use Rattle.walk.proofs.loops.Reads as loops

@@ -21,7 +21,7 @@ use Rattle.ident_steps.proofs.inline_undefined.Reads as inline-undefined-reads
 use Rattle.ident_steps.proofs.inline_value.Reads as inline-value-reads
 use Rattle.nodes.proofs.skip.Reads as skip-reads
 use Rattle.walk.proofs.+after+arm+arms+arrow+assign+binds+block+body+call+case+catch+conds+decl+declr+fdecl+fexpr+forin+fors+full+func+ident+ifs+init+items+kids+logic+loops+many+name+own+params+parts+stmts+tail+tries+unary+whiles.Lts-ident as ident-lts
-use Rattle.walk.proofs.answer.coded.Reads as coded-reads
+use Rattle.walk_steps.proofs.answer.coded.Reads as coded-reads
 use Rattle.walk.proofs.full.Reads as full
 use Rattle.walk.proofs.ident.Reads as ident
 use Rattle.walk.proofs.logic.Reads as logic

@@ -17,11 +17,11 @@ use Rattle.declare_steps.proofs.stays.Reads as stays-reads
 use Rattle.look.proofs.ident_at.Reads as ident-at-reads
 use Rattle.nodes.proofs.skip.Reads as skip-reads
 use Rattle.walk.proofs.+after+arm+arms+arrow+assign+binds+block+body+call+case+catch+conds+decl+declr+fdecl+fexpr+forin+fors+full+func+ident+ifs+init+items+kids+logic+loops+many+name+own+params+parts+stmts+tail+tries+unary+whiles.Lts-init as init-lts
-use Rattle.walk.proofs.answer.next.Reads as next-reads
+use Rattle.walk_steps.proofs.answer.next.Reads as next-reads
 use Rattle.walk.proofs.full.Reads as full
 use Rattle.walk.proofs.init.Reads as init
 use Rattle.walk.proofs.name.Reads as name
-use Rattle.walk.proofs.steps.declr_end.Reads as declr-end-reads
+use Rattle.walk_steps.proofs.steps.declr_end.Reads as declr-end-reads
 use Rattle.walk.proofs.+after+arm+arms+arrow+assign+binds+block+body+call+case+catch+conds+decl+declr+fdecl+fexpr+forin+fors+full+func+ident+ifs+init+items+kids+logic+loops+many+name+own+params+parts+stmts+tail+tries+unary+whiles.Proof.Common.{full-below, init-at, name-below}
 
 abbrev pub init-calls : ℕ → init-lts.Claims

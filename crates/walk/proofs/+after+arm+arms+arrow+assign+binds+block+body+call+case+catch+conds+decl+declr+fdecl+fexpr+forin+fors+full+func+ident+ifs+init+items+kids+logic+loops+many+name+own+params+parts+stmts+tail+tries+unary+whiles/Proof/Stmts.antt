@@ -13,7 +13,7 @@ use Rattle.walk_laws.proofs.Heres as heres
 use Rattle.walk_laws.proofs.Ways as ways
 use Rattle.state.proofs.set_inlining.Reads as set-inlining-reads
 use Rattle.walk.proofs.+after+arm+arms+arrow+assign+binds+block+body+call+case+catch+conds+decl+declr+fdecl+fexpr+forin+fors+full+func+ident+ifs+init+items+kids+logic+loops+many+name+own+params+parts+stmts+tail+tries+unary+whiles.Lts-stmts as stmts-lts
-use Rattle.walk.proofs.answer.next.Reads as next-reads
+use Rattle.walk_steps.proofs.answer.next.Reads as next-reads
 use Rattle.walk.proofs.many.Reads as many
 use Rattle.walk.proofs.stmts.Reads as stmts
 use Rattle.walk.proofs.+after+arm+arms+arrow+assign+binds+block+body+call+case+catch+conds+decl+declr+fdecl+fexpr+forin+fors+full+func+ident+ifs+init+items+kids+logic+loops+many+name+own+params+parts+stmts+tail+tries+unary+whiles.Proof.Common.{many-below, stmts-at}

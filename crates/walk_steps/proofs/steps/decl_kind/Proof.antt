@@ -1,10 +1,10 @@
 -- `decl_kind` meets its contract, by the form. Assumes nothing.
 use mathlib.Core.Path.{sym, ap}
 use borrow.Author.Tests.{eq-eqb, ne-eqb}
-use Rattle.walk.proofs.steps.decl_kind.Statement.{statement}
-use Rattle.walk.proofs.steps.decl_kind.Tie as tie
-use Rattle.walk.proofs.steps.decl_kind.Reads as reads
-use Rattle.walk.proofs.steps.decl_kind.Lts as lts
+use Rattle.walk_steps.proofs.steps.decl_kind.Statement.{statement}
+use Rattle.walk_steps.proofs.steps.decl_kind.Tie as tie
+use Rattle.walk_steps.proofs.steps.decl_kind.Reads as reads
+use Rattle.walk_steps.proofs.steps.decl_kind.Lts as lts
 
 returns : tie.Need-returns
 returns c = rw (eq-eqb _ 0 (c .if1 .taken))

@@ -1,10 +1,10 @@
 -- `nameless` meets its contract, by the number of trees and the first one's kind. Assumes nothing.
 use Rattle.walk_laws.proofs.Declrs as declrs
 use Rattle.walk_laws.proofs.Heres as heres
-use Rattle.walk.proofs.steps.nameless.Statement.{statement}
-use Rattle.walk.proofs.steps.nameless.Tie as tie
-use Rattle.walk.proofs.steps.nameless.Reads as reads
-use Rattle.walk.proofs.steps.nameless.Lts as lts
+use Rattle.walk_steps.proofs.steps.nameless.Statement.{statement}
+use Rattle.walk_steps.proofs.steps.nameless.Tie as tie
+use Rattle.walk_steps.proofs.steps.nameless.Reads as reads
+use Rattle.walk_steps.proofs.steps.nameless.Lts as lts
 use Rattle.words.proofs.kind_at.Reads as kind-at-reads
 
 returns : tie.Need-returns

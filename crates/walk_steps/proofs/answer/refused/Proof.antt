@@ -2,10 +2,10 @@
 use native.Mathlib.Omega.{arith}
 use Rattle.walk_laws.proofs.Codes as codes
 use borrow.Author.Needs.{needs}
-use Rattle.walk.proofs.answer.refused.Statement.{statement}
-use Rattle.walk.proofs.answer.refused.Tie as tie
-use Rattle.walk.proofs.answer.refused.Reads as reads
-use Rattle.walk.proofs.answer.refused.Lts as lts
+use Rattle.walk_steps.proofs.answer.refused.Statement.{statement}
+use Rattle.walk_steps.proofs.answer.refused.Tie as tie
+use Rattle.walk_steps.proofs.answer.refused.Reads as reads
+use Rattle.walk_steps.proofs.answer.refused.Lts as lts
 
 add-result : tie.Need-add-result
 add-result c = search needs

@@ -1,10 +1,10 @@
 -- `declr_end` meets its contract: the step of the crate below, with its answer as a walk's. Assumes nothing.
 use borrow.Author.Needs.{needs}
 use Rattle.walk_laws.proofs.Declrs as declrs
-use Rattle.walk.proofs.steps.declr_end.Statement.{statement}
-use Rattle.walk.proofs.steps.declr_end.Tie as tie
-use Rattle.walk.proofs.steps.declr_end.Reads as reads
-use Rattle.walk.proofs.steps.declr_end.Lts as lts
+use Rattle.walk_steps.proofs.steps.declr_end.Statement.{statement}
+use Rattle.walk_steps.proofs.steps.declr_end.Tie as tie
+use Rattle.walk_steps.proofs.steps.declr_end.Reads as reads
+use Rattle.walk_steps.proofs.steps.declr_end.Lts as lts
 use Rattle.declare_steps.proofs.declr_after.Reads as declr-after-reads
 use Rattle.declare_steps.proofs.type_of.Reads as type-of-reads
 

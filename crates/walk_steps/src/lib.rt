@@ -1,0 +1,3 @@
+// Small steps of the walks, and their answers in one word.
+pub mod answer;
+pub mod steps;
