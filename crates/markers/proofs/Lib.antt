@@ -1,3 +1,4 @@
 -- What the proofs of several functions use.
+pub mod Again
 pub mod Fields
 pub mod Limits

@@ -3,7 +3,8 @@ ghost use mathlib.Core.Path.{_≡_};
 ghost use mathlib.Core.Bool.{_||_};
 ghost use Prim.Native.Nat.{_≤_, _<_};
 ghost use lib.ListN.{getD};
-ghost use Rattle.definition.specs.Scope.{change, defined, sensitiveNow, oneMore, readOnce, addUnresolved, preventInlineOfParams, storeInlineBarrier};
+ghost use Rattle.definition.specs.Scope.{isSome, findBinding, change, defined, sensitiveNow, oneMore, readOnce, addUnresolved, preventInlineOfParams, storeInlineBarrier};
+ghost use Rattle.tree.specs.Base.{pick};
 ghost use Rattle.words.specs.Layout.{yes};
 ghost use Rattle.scopes.specs.State.{Good, Becomes, stack, heads, flags, binds, consts, split};
 ghost use Rattle.look.specs.Look.{fnStart, paramsFrom};
@@ -55,22 +56,6 @@ fn either(h: u32, p: u32) -> u32
     p
 }
 
-// The innermost binding of x is read once more, and prevented if it is hoisted.
-pub fn read_once(w: &mut [u32], x: u8)
-    requires { ⌜ Good (now w) ⌝ }
-    ensures { λ _. ⌜ Becomes (now (w .entry)) (now (w .exit)) (change x readOnce (stack (now (w .entry)))) ⌝ }
-{
-    let k1 = find_binding(w, x);
-    if k1 == 0 {
-        return;
-    }
-    let k = k1 - 1;
-    let n = one_more(w[4112 + k * 10 + 3]);
-    let p = either(w[4112 + k * 10 + 7], w[4112 + k * 10 + 4]);
-    w[4112 + k * 10 + 3] = n;
-    w[4112 + k * 10 + 4] = p;
-}
-
 // x is used in the current scope, and not bound.
 pub fn add_unresolved(w: &mut [u32], x: u8)
     requires { ⌜ Good (now w) ⌝ }
@@ -81,6 +66,23 @@ pub fn add_unresolved(w: &mut [u32], x: u8)
         return;
     }
     w[7312 + (d - 1) * 256 + x as usize] = 1;
+}
+
+// A read of x is counted at its innermost binding, which is prevented if it is hoisted; without a binding x is unresolved.
+pub fn count_read(w: &mut [u32], x: u8)
+    requires { ⌜ Good (now w) ⌝ }
+    ensures { λ _. ⌜ Becomes (now (w .entry)) (now (w .exit)) (pick (isSome (findBinding x (stack (now (w .entry))))) (change x readOnce (stack (now (w .entry)))) (addUnresolved x (stack (now (w .entry))))) ⌝ }
+{
+    let k1 = find_binding(w, x);
+    if k1 == 0 {
+        add_unresolved(w, x);
+        return;
+    }
+    let k = k1 - 1;
+    let n = one_more(w[4112 + k * 10 + 3]);
+    let p = either(w[4112 + k * 10 + 7], w[4112 + k * 10 + 4]);
+    w[4112 + k * 10 + 3] = n;
+    w[4112 + k * 10 + 4] = p;
 }
 
 // Where the bindings of the nearest function begin, outwards.

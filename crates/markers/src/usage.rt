@@ -1,25 +1,23 @@
 // Reads and writes of identifiers, with row 9.
 ghost use mathlib.Core.Path.{_≡_};
-ghost use mathlib.Core.Bool.{Bool, not, _||_};
+ghost use mathlib.Core.Bool.{Bool, true, not, _&&_, _||_};
 ghost use mathlib.Core.Logic.{_⊎_};
 ghost use Prim.Native.Nat.{_-_, _≤_, _<_};
 ghost use lib.Dec.{eqb};
 ghost use lib.ListN.{getD};
 ghost use Rattle.tree.specs.Base.{pick};
-ghost use Rattle.definition.specs.Scope.{isSome, findBinding, change, readOnce, addUnresolved, preventInline, preventInlineOfParams, addRead, addWrite};
+ghost use Rattle.definition.specs.Scope.{preventInline, preventInlineOfParams, addRead, addWrite};
 ghost use Rattle.words.specs.Layout.{yes, nodeOf, tree};
 ghost use Rattle.scopes.specs.State.{Good, Becomes, stack, coff};
 ghost use Rattle.look.specs.Answers.{past, Ruled, Stepped, writeBound, writeFree, writeTo};
-use crate::mark::add_unresolved;
+use crate::mark::count_read;
 use crate::mark::prevent_inline_of_params;
-use crate::mark::read_once;
 use crate::mark::set_defined;
 use look::Step;
 use look::has_constant;
 use look::read_prevents_inlining;
 use look::scope_for;
 use look::write_prevents_inline;
-use scopes::find_binding;
 use scopes::offset;
 use scopes::prevent_inline;
 use scopes::push;
@@ -84,19 +82,6 @@ fn params_if(w: &mut [u32], args: bool)
     }
 }
 
-// Counts a read: at the innermost binding of x, or as unresolved.
-fn count_read(w: &mut [u32], x: u8)
-    requires { ⌜ Good (now w) ⌝ }
-    ensures { λ _. ⌜ Becomes (now (w .entry)) (now (w .exit)) (pick (isSome (findBinding x (stack (now (w .entry))))) (change x readOnce (stack (now (w .entry)))) (addUnresolved x (stack (now (w .entry))))) ⌝ }
-{
-    let k = find_binding(w, x);
-    if k == 0 {
-        add_unresolved(w, x);
-    } else {
-        read_once(w, x);
-    }
-}
-
 // x is read; `args`: its name is `arguments`.
 pub fn add_read(w: &mut [u32], x: u8, args: bool)
     requires { ⌜ Good (now w) ⌝ }
@@ -146,28 +131,41 @@ fn write_free(w: &mut [u32], x: u8, force: bool) -> Step
     within_records(w)
 }
 
-// Is a write far from its binding, or forced.
-fn far_or(here: bool, force: bool) -> bool
-    ensures { λ r. ⌜ r ≡ (not here || force) ⌝ }
+// Is a write far from its binding, or forced, and x not marked before.
+fn far_or(here: bool, force: bool, marked: bool) -> bool
+    ensures { λ r. ⌜ r ≡ ((not here || force) && not marked) ⌝ }
 {
+    if marked {
+        return false;
+    }
     if here {
         return force;
     }
     true
 }
 
-// What a write does behind its marks.
-fn write_to(w: &mut [u32], x: u8, force: bool) -> Step
-    requires { ⌜ Good (now w) ⌝ }
+// What a write does behind its marks; `marked`: x and its aliases have just been marked, and are not marked again.
+fn write_to(w: &mut [u32], x: u8, force: bool, marked: bool) -> Step
+    requires { ⌜ (Good (now w)) × (marked ≡ true → preventInline x (stack (now w)) ≡ stack (now w)) ⌝ }
     ensures { λ r. ⌜ Stepped (now (w .entry)) (now (w .exit)) (writeTo x force (stack (now (w .entry)))) r ⌝ }
 {
     let s = scope_for(w, x);
     if s.bound {
-        let far = far_or(s.current, force);
+        let far = far_or(s.current, force, marked);
         write_bound(w, x, far);
         return within_records(w);
     }
     write_free(w, x, force)
+}
+
+// Is x marked, and no parameter after it.
+fn only(marked: bool, args: bool) -> bool
+    ensures { λ r. ⌜ r ≡ (marked && not args) ⌝ }
+{
+    if args {
+        return false;
+    }
+    marked
 }
 
 // x is written; `args`: its name is `arguments`; `force`: it is prevented in any case.
@@ -178,5 +176,5 @@ pub fn add_write(w: &mut [u32], x: u8, args: bool, force: bool) -> Step
     let p = write_prevents_inline(w, x);
     prevent_if(w, x, p);
     params_if(w, args);
-    write_to(w, x, force)
+    write_to(w, x, force, only(p, args))
 }

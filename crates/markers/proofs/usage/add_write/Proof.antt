@@ -2,7 +2,9 @@
 use borrow.Author.Needs.{needs}
 use Rattle.tree.specs.Base.{pick}
 use Rattle.definition.specs.Scope.{Stack, preventInlineOfParams, addWrite}
+use Rattle.scopes.specs.State.{stack}
 use Rattle.look.specs.Answers.{writeTo}
+use Rattle.markers.proofs.Again as again
 use Rattle.markers.proofs.Limits as limits
 use Rattle.markers.proofs.usage.add_write.Statement.{statement}
 use Rattle.markers.proofs.usage.add_write.Tie as tie
@@ -16,8 +18,16 @@ prevent-if-requires c κs = search needs
 params-if-requires : tie.Need-params-if-requires
 params-if-requires c κs = search needs
 
+only-requires : tie.Need-only-requires
+only-requires c κs = search needs
+
 write-to-requires : tie.Need-write-to-requires
-write-to-requires c κs = search needs
+write-to-requires c κs =
+    let at-params-if = c .before .before .before .before in
+    let at-prevent-if = at-params-if .before .before .before .before in
+    let at-write-prevents-inline = at-prevent-if .before .before in
+    let at-entry = at-write-prevents-inline .before .before .before in
+    (at-params-if .params-if .ensures .good, again.marked-before (at-entry .args .x) (at-write-prevents-inline .write-prevents-inline .result) (at-entry .args .args) (stack (at-entry .args .w .now)) (c .only .ensures) (at-prevent-if .prevent-if .ensures .is) (at-params-if .params-if .ensures .is))
 
 same-length : tie.Need-same-length
 same-length c = search needs
@@ -26,7 +36,7 @@ returns : tie.Need-returns
 unfolding addWrite
 returns c =
     let at-write-to = c .before .before in
-    let at-params-if = at-write-to .before .before .before .before in
+    let at-params-if = at-write-to .before .before .before .before .before in
     let at-prevent-if = at-params-if .before .before .before .before in
     let at-write-prevents-inline = at-prevent-if .before .before in
     let at-entry = at-write-prevents-inline .before .before .before in
@@ -40,6 +50,7 @@ add-write-spec =
     write-prevents-inline-requires
     prevent-if-requires
     params-if-requires
+    only-requires
     write-to-requires
     same-length
     returns)

@@ -1,9 +1,10 @@
 -- By the scope found. Assumes nothing.
-use mathlib.Core.Bool.{Bool, true, false, not, _||_}
+use mathlib.Core.Bool.{Bool, true, false, not, _&&_, _||_}
 use mathlib.Core.Path.{_≡_, sym, ap, _∙_}
 use borrow.Author.Needs.{needs}
 use Rattle.definition.specs.Scope.{scopeFor}
 use Rattle.scopes.specs.State.{stack}
+use Rattle.markers.proofs.Again as again
 use Rattle.markers.proofs.Limits as limits
 use Rattle.markers.proofs.usage.write_to.Statement.{statement}
 use Rattle.markers.proofs.usage.write_to.Tie as tie
@@ -33,7 +34,11 @@ returns c =
     let w = at-entry .args .w .now in
     let x = at-entry .args .x in
     let e : scopeFor true x (stack w) .0 ≡ true = sym (at-scope-for .scope-for .ensures .0) ∙ at-if1 .if1 .taken in
-    limits.stepped (c .within-records .result) (rw e (rw (at-far-or .far-or .ensures ∙ ap (λ (h : Bool). not h || at-entry .args .force) (at-scope-for .scope-for .ensures .1)) at (at-write-bound .write-bound .ensures))) (c .within-records .ensures)
+    let force = at-entry .args .force in
+    let m = at-entry .args .marked in
+    let far : Bool = not (scopeFor true x (stack w) .1) || force in
+    let marks = rw (at-far-or .far-or .ensures ∙ ap (λ (h : Bool). (not h || force) && not m) (at-scope-for .scope-for .ensures .1)) at (at-write-bound .write-bound .ensures) in
+    limits.stepped (c .within-records .result) (rw (e, sym (again.not-again x far m (stack w) (at-entry .pre .1))) marks) (c .within-records .ensures)
 
 write-free-requires : tie.Need-write-free-requires
 write-free-requires c κs = search needs

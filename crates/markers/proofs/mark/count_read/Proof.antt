@@ -1,25 +1,42 @@
--- The innermost binding, two fields. Assumes nothing.
+-- By whether a binding is found; then two fields of it. Assumes nothing.
 use Prim.Native.Nat.{suc, _-_}
-use mathlib.Core.Path.{_≡_, sym, _∙_}
+use mathlib.Core.Bool.{true, false}
+use mathlib.Core.Path.{_≡_, sym, ap, _∙_}
 use native.Mathlib.Omega.{arith}
-use borrow.Author.Needs.{needs}
 use lib.ListN.{length-set}
-use Rattle.scopes.proofs.Words as words
+use Rattle.definition.specs.Scope.{isSome, findBinding}
+use Rattle.scopes.specs.State.{stack}
+use Rattle.look.proofs.Facts as facts
+use Rattle.look.proofs.Out as out
 use Rattle.markers.proofs.Fields as fields
-use Rattle.markers.proofs.mark.read_once.Statement.{statement}
-use Rattle.markers.proofs.mark.read_once.Tie as tie
+use borrow.Author.Needs.{needs}
+use Rattle.markers.proofs.mark.count_read.Statement.{statement}
+use Rattle.markers.proofs.mark.count_read.Tie as tie
+use Rattle.markers.proofs.mark.count_read.Reads as reads
+use Rattle.markers.proofs.mark.count_read.Lts as lts
+use Rattle.markers.proofs.mark.add_unresolved.Reads as add-unresolved-reads
+use Rattle.markers.proofs.mark.either.Reads as either-reads
+use Rattle.markers.proofs.mark.one_more.Reads as one-more-reads
+use Rattle.scopes.proofs.find_binding.Reads as find-binding-reads
 
 find-binding-requires : tie.Need-find-binding-requires
 find-binding-requires c κs = search needs
+
+add-unresolved-requires : tie.Need-add-unresolved-requires
+add-unresolved-requires c κs = search needs
 
 same-length : tie.Need-same-length
 same-length c = search needs
 
 returns : tie.Need-returns
 returns c =
-    let at-find-binding = c .before in
+    let at-add-unresolved = c .before .before in
+    let at-if1 = at-add-unresolved .before .before in
+    let at-find-binding = at-if1 .before in
     let at-entry = at-find-binding .before .before .before in
-    words.unfound (at-entry .args .w .now) (at-entry .args .x) _ (at-entry .pre) (sym (at-find-binding .find-binding .ensures .0) ∙ c .if1 .taken)
+    let w = at-entry .args .w .now in
+    let e : isSome (findBinding (at-entry .args .x) (stack w)) ≡ false = ap isSome (facts.found-at w (at-entry .args .x) (at-find-binding .find-binding .result) (at-find-binding .find-binding .ensures .0)) ∙ out.at-none w (at-find-binding .find-binding .result) (at-if1 .if1 .taken) in
+    rw e (at-add-unresolved .add-unresolved .ensures)
 
 sub-k : tie.Need-sub-k
 sub-k c = search needs
@@ -118,13 +135,16 @@ returns-2 c =
     let at-entry = at-find-binding .before .before .before in
     let r = at-find-binding .find-binding .result in
     let q : r ≡ suc (r - 1) = omega arith in
-    fields.read-now (at-entry .args .w .now) (at-entry .pre) (r - 1) (omega (arith, at-find-binding .find-binding .ensures .1)) (at-one-more .one-more .result) (c .either .result) (at-one-more .one-more .ensures) (c .either .ensures) (at-entry .args .x) (sym (at-find-binding .find-binding .ensures .0) ∙ q)
+    let w = at-entry .args .w .now in
+    let e : isSome (findBinding (at-entry .args .x) (stack w)) ≡ true = ap isSome (facts.found-at w (at-entry .args .x) (at-find-binding .find-binding .result) (at-find-binding .find-binding .ensures .0)) ∙ out.at-some w (at-find-binding .find-binding .result) (at-one-more .before .before .if1 .left) in
+    rw e (fields.read-now (at-entry .args .w .now) (at-entry .pre) (r - 1) (omega (arith, at-find-binding .find-binding .ensures .1)) (at-one-more .one-more .result) (c .either .result) (at-one-more .one-more .ensures) (c .either .ensures) (at-entry .args .x) (sym (at-find-binding .find-binding .ensures .0) ∙ q))
 
-pub read-once-spec : {M : Type 1} → statement M
-read-once-spec =
+pub count-read-spec : {M : Type 1} → statement M
+count-read-spec =
     tie.close
     (tie.spec
     find-binding-requires
+    add-unresolved-requires
     same-length
     returns
     sub-k
