@@ -177,11 +177,12 @@ pub fn prevent_inline(w: &mut [u32], x: u8)
     let mut k: usize = 0;
     let mut at: usize = 0;
     while k < n {
+        let m = w[4112 + k * 10 + 8] as usize;
         if to_mark(w, k, at, x) {
             mark_from(w, k, at, x);
             return;
         }
-        at += w[4112 + k * 10 + 8] as usize;
+        at += m;
         k += 1;
     }
 }

@@ -1,6 +1,6 @@
 -- The scan for the first binding whose mark is missing; `at` is the sum of the lengths passed, and no binding passed changes. Assumes nothing.
 use Prim.Native.Nat.{ℕ, _+_, _-_, _≤_, _<_}
-use mathlib.Core.Path.{_≡_, refl, sym, subst, _∙_}
+use mathlib.Core.Path.{_≡_, refl, sym, subst}
 use mathlib.Core.List.{List}
 use mathlib.Core.Logic.{⊎-elim}
 use native.Mathlib.Nat.{eq-or-lt-of-le}
@@ -31,14 +31,39 @@ loop-holds c =
     let at-entry = c .before .before in
     (omega arith, refl, at-entry .pre, refl, sym (sums.sum-zero (λ j. lenAt (at-entry .args .w .now) j)), λ j l. absurd (omega arith))
 
+mul-m : tie.Need-mul-m Inv-loop μ-loop
+mul-m c = search needs
+
+add-m : tie.Need-add-m Inv-loop μ-loop
+add-m c = search needs
+
+add-m-2 : tie.Need-add-m-2 Inv-loop μ-loop
+add-m-2 c = search needs
+
+mul-m-2 : tie.Need-mul-m-2 Inv-loop μ-loop
+mul-m-2 c = search needs
+
+slice-read-m : tie.Need-slice-read-m Inv-loop μ-loop
+slice-read-m c =
+    let at-loop = c .before .before in
+    omega (arith, at-loop .loop .inv .2 .long, at-loop .loop .inv .2 .count)
+
+cast-m : tie.Need-cast-m Inv-loop μ-loop
+cast-m c =
+    let at-loop = c .before .before in
+    let w = at-loop .loop .w in
+    let k = at-loop .loop .k in
+    let part = sums.sum-part (λ j. lenAt w j) k (getD w 1 0) (omega arith) in
+    omega (arith, at-loop .loop .inv .2 .vals)
+
 to-mark-requires : tie.Need-to-mark-requires Inv-loop μ-loop
 to-mark-requires c κs =
-    let at-loop = c .before .before in
+    let at-loop = c .before .before .before in
     (at-loop .loop .inv .2, omega arith, at-loop .loop .inv .4)
 
 mark-from-requires : tie.Need-mark-from-requires Inv-loop μ-loop
 mark-from-requires c κs =
-    let at-loop = c .before .before .before .before .before in
+    let at-loop = c .before .before .before .before .before .before in
     (at-loop .loop .inv .2, omega arith, at-loop .loop .inv .4, at-loop .loop .inv .5)
 
 same-length : tie.Need-same-length Inv-loop μ-loop
@@ -47,37 +72,12 @@ same-length c = search needs
 returns : tie.Need-returns Inv-loop μ-loop
 returns c =
     let at-call = c .before .before in
-    let at-loop = at-call .before .before .before .before .before .before in
+    let at-loop = at-call .before .before .before .before .before .before .before in
     let at-entry = at-loop .before .before .before in
     subst (λ (v : List ℕ). Becomes v (at-call .mark-from .last .0) (preventInline (at-entry .args .x) (stack v))) (at-loop .loop .inv .1) (at-call .mark-from .ensures)
 
-mul-at : tie.Need-mul-at Inv-loop μ-loop
-mul-at c = search needs
-
 add-at : tie.Need-add-at Inv-loop μ-loop
-add-at c = search needs
-
-add-at-2 : tie.Need-add-at-2 Inv-loop μ-loop
-add-at-2 c = search needs
-
-mul-at-2 : tie.Need-mul-at-2 Inv-loop μ-loop
-mul-at-2 c = search needs
-
-slice-read-at : tie.Need-slice-read-at Inv-loop μ-loop
-slice-read-at c =
-    let at-loop = c .before .before .before .before .before in
-    omega (arith, at-loop .loop .inv .2 .long, at-loop .loop .inv .2 .count)
-
-cast-at : tie.Need-cast-at Inv-loop μ-loop
-cast-at c =
-    let at-loop = c .before .before .before .before .before in
-    let w = at-loop .loop .w in
-    let k = at-loop .loop .k in
-    let part = sums.sum-part (λ j. lenAt w j) k (getD w 1 0) (omega arith) in
-    omega (arith, at-loop .loop .inv .2 .vals)
-
-add-at-3 : tie.Need-add-at-3 Inv-loop μ-loop
-add-at-3 c =
+add-at c =
     let at-loop = c .before .before .before .before .before in
     let w = at-loop .loop .w in
     let k = at-loop .loop .k in
@@ -92,13 +92,12 @@ loop-less c = search needs
 
 loop-again : tie.Need-loop-again Inv-loop μ-loop
 loop-again c =
-    let at-else = c .before in
-    let at-loop = at-else .before .before .before .before in
+    let at-loop = c .before .before .before .before .before in
     let x = at-loop .before .before .before .args .x in
     let w = at-loop .loop .w in
     let k = at-loop .loop .k in
     let inv = at-loop .loop .inv in
-    let this : bindAt w k ≡ preventOne x (bindAt w k) = laws.missing-not w k x (at-else .before .to-mark .result) (at-else .before .to-mark .ensures) (at-else .if1 .left) in
+    let this : bindAt w k ≡ preventOne x (bindAt w k) = laws.missing-not w k x (c .before .to-mark .result) (c .before .to-mark .ensures) (c .if1 .left) in
     let next : at-loop .loop .at + lenAt w k ≡ off w (k + 1) = omega (arith, sums.sum-next (λ j. lenAt w j) k) in
     (omega arith, inv .1, inv .2, inv .3, next, λ j l. ⊎-elim (λ (e : j ≡ k). rw e this) (λ (h : j < k). inv .5 j h) (eq-or-lt-of-le (omega arith)))
 
@@ -125,17 +124,17 @@ prevent-inline-spec =
     slice-read-n
     cast-n
     loop-holds
+    mul-m
+    add-m
+    add-m-2
+    mul-m-2
+    slice-read-m
+    cast-m
     to-mark-requires
     mark-from-requires
     same-length
     returns
-    mul-at
     add-at
-    add-at-2
-    mul-at-2
-    slice-read-at
-    cast-at
-    add-at-3
     add-k
     loop-less
     loop-again

@@ -1,5 +1,5 @@
 -- Whether a binding gets a mark that it has not: the mark first, then the name, then the value. Assumes nothing.
-use Prim.Native.Nat.{ℕ, _<_}
+use Prim.Native.Nat.{ℕ}
 use native.Mathlib.Omega.{arith}
 use lib.ListN.{getD}
 use Rattle.words.specs.Tab as sums
