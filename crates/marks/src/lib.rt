@@ -29,7 +29,7 @@ pub fn mark_all(bs: &mut [Binding], x: u32)
 }
 
 // The same for an array by value: what a caller above cites.
-pub fn all_marked(bs: [Binding; 16], x: u32) -> [Binding; 16]
+pub fn all_marked(bs: [Binding; 8], x: u32) -> [Binding; 8]
     ensures { λ r. ⌜ r ≡ map (marked x) bs ⌝ }
 {
     let mut a = bs;

@@ -1,13 +1,13 @@
 -- A scope dropped: the counts shrink. Assumes nothing.
 use mathlib.Core.Path.{_≡_, refl, sym, ap, _∙_}
 use mathlib.Core.List.{List, _∷_}
-use mathlib.Core.Bool.{_||_}
+use mathlib.Core.Bool.{true, _||_}
 use mathlib.Core.Logic.{_⊎_, inl, inr, ⊎-elim}
 use Prim.Native.Nat.{ℕ, zero, suc, _+_, _-_, _*_, _≤_, _<_}
 use native.Mathlib.Omega.{arith}
 use lib.ListN.{length, getD, set, take, length-set}
 use lib.Seq.{getD-set-same, getD-set-other}
-use Rattle.tree.specs.Base.{pick}
+use lib.Bits.{bitOr, or-zero-l, or-add-and, and-le-r}
 use Rattle.words.specs.Tab.{getD-tab, getD-tab-out, take-tab, below-or-not, sum-le}
 use Rattle.words.specs.Layout.{yes, Agree, tree}
 use Rattle.words.specs.Moved.{Merged}
@@ -17,9 +17,14 @@ use Rattle.scopes.proofs.Split as laws
 use Rattle.scopes.proofs.Words.{heads-part, part-coff, part-crun, part-consts, part-tree}
 use Rattle.scopes.proofs.Grow.{some-head, part-off, part-run, part-binds, part-flags}
 
-merged-yes : (x y : ℕ) → yes (pick (yes x) 1 y) ≡ (yes x || yes y)
-merged-yes zero y = refl
-merged-yes (suc x) y = refl
+-- the bits of two flags are a flag: either of them
+merged-yes : (x y : ℕ) → yes (bitOr x y) ≡ (yes x || yes y)
+merged-yes zero y = ap yes (or-zero-l y)
+merged-yes (suc x) y = go (bitOr (suc x) y) (omega (arith, or-add-and (suc x) y, and-le-r (suc x) y))
+  where
+    go : (n : ℕ) → 0 < n → yes n ≡ true
+    go zero h = absurd (omega arith)
+    go (suc n) h = refl
 
 -- d is the place of the scope that is closed
 module _ (w u : List ℕ) (g : Good w) (d : ℕ) (is : getD w 2 0 ≡ d + 1) (z : 0 < d)

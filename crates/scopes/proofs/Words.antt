@@ -359,6 +359,35 @@ one-miss b true false e = refl
 one-miss b false true e = absurd (subst T (sym e) tt)
 one-miss b false false e = refl
 
+one-still : (b : VarInfo) (p t : Bool) → p ≡ b .inlinePrevented → false ≡ (not p && t) → b ≡ pick t (prevent b) b
+one-still b true true q e = sym (prevent-same b q)
+one-still b true false q e = refl
+one-still b false true q e = absurd (subst T (sym e) tt)
+one-still b false false q e = refl
+
+-- binding k is to get a mark that it has not: the ends of that test
+abbrev pub missing : List ℕ → ℕ → ℕ → Bool
+missing w k x = not (bindAt w k .inlinePrevented) && hitAt w k x
+
+yes-some : (v : ℕ) → (v ≡ 0 → ⊥) → yes v ≡ true
+yes-some zero h = absurd (h refl)
+yes-some (suc v) h = refl
+
+module _ (w : List ℕ) (k x : ℕ) where
+  pub missing-has : (getD w (4112 + k * 10 + 4) 0 ≡ 0 → ⊥) → false ≡ missing w k x
+  missing-has h = sym (ap (λ (m : Bool). not m && hitAt w k x) (yes-some (getD w (4112 + k * 10 + 4) 0) h))
+
+  module _ (h : getD w (4112 + k * 10 + 4) 0 ≡ 0) where
+    pub missing-name : getD w (4112 + k * 10) 0 ≡ x → true ≡ missing w k x
+    missing-name e = sym (rw (h, eq-eqb (getD w (4112 + k * 10) 0) x e) refl)
+
+    pub missing-value : x < 256 → (getD w (4112 + k * 10) 0 ≡ x → ⊥) → (v : ℕ) → v ≡ nameOf (bindAt w k .value) → eqb v x ≡ missing w k x
+    missing-value l d v e = ap (λ (m : ℕ). eqb m x) e ∙ name-hit x (bindAt w k .value) l ∙ sym (rw (h, ne-eqb (getD w (4112 + k * 10) 0) x d) refl)
+
+  -- it is not: marked, it is what it is
+  pub missing-not : (r : Bool) → r ≡ missing w k x → r ≡ false → bindAt w k ≡ preventOne x (bindAt w k)
+  missing-not r e n = one-still (bindAt w k) (bindAt w k .inlinePrevented) (hitAt w k x) refl (sym n ∙ e)
+
 -- the sweep over all bindings: the first k are done
 pub record Swept (w₀ w : List ℕ) (x k : ℕ) : Type 0 where
   pub kept : Kept w₀ w
@@ -366,8 +395,8 @@ pub record Swept (w₀ w : List ℕ) (x k : ℕ) : Type 0 where
   pub done : (j : ℕ) → j < k → bindAt w j ≡ preventOne x (bindAt w₀ j)
   pub left : (j : ℕ) → k ≤ j → j < getD w₀ 1 0 → bindAt w j ≡ bindAt w₀ j
 
-pub swept-none : (w : List ℕ) (x : ℕ) → Swept w w x 0
-swept-none w x = record { kept = kept-self w; runs = runs-self w; done = λ j l. absurd (omega arith); left = λ j a b. refl }
+pub swept-self : (w : List ℕ) (x k : ℕ) → ((j : ℕ) → j < k → bindAt w j ≡ preventOne x (bindAt w j)) → Swept w w x k
+swept-self w x k h = record { kept = kept-self w; runs = runs-self w; done = h; left = λ j a b. refl }
 
 module _ {w₀ w : List ℕ} {x k : ℕ} (g : Good w₀) (s : Swept w₀ w x k) (h : k < getD w₀ 1 0) where
   pub swept-good : Good w
@@ -376,13 +405,20 @@ module _ {w₀ w : List ℕ} {x k : ℕ} (g : Good w₀) (s : Swept w₀ w x k) 
   upto : (w′ : List ℕ) → bindAt w′ k ≡ preventOne x (bindAt w₀ k) → ((j : ℕ) → j < getD w₀ 1 0 → (j ≡ k → ⊥) → bindAt w′ j ≡ bindAt w j) → (j : ℕ) → j < k + 1 → bindAt w′ j ≡ preventOne x (bindAt w₀ j)
   upto w′ e o j l = ⊎-elim (λ (q : j ≡ k). rw q e) (λ (q : j < k). o j (omega arith) (λ z. omega arith) ∙ s .done j q) (eq-or-lt-of-le (omega arith))
 
-  pub swept-miss : false ≡ (bindAt w₀ k .inlinePrevented || hitAt w₀ k x) → Swept w₀ w x (k + 1)
-  swept-miss e = record {
+  pub swept-same : bindAt w₀ k ≡ preventOne x (bindAt w₀ k) → Swept w₀ w x (k + 1)
+  swept-same e = record {
     kept = s .kept;
     runs = s .runs;
-    done = upto w (s .left k (omega arith) h ∙ one-miss (bindAt w₀ k) (bindAt w₀ k .inlinePrevented) (hitAt w₀ k x) e) (λ j a b. refl);
+    done = upto w (s .left k (omega arith) h ∙ e) (λ j a b. refl);
     left = λ j a b. s .left j (omega arith) b;
   }
+
+  pub swept-miss : false ≡ (bindAt w₀ k .inlinePrevented || hitAt w₀ k x) → Swept w₀ w x (k + 1)
+  swept-miss e = swept-same (one-miss (bindAt w₀ k) (bindAt w₀ k .inlinePrevented) (hitAt w₀ k x) e)
+
+  -- the words now have no mark to set there: none was to be set
+  pub swept-not : (r : Bool) → r ≡ missing w k x → r ≡ false → bindAt w₀ k ≡ preventOne x (bindAt w₀ k)
+  swept-not r e n = sym (s .left k (omega arith) h) ∙ missing-not w k x r e n ∙ ap (preventOne x) (s .left k (omega arith) h)
 
   pub swept-hit : true ≡ (bindAt w₀ k .inlinePrevented || hitAt w₀ k x) → Swept w₀ (set w (4112 + k * 10 + 4) 1) x (k + 1)
   swept-hit e =
@@ -399,7 +435,7 @@ module _ {w₀ w : List ℕ} {x k : ℕ} (g : Good w₀) (s : Swept w₀ w x k) 
 
 -- the marked records from k on stand in bs from i on
 abbrev pub Ahead : List ℕ → ℕ → ℕ → ℕ → List Binding → Type 0
-Ahead w x k i bs = (j : ℕ) → i + j < 16 → k + j < getD w 1 0 → getD bs (i + j) noRecord ≡ marks.marked x (recordAt w (k + j))
+Ahead w x k i bs = (j : ℕ) → i + j < 8 → k + j < getD w 1 0 → getD bs (i + j) noRecord ≡ marks.marked x (recordAt w (k + j))
 
 module _ {w₀ w : List ℕ} {x k : ℕ} (s : Swept w₀ w x k) where
   pub ahead-load : (bs : List Binding) → Window (marks.marked x) w k bs → Ahead w₀ x k 0 bs
@@ -413,7 +449,7 @@ ahead-next w x k i bs f j l h =
     ap (λ (m : ℕ). getD bs m noRecord) (omega arith) ∙ f (j + 1) (omega arith) (omega arith) ∙ ap (λ (m : ℕ). marks.marked x (recordAt w m)) (omega arith)
 
 -- the next of them has the mark that its binding is to have
-pub ahead-this : (w : List ℕ) (x k i : ℕ) (bs : List Binding) → x < 256 → Ahead w x k i bs → i < 16 → k < getD w 1 0 → getD bs i noRecord .prevented ≡ (bindAt w k .inlinePrevented || hitAt w k x)
+pub ahead-this : (w : List ℕ) (x k i : ℕ) (bs : List Binding) → x < 256 → Ahead w x k i bs → i < 8 → k < getD w 1 0 → getD bs i noRecord .prevented ≡ (bindAt w k .inlinePrevented || hitAt w k x)
 ahead-this w x k i bs b f l h =
     ap (λ (m : ℕ). getD bs m noRecord .prevented) (omega arith) ∙ ap (λ (c : Binding). c .prevented) (f 0 (omega arith) (omega arith)) ∙ ap (λ (m : ℕ). marks.marked x (recordAt w m) .prevented) (omega arith) ∙ mark-or w k x b
 

@@ -225,4 +225,4 @@ noRecord = record { id = 0; value = 0; prevented = false }
 
 -- the bindings from k on, changed by f, stand in bs as records, oldest first
 abbrev pub Window : (Binding → Binding) → List ℕ → ℕ → List Binding → Type 0
-Window f w k bs = (j : ℕ) → j < 16 → k + j < getD w 1 0 → getD bs j noRecord ≡ f (recordAt w (k + j))
+Window f w k bs = (j : ℕ) → j < 8 → k + j < getD w 1 0 → getD bs j noRecord ≡ f (recordAt w (k + j))

@@ -3,11 +3,12 @@ ghost use mathlib.Core.Path.{_≡_};
 ghost use Prim.Native.Nat.{ℕ, _+_, _*_, _-_, _≤_, _<_};
 ghost use mathlib.Core.List.{_∷_};
 ghost use mathlib.Core.Option.{none};
+ghost use mathlib.Core.Bool.{not, _&&_};
 ghost use lib.ListN.{getD, length};
-ghost use Rattle.definition.specs.Scope.{prevent, change, preventInline, append, fresh, newScope};
+ghost use Rattle.definition.specs.Scope.{prevent, change, preventOne, preventInline, append, fresh, newScope};
 ghost use Rattle.words.specs.Layout.{yes, Agree};
 ghost use Rattle.marks.specs.Mark.{marked};
-ghost use Rattle.scopes.specs.State.{Good, Becomes, stack, heads, binds, place, off, bindAt, nameOf, Window, varTypeOf, aliasAt, scopeKindOf, bareOf, dropInner};
+ghost use Rattle.scopes.specs.State.{Good, Becomes, stack, heads, binds, place, off, bindAt, nameOf, hitAt, Window, varTypeOf, aliasAt, scopeKindOf, bareOf, dropInner};
 use marks::Binding;
 use marks::all_marked;
 use words::merge;
@@ -75,20 +76,35 @@ fn named(w: &[u32], k: usize, at: usize) -> u32
     256
 }
 
-// n, at most 16.
-fn window(n: usize) -> usize
-    ensures { λ r. ⌜ (r ≤ 16) × (r ≤ n) × ((j : ℕ) → j < 16 → j < n → j < r) ⌝ }
+// Whether binding k gets a mark that it has not: it has none, and x is its identifier or its value, which begins at node at of the store.
+fn to_mark(w: &[u32], k: usize, at: usize, x: u8) -> bool
+    requires { ⌜ (Good (now w)) × (k < getD (now w) 1 0) × (at ≡ off (now w) k) ⌝ }
+    ensures { λ r. ⌜ r ≡ (not (bindAt (now (w .entry)) k .inlinePrevented) && hitAt (now (w .entry)) k x) ⌝ }
 {
-    if n < 16 {
+    if w[4112 + k * 10 + 4] != 0 {
+        return false;
+    }
+    if w[4112 + k * 10] == x as u32 {
+        return true;
+    }
+    let v = named(w, k, at);
+    v == x as u32
+}
+
+// n, at most 8.
+fn window(n: usize) -> usize
+    ensures { λ r. ⌜ (r ≤ 8) × (r ≤ n) × ((j : ℕ) → j < 8 → j < n → j < r) ⌝ }
+{
+    if n < 8 {
         return n;
     }
-    16
+    8
 }
 
 // The bindings from k on as records, oldest first, as many as an array holds; the value of k begins at node at.
-fn records(w: &[u32], k: usize, at: usize) -> [Binding; 16]
+fn records(w: &[u32], k: usize, at: usize) -> [Binding; 8]
     requires { ⌜ (Good (now w)) × (k < getD (now w) 1 0) × (at ≡ off (now w) k) ⌝ }
-    ensures { λ r. ⌜ (length r ≡ 16) × (Window (λ b. b) (now (w .entry)) k r) ⌝ }
+    ensures { λ r. ⌜ (length r ≡ 8) × (Window (λ b. b) (now (w .entry)) k r) ⌝ }
 {
     let n = w[1] as usize;
     let e = window(n - k);
@@ -96,7 +112,7 @@ fn records(w: &[u32], k: usize, at: usize) -> [Binding; 16]
         id: 256,
         value: 256,
         prevented: false,
-    }; 16];
+    }; 8];
     let mut i: usize = 0;
     let mut o = at;
     while i < e {
@@ -115,12 +131,41 @@ fn records(w: &[u32], k: usize, at: usize) -> [Binding; 16]
 }
 
 // The same records, x and its aliases among them marked.
-fn marks_of(w: &[u32], k: usize, at: usize, x: u8) -> [Binding; 16]
+fn marks_of(w: &[u32], k: usize, at: usize, x: u8) -> [Binding; 8]
     requires { ⌜ (Good (now w)) × (k < getD (now w) 1 0) × (at ≡ off (now w) k) ⌝ }
     ensures { λ r. ⌜ Window (marked x) (now (w .entry)) k r ⌝ }
 {
     let bs = records(w, k, at);
     all_marked(bs, x as u32)
+}
+
+// Marks every binding of x, and every binding whose value is x: there is none to mark before binding k, whose value begins at node at. A window of
+// records is made at k, and then wherever a mark is missing behind the last one.
+fn mark_from(w: &mut [u32], k: usize, at: usize, x: u8)
+    requires { ⌜ (Good (now w)) × (k < getD (now w) 1 0) × (at ≡ off (now w) k) × ((j : ℕ) → j < k → bindAt (now w) j ≡ preventOne x (bindAt (now w) j)) ⌝ }
+    ensures { λ _. ⌜ Becomes (now (w .entry)) (now (w .exit)) (preventInline x (stack (now (w .entry)))) ⌝ }
+{
+    let n = w[1] as usize;
+    let mut bs = marks_of(w, k, at, x);
+    let mut i: usize = 0;
+    let mut j = k;
+    let mut o = at;
+    while j < n {
+        if i == 8 {
+            if to_mark(w, j, o, x) {
+                bs = marks_of(w, j, o, x);
+                i = 0;
+            }
+        }
+        if i < 8 {
+            if bs[i].prevented {
+                w[4112 + j * 10 + 4] = 1;
+            }
+            i += 1;
+        }
+        o += w[4112 + j * 10 + 8] as usize;
+        j += 1;
+    }
 }
 
 // Marks every binding of x, and every binding whose value is x, in all scopes.
@@ -129,24 +174,15 @@ pub fn prevent_inline(w: &mut [u32], x: u8)
     ensures { λ _. ⌜ Becomes (now (w .entry)) (now (w .exit)) (preventInline x (stack (now (w .entry)))) ⌝ }
 {
     let n = w[1] as usize;
-    let mut bs = [Binding {
-        id: 256,
-        value: 256,
-        prevented: false,
-    }; 16];
-    let mut i: usize = 16;
     let mut k: usize = 0;
     let mut at: usize = 0;
     while k < n {
-        if i == 16 {
-            bs = marks_of(w, k, at, x);
-            i = 0;
+        let m = w[4112 + k * 10 + 8] as usize;
+        if to_mark(w, k, at, x) {
+            mark_from(w, k, at, x);
+            return;
         }
-        if bs[i].prevented {
-            w[4112 + k * 10 + 4] = 1;
-        }
-        at += w[4112 + k * 10 + 8] as usize;
-        i += 1;
+        at += m;
         k += 1;
     }
 }

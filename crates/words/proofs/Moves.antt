@@ -1,16 +1,14 @@
 -- Copying, storing, wiping and merging, word by word. Assumes nothing.
-use mathlib.Core.Path.{_≡_, refl, sym, ap, _∙_}
+use mathlib.Core.Path.{_≡_, refl, ap₂, _∙_}
 use mathlib.Core.List.{List}
-use mathlib.Core.Bool.{true}
 use mathlib.Core.Logic.{_⊎_, inl, inr, ⊎-elim}
-use Prim.Native.Nat.{ℕ, zero, suc, _+_, _-_, _≤_, _<_}
+use Prim.Native.Nat.{ℕ, _+_, _-_, _≤_, _<_}
 use native.Mathlib.Nat.{eq-or-lt-of-le}
 use native.Mathlib.Omega.{arith}
 use lib.ListN.{length, getD, set, length-set}
-use lib.Seq.{getD-set-same, getD-set-other, set-getD}
-use Rattle.tree.specs.Base.{pick}
+use lib.Bits.{bitOr}
+use lib.Seq.{getD-set-same, getD-set-other}
 use Rattle.words.specs.Tab.{below-or-not}
-use Rattle.words.specs.Layout.{yes}
 use Rattle.words.specs.Moved.{Moved, Put4, Put5, Zeroed, Merged, Cleared}
 use Rattle.words.proofs.Nodes.{beyond-same}
 
@@ -131,42 +129,19 @@ wipe-more {w₀} {w} {p} {i} m f = record {
 pub merge-none : (w : List ℕ) (a b : ℕ) → Merged w w a b 0
 merge-none w a b = record { size = refl; here = λ j l. absurd (omega arith); low = λ j l. refl; high = λ j l. refl }
 
-pub yes-of : (n : ℕ) → (n ≡ 0 → ⊥) → yes n ≡ true
-yes-of zero h = absurd (h refl)
-yes-of (suc n) h = refl
-
-module _ {w₀ w : List ℕ} {a b i : ℕ} (m : Merged w₀ w a b i) (h : b + i < a) where
-  seen : getD w (a + i) 0 ≡ getD w₀ (a + i) 0
-  seen = m .high (a + i) (omega arith)
-
-  merge-one : (getD w (a + i) 0 ≡ 0 → ⊥) → b + i < length w → Merged w₀ (set w (b + i) 1) a b (i + 1)
-  merge-one z f = record {
-    size = simp length-set (m .size);
-    here = λ j l. ⊎-elim
-        (λ (q : j ≡ i). rw q (getD-set-same w (b + i) 1 0 f ∙ rw (yes-of (getD w₀ (a + i) 0) (λ e. z (seen ∙ e))) refl))
-        (λ (q : j < i). getD-set-other w (b + i) (b + j) 1 0 (λ e. omega arith) ∙ m .here j q)
-        (eq-or-lt-of-le (omega arith));
-    low = λ j l. getD-set-other w (b + i) j 1 0 (λ e. omega arith) ∙ m .low j l;
-    high = λ j l. getD-set-other w (b + i) j 1 0 (λ e. omega arith) ∙ m .high j (omega arith);
-  }
-
-  merge-skip : getD w (a + i) 0 ≡ 0 → Merged w₀ w a b (i + 1)
-  merge-skip z = record {
-    size = m .size;
-    here = λ j l. ⊎-elim
-        (λ (q : j ≡ i). rw q (m .high (b + i) (omega arith) ∙ rw (sym seen ∙ z) refl))
-        (λ (q : j < i). m .here j q)
-        (eq-or-lt-of-le (omega arith));
-    low = λ j l. m .low j l;
-    high = λ j l. m .high j (omega arith);
-  }
-
-  pub merge-put : {x : ℕ} → x ≡ pick (yes (getD w (a + i) 0)) 1 (getD w (b + i) 0) → b + i < length w → Merged w₀ (set w (b + i) x) a b (i + 1)
-  merge-put {x} e f = go (getD w (a + i) 0) refl
-    where
-      go : (v : ℕ) → getD w (a + i) 0 ≡ v → Merged w₀ (set w (b + i) x) a b (i + 1)
-      go zero z = rw (e ∙ ap (λ (v : ℕ). pick (yes v) 1 (getD w (b + i) 0)) z, set-getD w (b + i) 0) (merge-skip z)
-      go (suc n) z = rw (e ∙ ap (λ (v : ℕ). pick (yes v) 1 (getD w (b + i) 0)) z) (merge-one (λ y. let t : suc n ≡ 0 = sym z ∙ y in omega (arith, t)) f)
+pub merge-more : {w₀ w : List ℕ} {a b i : ℕ} → Merged w₀ w a b i → b + i < a → b + i < length w → Merged w₀ (set w (b + i) (bitOr (getD w (a + i) 0) (getD w (b + i) 0))) a b (i + 1)
+merge-more {w₀} {w} {a} {b} {i} m h f =
+    let x : ℕ = bitOr (getD w (a + i) 0) (getD w (b + i) 0) in
+    let e : x ≡ bitOr (getD w₀ (a + i) 0) (getD w₀ (b + i) 0) = ap₂ bitOr (m .high (a + i) (omega arith)) (m .high (b + i) (omega arith)) in
+    record {
+      size = simp length-set (m .size);
+      here = λ j l. ⊎-elim
+          (λ (q : j ≡ i). rw q (getD-set-same w (b + i) x 0 f ∙ e))
+          (λ (q : j < i). getD-set-other w (b + i) (b + j) x 0 (λ z. omega arith) ∙ m .here j q)
+          (eq-or-lt-of-le (omega arith));
+      low = λ j l. getD-set-other w (b + i) j x 0 (λ z. omega arith) ∙ m .low j l;
+      high = λ j l. getD-set-other w (b + i) j x 0 (λ z. omega arith) ∙ m .high j (omega arith);
+    }
 
 -- all of the first words
 pub clear-all : {w w′ : List ℕ} → Zeroed w w′ 0 16384 → Cleared w w′

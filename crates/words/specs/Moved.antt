@@ -3,8 +3,8 @@ use mathlib.Core.Path.{_≡_}
 use mathlib.Core.List.{List}
 use Prim.Native.Nat.{ℕ, _+_, _≤_, _<_}
 use lib.ListN.{length, getD}
-use Rattle.tree.specs.Base.{pick}
-use Rattle.words.specs.Layout.{yes, beyond}
+use lib.Bits.{bitOr}
+use Rattle.words.specs.Layout.{beyond}
 
 -- n words from a on have been copied to b, and all else is kept
 pub record Moved (w w′ : List ℕ) (a b n : ℕ) : Type 0 where
@@ -40,10 +40,10 @@ pub record Zeroed (w w′ : List ℕ) (p n : ℕ) : Type 0 where
   pub low : (j : ℕ) → j < p → getD w′ j 0 ≡ getD w j 0
   pub high : (j : ℕ) → p + n ≤ j → getD w′ j 0 ≡ getD w j 0
 
--- where the n words from a on are not 0, those from b on are 1, and all else is kept
+-- the bits of the n words from a on are set in those from b on, and all else is kept
 pub record Merged (w w′ : List ℕ) (a b n : ℕ) : Type 0 where
   pub size : length w′ ≡ length w
-  pub here : (j : ℕ) → j < n → getD w′ (b + j) 0 ≡ pick (yes (getD w (a + j) 0)) 1 (getD w (b + j) 0)
+  pub here : (j : ℕ) → j < n → getD w′ (b + j) 0 ≡ bitOr (getD w (a + j) 0) (getD w (b + j) 0)
   pub low : (j : ℕ) → j < b → getD w′ j 0 ≡ getD w j 0
   pub high : (j : ℕ) → b + n ≤ j → getD w′ j 0 ≡ getD w j 0
 

@@ -2,8 +2,7 @@
 ghost use mathlib.Core.Path.{_≡_};
 ghost use Prim.Native.Nat.{_+_, _≤_, _<_};
 ghost use lib.ListN.{length};
-ghost use Rattle.tree.specs.Base.{pick};
-ghost use Rattle.words.specs.Layout.{nodeOf, yes};
+ghost use Rattle.words.specs.Layout.{nodeOf};
 ghost use Rattle.words.specs.Moved.{Moved, Put4, Put5, Zeroed, Merged, Cleared};
 
 // The kind of node k of the tree.
@@ -117,24 +116,14 @@ pub fn clear(w: &mut [u32])
     wipe(w, 0, 16384);
 }
 
-// Either of two flags.
-fn either(x: u32, y: u32) -> u32
-    ensures { λ r. ⌜ r ≡ pick (yes x) 1 y ⌝ }
-{
-    if x == 0 {
-        return y;
-    }
-    1
-}
-
-// Sets word b + j to 1 where word a + j is not 0, for the first n; stores in every turn, so that several turns can be done at once.
+// Sets bits: those that word a + j has, word b + j has too, for the first n; stores in every turn, so that several turns can be done at once.
 pub fn merge(w: &mut [u32], a: usize, b: usize, n: usize)
     requires { ⌜ (b + n ≤ a) × (a + n ≤ length (now w)) ⌝ }
     ensures { λ _. ⌜ Merged (now (w .entry)) (now (w .exit)) a b n ⌝ }
 {
     let mut i: usize = 0;
     while i < n {
-        w[b + i] = either(w[a + i], w[b + i]);
+        w[b + i] = w[a + i] | w[b + i];
         i += 1;
     }
 }

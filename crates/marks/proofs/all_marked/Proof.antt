@@ -63,7 +63,7 @@ abbrev R : RattleType
 R = T.the-row
 
 abbrev Row : RattleType
-Row = Array R 16
+Row = Array R 8
 
 abbrev arr : Ty
 arr = lone (Row .mir)
@@ -94,14 +94,14 @@ module _ {M : Type 1} (𝓤 : URA M) (H : Heap 𝓤) (A : Atoms 𝓤) (W : Given
   abbrev Post : Val → SProp 𝓤
   Post = walkOf 𝓤 H A f.ended stayed (f.clauses 𝓤 H A at-mem run) .post ((tt, tt, tt, a, at), tt)
 
-  len : length xs ≡ 16
+  len : length xs ≡ 8
   len = is .1 .0 .1
 
   room : Room R (length xs)
   room = subst (Room R) (sym len) (lit< tt, lit< tt)
 
   typed-at : (zs : List Binding) → Is Row zs (machines zs) → Holds (hasTy arr (machine zs)) × WT (machine zs)
-  typed-at zs ok = array-typed R (LL.lawful T.the-type T′.the-laws 𝓤 H A W .typed) 16 zs _ ok .0
+  typed-at zs ok = array-typed R (LL.lawful T.the-type T′.the-laws 𝓤 H A W .typed) 8 zs _ ok .0
 
   abbrev typed : Holds (hasTy arr v) × WT v
   typed = typed-at xs is
@@ -109,7 +109,7 @@ module _ {M : Type 1} (𝓤 : URA M) (H : Heap 𝓤) (A : Atoms 𝓤) (W : Given
   exits : (zs : List Binding) → zs ≡ map (marked k) xs → ent 𝓤 (sem 𝓤 H A (Row .own zs (machine zs ∷ []))) (Post (machine zs))
   exits zs e =
       qed W (‵ (Row .own zs (machine zs ∷ [])) ∷ []) ∵ suffices ! _ (ends-at 𝓤 H A f.ended stayed (f.clauses 𝓤 H A at-mem run) W ((tt, tt, tt, a, at), tt) (machine zs) zs (tt, (tt, tt)) (tt, (tt, tt))) $ says ! e $
-      nothing ! $ owned ! u32 (Is u32) (uint-makes 𝓤 H A W w32) k _ (refl, fits-k) $ fjoin ! $ owned ! Row (Is Row) (array-makes 𝓤 H A W R (LL.makes T.the-type T′.the-plain 𝓤 H A) 16) xs (v ∷ []) is $ fjoin ! $ nothing ! $ done !
+      nothing ! $ owned ! u32 (Is u32) (uint-makes 𝓤 H A W w32) k _ (refl, fits-k) $ fjoin ! $ owned ! Row (Is Row) (array-makes 𝓤 H A W R (LL.makes T.the-type T′.the-plain 𝓤 H A) 8) xs (v ∷ []) is $ fjoin ! $ nothing ! $ done !
 
   -- ---- an array in its local is its elements in memory, and back
   apart : (l : ℕ) → ent 𝓤 (sep 𝓤 (sem 𝓤 H A (fat fullShare arr l 0 v)) (sem 𝓤 H A (Row .own xs (v ∷ [])))) (sem 𝓤 H A (row R fullShare xs l 0))
@@ -117,13 +117,13 @@ module _ {M : Type 1} (𝓤 : URA M) (H : Heap 𝓤) (A : Atoms 𝓤) (W : Given
   apart l =
       qed W (‵ (fat fullShare arr l 0 v) ∷ ‵ (Row .own xs (v ∷ [])) ∷ []) ∵ use1 W (‵ (cellAt fullShare (Row .mir) (v ∷ []) l 0)) (W .laws .at-raw fullShare arr l 0 v) $
       fjoin ! $ fpack ! (List Val) (λ us. fsep (cellAt fullShare (Row .mir) us l 0) (Row .own xs us)) (v ∷ []) $
-      use1 W (‵ (arr-parts (shares R) 16 .part fullShare xs l 0)) (array-apart 𝓤 H A W R fullShare tt 16 xs l 0) $ fsplit ! $ drop ! $ done !
+      use1 W (‵ (arr-parts (shares R) 8 .part fullShare xs l 0)) (array-apart 𝓤 H A W R fullShare tt 8 xs l 0) $ fsplit ! $ drop ! $ done !
 
-  together : (l : ℕ) (zs : List Binding) → length zs ≡ 16 → ent 𝓤 (sem 𝓤 H A (row R fullShare zs l 0)) (sep 𝓤 (sem 𝓤 H A (fat fullShare arr l 0 (machine zs))) (sem 𝓤 H A (Row .own zs (machine zs ∷ []))))
+  together : (l : ℕ) (zs : List Binding) → length zs ≡ 8 → ent 𝓤 (sem 𝓤 H A (row R fullShare zs l 0)) (sep 𝓤 (sem 𝓤 H A (fat fullShare arr l 0 (machine zs))) (sem 𝓤 H A (Row .own zs (machine zs ∷ []))))
   unfolding partOf
   together l zs e =
-      qed W (‵ (row R fullShare zs l 0) ∷ []) ∵ feqI ! ℕ (length zs) 16 e $ fjoin ! $ use1 W (‵ (partAt Row fullShare zs l 0)) (array-whole 𝓤 H A W R fullShare 16 zs l 0) $
-      fpick ! (λ us. fsplit ! $ spelt ! Row (Is Row) (shows 𝓤 H A Row) machines (array-tells R (LL.vals T.the-type T′.the-laws) (LL.tells T.the-type T′.the-laws) 16) fullShare zs us l 0 $
+      qed W (‵ (row R fullShare zs l 0) ∷ []) ∵ feqI ! ℕ (length zs) 8 e $ fjoin ! $ use1 W (‵ (partAt Row fullShare zs l 0)) (array-whole 𝓤 H A W R fullShare 8 zs l 0) $
+      fpick ! (λ us. fsplit ! $ spelt ! Row (Is Row) (shows 𝓤 H A Row) machines (array-tells R (LL.vals T.the-type T′.the-laws) (LL.tells T.the-type T′.the-laws) 8) fullShare zs us l 0 $
       use1 W (‵ (fat fullShare arr l 0 (machine zs))) (W .laws .raw-at fullShare arr l 0 (machine zs)) $ done !)
 
   -- ---- the call: the elements at l, lent for a lifetime ν under the name δ
@@ -154,7 +154,7 @@ module _ {M : Type 1} (𝓤 : URA M) (H : Heap 𝓤) (A : Atoms 𝓤) (W : Given
         assigns ! (agg ! (and-then ! (load ! (from ! (stop !)) (look ! 2 refl)) (and-then ! (lit ! tt) (no-more !)))) (from ! (stop !)) (init ! 0 refl (tt, (tt, (record { fits = lit< tt }, tt)))) $
         rewrite ! 0 (λ (m : ℕ). ‵ (fat fullShare slice l₆ 0 (sliceVal (l₃, 0) m))) (sym len) refl $
         -- the array in memory is its elements in memory, which are lent for a lifetime of the call
-        owned ! Row (Is Row) (array-makes 𝓤 H A W R (LL.makes T.the-type T′.the-plain 𝓤 H A) 16) xs (v ∷ []) is $ move ! (7 ∷ 0 ∷ []) $ use2 W (‵ (row R fullShare xs l₃ 0)) (apart l₃) $ use1 W (‵ (cells (mem R) xs l₃ 0)) (whole-in 𝓤 H A W R xs l₃ 0) $
+        owned ! Row (Is Row) (array-makes 𝓤 H A W R (LL.makes T.the-type T′.the-plain 𝓤 H A) 8) xs (v ∷ []) is $ move ! (7 ∷ 0 ∷ []) $ use2 W (‵ (row R fullShare xs l₃ 0)) (apart l₃) $ use1 W (‵ (cells (mem R) xs l₃ 0)) (whole-in 𝓤 H A W R xs l₃ 0) $
         lft-new ! tt (λ ν. move ! (1 ∷ []) $ use1 W (later (some (λ (δ : GName). ‵ (MutSlice (named 0) (ν ∷ []) R .own (arg l₃ δ .0) (s l₃ ∷ [])) ⊛ ‵ (flent (ν ∷ []) (Held R (length xs) l₃ 0 δ))))) (lends-slice 𝓤 H A W R (named 0) (ν ∷ []) xs l₃ 0 room) $ await ! tt $ pick ! (λ δ. split ! $
         move ! (2 ∷ 0 ∷ []) $ use2 W (raw (MarkAll 𝓤 H A at-mem run .pre (to-all l₃ ν δ))) (goes-all l₃ ν δ) $
         calls-at ! fm (MarkAll 𝓤 H A at-mem run) known (to-all l₃ ν δ) (and-then ! (load ! (from ! (stop !)) (look ! 2 refl)) (and-then ! (load ! (from ! (stop !)) (look ! 9 refl)) (no-more !))) (λ w.
@@ -174,7 +174,7 @@ module _ {M : Type 1} (𝓤 : URA M) (H : Heap 𝓤) (A : Atoms 𝓤) (W : Given
 
 module _ {M : Type 1} (𝓤 : URA M) (H : Heap 𝓤) (A : Atoms 𝓤) (W : Given 𝓤 H A) (at-mem : Memory → SProp 𝓤) (run : Routine → Fun 𝓤) where
   all-marked-walks : (C : Calls 𝓤 H) (Λ : Loops 𝓤 H) → FmC 𝓤 H (W .laws) C → Triple 𝓤 (C #marks·mark-all) (MarkAll 𝓤 H A at-mem run) → Walks 𝓤 H A f.ended stayed (WpFn 𝓤 H C Λ code.function) (f.clauses 𝓤 H A at-mem run)
-  all-marked-walks C Λ fm known = walked 𝓤 H A f.ended stayed (f.clauses 𝓤 H A at-mem run) (WpFn 𝓤 H C Λ code.function) (λ κs. (machines, (uint-vals w32, tt))) (λ κs. (array-tells R (LL.vals T.the-type T′.the-laws) (LL.tells T.the-type T′.the-laws) 16, (uint-tells w32, tt)))
+  all-marked-walks C Λ fm known = walked 𝓤 H A f.ended stayed (f.clauses 𝓤 H A at-mem run) (WpFn 𝓤 H C Λ code.function) (λ κs. (machines, (uint-vals w32, tt))) (λ κs. (array-tells R (LL.vals T.the-type T′.the-laws) (LL.tells T.the-type T′.the-laws) 8, (uint-tells w32, tt)))
       (λ κs qs bounds a g are. via 𝓤 _ (fst∗ 𝓤 _ (emp 𝓤)) (walk 𝓤 H A W at-mem run (a .0) (a .1 .0) (are .0) (are .1 .0 .1) C Λ fm known))
 
 all-marked-meets : {M : Type 1} (𝓤 : URA M) (H : Heap 𝓤) (A : Atoms 𝓤) → Given 𝓤 H A → (at-mem : Memory → SProp 𝓤) (run : Routine → Fun 𝓤) (𝓣 : Tables 𝓤 H) → Triple 𝓤 (𝓣 .C #marks·mark-all) (MarkAll 𝓤 H A at-mem run)

@@ -1,58 +1,24 @@
--- The sweep over all bindings, a window of records at a time; `at` is the sum of the lengths passed. Assumes nothing.
+-- The scan for the first binding whose mark is missing; `at` is the sum of the lengths passed, and no binding passed changes. Assumes nothing.
 use Prim.Native.Nat.{ℕ, _+_, _-_, _≤_, _<_}
-use mathlib.Core.Path.{_≡_, refl, sym, _∙_}
+use mathlib.Core.Path.{_≡_, refl, sym, subst}
+use mathlib.Core.List.{List}
 use mathlib.Core.Logic.{⊎-elim}
 use native.Mathlib.Nat.{eq-or-lt-of-le}
 use native.Mathlib.Omega.{arith}
-use lib.ListN.{length, getD}
+use lib.ListN.{getD}
 use Rattle.words.specs.Tab as sums
-use Rattle.scopes.specs.State.{off, lenAt}
+use Rattle.definition.specs.Scope.{preventOne, preventInline}
+use Rattle.scopes.specs.State.{Good, Becomes, stack, off, lenAt, bindAt}
 use Rattle.scopes.proofs.Words as laws
 use borrow.Author.Needs.{needs}
 use Rattle.scopes.proofs.prevent_inline.Statement.{statement}
 use Rattle.scopes.proofs.prevent_inline.Tie as tie
-use Rattle.scopes.proofs.prevent_inline.Reads as reads
-use Rattle.scopes.proofs.prevent_inline.Lts as lts
-use Rattle.scopes.proofs.marks_of.Reads as marks-of-reads
 
 abbrev Inv-loop : tie.InvT-loop
-Inv-loop w₀ x n bs₀ i₀ k₀ at₀ w bs i k at = (k ≤ n) × (length w ≡ length w₀) × (n ≡ getD w₀ 1 0) × laws.Swept w₀ w x k × (at ≡ off w₀ k) × (i ≤ 16) × laws.Ahead w₀ x k i bs
+Inv-loop w₀ x n k₀ at₀ w k at = (k ≤ n) × (w ≡ w₀) × Good w × (n ≡ getD w 1 0) × (at ≡ off w k) × ((j : ℕ) → j < k → bindAt w j ≡ preventOne x (bindAt w j))
 
 abbrev μ-loop : tie.MeasureT-loop
-μ-loop w₀ x n bs₀ i₀ k₀ at₀ w bs i k at = n - k
-
--- the window's next record, after the first branch: it stands within the window, and is the one of binding k
-abbrev After1 : Type 0
-After1 = lts.Joined1 (marks-of-reads.Asked, marks-of-reads.Learnt) reads.Pre reads.Post Inv-loop μ-loop
-
-below : (i : ℕ) → i ≤ 16 → (i ≡ 16 → ⊥) → i < 16
-below i l n = ⊎-elim (λ (e : i ≡ 16). absurd (n e)) (λ (h : i < 16). h) (eq-or-lt-of-le l)
-
-ready : (c : After1) → (c .if1 .i < 16) × laws.Ahead (c .before .before .before .before .before .args .w .now) (c .before .before .before .before .before .args .x) (c .before .before .loop .k) (c .if1 .i) (c .if1 .bs)
-ready c =
-    let at-loop = c .before .before in
-    ⊎-elim
-    (λ t. (omega (arith, t .4), rw (t .3, t .4) (laws.ahead-load (at-loop .loop .inv .3) (t .2 .result) (t .2 .ensures))))
-    (λ t. (omega (arith, t .2, below (at-loop .loop .i) (at-loop .loop .inv .5) (t .0 .left)), rw (t .1, t .2) (at-loop .loop .inv .6)))
-    (c .if1 .came)
-
--- after the second branch binding k is done
-abbrev After2 : Type 0
-After2 = lts.Joined2 (marks-of-reads.Asked, marks-of-reads.Learnt) reads.Pre reads.Post Inv-loop μ-loop
-
-swept : (c : After2) → laws.Swept (c .before .before .before .before .before .before .before .args .w .now) (c .if2 .w) (c .before .before .before .before .before .before .before .args .x) (c .before .before .before .before .loop .k + 1)
-swept c =
-    let at-if1 = c .before .before in
-    let at-loop = at-if1 .before .before in
-    let at-entry = at-loop .before .before .before in
-    let w₀ = at-entry .args .w .now in
-    let s = at-loop .loop .inv .3 in
-    let h : at-loop .loop .k < getD w₀ 1 0 = omega arith in
-    let this = laws.ahead-this w₀ (at-entry .args .x) (at-loop .loop .k) (at-if1 .if1 .i) (at-if1 .if1 .bs) (omega arith) (ready at-if1 .1) (ready at-if1 .0) h in
-    ⊎-elim
-    (λ t. rw (t .1) (laws.swept-hit (at-entry .pre) s h (sym (t .0 .taken) ∙ this)))
-    (λ t. rw (t .1) (laws.swept-miss (at-entry .pre) s h (sym (t .0 .left) ∙ this)))
-    (c .if2 .came)
+μ-loop w₀ x n k₀ at₀ w k at = n - k
 
 slice-read-n : tie.Need-slice-read-n Inv-loop μ-loop
 slice-read-n c = search needs
@@ -63,80 +29,60 @@ cast-n c = search needs
 loop-holds : tie.Need-loop-holds Inv-loop μ-loop
 loop-holds c =
     let at-entry = c .before .before in
-    (omega arith, refl, refl, laws.swept-none (at-entry .args .w .now) (at-entry .args .x), sym (sums.sum-zero (λ j. lenAt (at-entry .args .w .now) j)), omega arith, λ j l h. absurd (omega arith))
+    (omega arith, refl, at-entry .pre, refl, sym (sums.sum-zero (λ j. lenAt (at-entry .args .w .now) j)), λ j l. absurd (omega arith))
 
-marks-of-requires : tie.Need-marks-of-requires Inv-loop μ-loop
-marks-of-requires c κs =
-    let at-loop = c .before .before .before in
-    let at-entry = at-loop .before .before .before in
-    let s = at-loop .loop .inv .3 in
+mul-m : tie.Need-mul-m Inv-loop μ-loop
+mul-m c = search needs
+
+add-m : tie.Need-add-m Inv-loop μ-loop
+add-m c = search needs
+
+add-m-2 : tie.Need-add-m-2 Inv-loop μ-loop
+add-m-2 c = search needs
+
+mul-m-2 : tie.Need-mul-m-2 Inv-loop μ-loop
+mul-m-2 c = search needs
+
+slice-read-m : tie.Need-slice-read-m Inv-loop μ-loop
+slice-read-m c =
+    let at-loop = c .before .before in
+    omega (arith, at-loop .loop .inv .2 .long, at-loop .loop .inv .2 .count)
+
+cast-m : tie.Need-cast-m Inv-loop μ-loop
+cast-m c =
+    let at-loop = c .before .before in
+    let w = at-loop .loop .w in
     let k = at-loop .loop .k in
-    let n : getD (at-loop .loop .w) 1 0 ≡ getD (at-entry .args .w .now) 1 0 = s .kept .counts 1 (omega arith) (omega arith) in
-    (laws.swept-good (at-entry .pre) s (omega arith), omega arith, at-loop .loop .inv .4 ∙ sym (laws.runs-off (at-entry .pre) (s .runs) k (omega (arith, at-entry .pre .count))))
+    let part = sums.sum-part (λ j. lenAt w j) k (getD w 1 0) (omega arith) in
+    omega (arith, at-loop .loop .inv .2 .vals)
 
-mul-if2 : tie.Need-mul-if2 Inv-loop μ-loop
-mul-if2 c = omega (arith, ready (c .before) .0)
+to-mark-requires : tie.Need-to-mark-requires Inv-loop μ-loop
+to-mark-requires c κs =
+    let at-loop = c .before .before .before in
+    (at-loop .loop .inv .2, omega arith, at-loop .loop .inv .4)
 
-element-copy-out-if2 : tie.Need-element-copy-out-if2 Inv-loop μ-loop
-element-copy-out-if2 c = ready (c .before) .0
+mark-from-requires : tie.Need-mark-from-requires Inv-loop μ-loop
+mark-from-requires c κs =
+    let at-loop = c .before .before .before .before .before .before in
+    (at-loop .loop .inv .2, omega arith, at-loop .loop .inv .4, at-loop .loop .inv .5)
 
-mul-w : tie.Need-mul-w Inv-loop μ-loop
-mul-w c = search needs
+same-length : tie.Need-same-length Inv-loop μ-loop
+same-length c = search needs
 
-add-w : tie.Need-add-w Inv-loop μ-loop
-add-w c = search needs
-
-add-w-2 : tie.Need-add-w-2 Inv-loop μ-loop
-add-w-2 c = search needs
-
-mul-w-2 : tie.Need-mul-w-2 Inv-loop μ-loop
-mul-w-2 c = search needs
-
-slice-write-w : tie.Need-slice-write-w Inv-loop μ-loop
-slice-write-w c = search needs
-
-mul-at : tie.Need-mul-at Inv-loop μ-loop
-mul-at c = search needs
+returns : tie.Need-returns Inv-loop μ-loop
+returns c =
+    let at-call = c .before .before in
+    let at-loop = at-call .before .before .before .before .before .before .before in
+    let at-entry = at-loop .before .before .before in
+    subst (λ (v : List ℕ). Becomes v (at-call .mark-from .last .0) (preventInline (at-entry .args .x) (stack v))) (at-loop .loop .inv .1) (at-call .mark-from .ensures)
 
 add-at : tie.Need-add-at Inv-loop μ-loop
-add-at c = search needs
-
-add-at-2 : tie.Need-add-at-2 Inv-loop μ-loop
-add-at-2 c = search needs
-
-mul-at-2 : tie.Need-mul-at-2 Inv-loop μ-loop
-mul-at-2 c = search needs
-
-slice-read-at : tie.Need-slice-read-at Inv-loop μ-loop
-slice-read-at c =
+add-at c =
     let at-loop = c .before .before .before .before .before in
-    let at-entry = at-loop .before .before .before in
-    omega (arith, swept (c .before) .kept .size, at-entry .pre .long, at-entry .pre .count)
-
-cast-at : tie.Need-cast-at Inv-loop μ-loop
-cast-at c =
-    let at-loop = c .before .before .before .before .before in
-    let at-entry = at-loop .before .before .before in
-    let w₀ = at-entry .args .w .now in
+    let w = at-loop .loop .w in
     let k = at-loop .loop .k in
-    let s = swept (c .before) in
-    let part = sums.sum-part (λ j. lenAt w₀ j) k (getD w₀ 1 0) (omega arith) in
-    let len : lenAt (c .before .if2 .w) k ≡ lenAt w₀ k = s .runs .lens k (omega (arith, at-entry .pre .count)) in
-    omega (arith, at-entry .pre .vals)
-
-add-at-3 : tie.Need-add-at-3 Inv-loop μ-loop
-add-at-3 c =
-    let at-loop = c .before .before .before .before .before in
-    let at-entry = at-loop .before .before .before in
-    let w₀ = at-entry .args .w .now in
-    let k = at-loop .loop .k in
-    let s = swept (c .before) in
-    let part = sums.sum-part (λ j. lenAt w₀ j) k (getD w₀ 1 0) (omega arith) in
-    let len : lenAt (c .before .if2 .w) k ≡ lenAt w₀ k = s .runs .lens k (omega (arith, at-entry .pre .count)) in
-    omega (arith, at-entry .pre .vals)
-
-add-i : tie.Need-add-i Inv-loop μ-loop
-add-i c = omega (arith, ready (c .before .before .before) .0)
+    let part = sums.sum-part (λ j. lenAt w j) k (getD w 1 0) (omega arith) in
+    omega (arith, at-loop .loop .inv .2 .vals)
 
 add-k : tie.Need-add-k Inv-loop μ-loop
 add-k c = search needs
@@ -147,25 +93,27 @@ loop-less c = search needs
 loop-again : tie.Need-loop-again Inv-loop μ-loop
 loop-again c =
     let at-loop = c .before .before .before .before .before in
-    let at-entry = at-loop .before .before .before in
-    let w₀ = at-entry .args .w .now in
+    let x = at-loop .before .before .before .args .x in
+    let w = at-loop .loop .w in
     let k = at-loop .loop .k in
-    let s = swept (c .before) in
-    let part = sums.sum-part (λ j. lenAt w₀ j) k (getD w₀ 1 0) (omega arith) in
-    let len : lenAt (c .before .if2 .w) k ≡ lenAt w₀ k = s .runs .lens k (omega (arith, at-entry .pre .count)) in
-    let at-if1 = c .before .before .before in
-    let next : at-loop .loop .at + lenAt (c .before .if2 .w) k ≡ off w₀ (k + 1) = omega (arith, sums.sum-next (λ j. lenAt w₀ j) k) in
-    (omega arith, s .kept .size, at-loop .loop .inv .2, s, next, omega (arith, ready at-if1 .0), laws.ahead-next w₀ (at-entry .args .x) k (at-if1 .if1 .i) (at-if1 .if1 .bs) (ready at-if1 .1))
+    let inv = at-loop .loop .inv in
+    let this : bindAt w k ≡ preventOne x (bindAt w k) = laws.missing-not w k x (c .before .to-mark .result) (c .before .to-mark .ensures) (c .if1 .left) in
+    let next : at-loop .loop .at + lenAt w k ≡ off w (k + 1) = omega (arith, sums.sum-next (λ j. lenAt w j) k) in
+    (omega arith, inv .1, inv .2, inv .3, next, λ j l. ⊎-elim (λ (e : j ≡ k). rw e this) (λ (h : j < k). inv .5 j h) (eq-or-lt-of-le (omega arith)))
 
-same-length : tie.Need-same-length Inv-loop μ-loop
-same-length c = search needs
+same-length-2 : tie.Need-same-length-2 Inv-loop μ-loop
+same-length-2 c = search needs
 
-returns : tie.Need-returns Inv-loop μ-loop
-returns c =
+returns-2 : tie.Need-returns-2 Inv-loop μ-loop
+returns-2 c =
     let at-loop = c .before in
     let at-entry = at-loop .before .before .before in
-    let e : at-loop .loop .k ≡ getD (at-entry .args .w .now) 1 0 = omega arith in
-    laws.swept-all (at-entry .args .x) (at-entry .pre) (rw e at (at-loop .loop .inv .3))
+    let x = at-entry .args .x in
+    let w = at-loop .loop .w in
+    let inv = at-loop .loop .inv in
+    let e : at-loop .loop .k ≡ getD w 1 0 = omega arith in
+    let all : Becomes w w (preventInline x (stack w)) = laws.swept-all x (inv .2) (laws.swept-self w x (getD w 1 0) (λ j l. inv .5 j (omega arith))) in
+    subst (λ (v : List ℕ). Becomes v w (preventInline x (stack v))) (inv .1) all
 
 pub prevent-inline-spec : {M : Type 1} → statement M
 prevent-inline-spec =
@@ -176,24 +124,19 @@ prevent-inline-spec =
     slice-read-n
     cast-n
     loop-holds
-    marks-of-requires
-    mul-if2
-    element-copy-out-if2
-    mul-w
-    add-w
-    add-w-2
-    mul-w-2
-    slice-write-w
-    mul-at
+    mul-m
+    add-m
+    add-m-2
+    mul-m-2
+    slice-read-m
+    cast-m
+    to-mark-requires
+    mark-from-requires
+    same-length
+    returns
     add-at
-    add-at-2
-    mul-at-2
-    slice-read-at
-    cast-at
-    add-at-3
-    add-i
     add-k
     loop-less
     loop-again
-    same-length
-    returns)
+    same-length-2
+    returns-2)

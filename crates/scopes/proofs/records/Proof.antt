@@ -11,7 +11,7 @@ use Rattle.scopes.proofs.records.Statement.{statement}
 use Rattle.scopes.proofs.records.Tie as tie
 
 abbrev Inv-loop : tie.InvT-loop
-Inv-loop w k at n e bs₀ i₀ o₀ bs i o = (i ≤ e) × (length bs ≡ 16) × (o ≡ off w (k + i)) × ((j : ℕ) → j < i → getD bs j noRecord ≡ recordAt w (k + j))
+Inv-loop w k at n e bs₀ i₀ o₀ bs i o = (i ≤ e) × (length bs ≡ 8) × (o ≡ off w (k + i)) × ((j : ℕ) → j < i → getD bs j noRecord ≡ recordAt w (k + j))
 
 abbrev μ-loop : tie.MeasureT-loop
 μ-loop w k at n e bs₀ i₀ o₀ bs i o = e - i
