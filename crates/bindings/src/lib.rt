@@ -24,6 +24,7 @@ use scopes::drop_scope;
 use scopes::find_binding;
 use scopes::open;
 use scopes::prevent_inline;
+use words::flag_at;
 use words::put5;
 
 pub enum ScopeKind {
@@ -126,7 +127,8 @@ fn hoist_var(w: &mut [u32], j: usize)
     let reads = w[4112 + j * 10 + 3];
     let sensitive = w[4112 + j * 10 + 6];
     let d = w[2] as usize - 1;
-    let prevented = either(w[7312 + d * 256 + x as usize], w[4112 + j * 10 + 4]);
+    let used = flag_at(w, 7312 + d * 256, x);
+    let prevented = either(used, w[4112 + j * 10 + 4]);
     let n = w[1] as usize;
     let r = own_binding(w, x);
     if r < n {

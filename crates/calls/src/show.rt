@@ -132,7 +132,7 @@ fn show_unresolved(w: &[u32], k: u32) {
     letter(b'u');
     let mut x: usize = 0;
     while x < 4 {
-        put_bool(word(w, 7312 + k as usize * 256 + x) != 0);
+        put_bool(word(w, 7312 + k as usize * 256) >> x as u32 & 1 != 0);
         x += 1;
     }
 }

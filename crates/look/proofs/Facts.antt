@@ -19,6 +19,7 @@ use Rattle.definition.specs.Tree.{headT}
 use Rattle.words.specs.Tab.{tab, length-tab, getD-tab, getD-tab-out}
 use Rattle.words.specs.Layout.{yes, coreFrom, nodeOf, tree}
 use Rattle.words.proofs.Nodes.{run-length, run-at, tree-length, tree-at}
+use Rattle.words.specs.Flags.{flagAt}
 use Rattle.scopes.specs.State.{bindAt, unresAt, valueOf, varTypeOf, lenAt, off, runAt, heads, binds, stack, Good, place, indexIn, Named}
 use Rattle.scopes.proofs.Split as laws
 use Rattle.scopes.proofs.Look as outwards
@@ -242,9 +243,9 @@ pub hoisted-and : (w : List ℕ) (r : ℕ) → (r ≡ 0 → ⊥) → isHoistedPr
 hoisted-and w r h = ap isHoistedPrevented (at-is w r h)
 
 -- is x unresolved in scope k
-pub unresolved-at : (w : List ℕ) (k x : ℕ) → x < 256 → scopeAt w k .unresolvedUsages x ≡ yes (getD w (7312 + k * 256 + x) 0)
+pub unresolved-at : (w : List ℕ) (k x : ℕ) → x < 256 → scopeAt w k .unresolvedUsages x ≡ yes (flagAt w (7312 + k * 256) x)
 unfolding scopeAt unresAt
-unresolved-at w k x h = ap yes (getD-tab 256 (λ j. getD w (7312 + k * 256 + j) 0) x 0 h)
+unresolved-at w k x h = ap yes (getD-tab 256 (λ j. flagAt w (7312 + k * 256) j) x 0 h)
 
 -- barriers
 module _ (w : List ℕ) (k : ℕ) where

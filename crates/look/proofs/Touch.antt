@@ -4,7 +4,7 @@ use mathlib.Core.List.{List, [], _∷_, map}
 use mathlib.Core.Bool.{Bool, true, false, _||_}
 use mathlib.Core.Option.{Option}
 use mathlib.Core.Logic.{_⊎_, inl, inr, ⊎-elim}
-use Prim.Native.Nat.{ℕ, zero, suc, _+_, _-_, _*_, _≤_, _<_}
+use Prim.Native.Nat.{_/_, ℕ, zero, suc, _+_, _-_, _*_, _≤_, _<_}
 use native.Mathlib.Nat.{eq-or-lt-of-le}
 use native.Mathlib.Omega.{arith}
 use borrow.Author.Tests.{eq-eqb, ne-eqb}
@@ -16,6 +16,8 @@ use Rattle.definition.specs.Scope.{VarInfo, Scope, ScopeKind, Stack, addUnresol
 use Rattle.words.specs.Tab.{tab, tab-ext, length-tab, getD-tab, getD-tab-out, same-or-not, below-or-not, sum-ext, sum-part}
 use Rattle.words.specs.Layout.{yes, Agree, tree, beyond}
 use Rattle.words.proofs.Nodes.{run-same}
+use Rattle.words.specs.Flags.{flagAt, Flagged}
+use Rattle.words.proofs.Flags.{flag-same}
 use Rattle.scopes.specs.State.{scopeKindOf, lenAt, off, runAt, bindAt, coff, constAt, unresAt, headAt, headsAt, heads, stack, Fits, CFits, Good, Becomes}
 use Rattle.scopes.proofs.Words.{bind-same, part-coff, part-crun, part-consts, part-tree}
 use Rattle.look.specs.Look.{first, cfirst, scopeAt, below}
@@ -185,30 +187,27 @@ module _ {w w′ : List ℕ} (g : Good w) (t : Touched w w′) where
   -- and its unresolved uses
   pub unresolved-same : (k : ℕ) → Agree (7312 + k * 256) (7312 + k * 256 + 256) w w′ → (m : ℕ) → scopeAt w′ k .unresolvedUsages m ≡ scopeAt w k .unresolvedUsages m
   unfolding scopeAt unresAt
-  unresolved-same k a m = ap (λ (l : List ℕ). yes (getD l m 0)) (tab-ext 256 (λ j. getD w′ (7312 + k * 256 + j) 0) (λ j. getD w (7312 + k * 256 + j) 0) (λ j l. a (7312 + k * 256 + j) (omega arith) (omega arith)))
+  unresolved-same k a m = ap (λ (l : List ℕ). yes (getD l m 0)) (tab-ext 256 (λ j. flagAt w′ (7312 + k * 256) j) (λ j. flagAt w (7312 + k * 256) j) (λ j l. flag-same w w′ (7312 + k * 256) j l (λ i h. a (7312 + k * 256 + i) (omega arith) (omega arith))))
 
 -- an unresolved use is stored
-module _ (w : List ℕ) (g : Good w) (x : ℕ) (small : x < 256) (z : 0 < getD w 2 0) where
+module _ (w w′ : List ℕ) (g : Good w) (x : ℕ) (small : x < 256) (z : 0 < getD w 2 0) (f : Flagged w w′ (7312 + (getD w 2 0 - 1) * 256) x) where
   abbrev k : ℕ
   k = getD w 2 0 - 1
 
   abbrev p : ℕ
-  p = 7312 + k * 256 + x
-
-  abbrev w′ : List ℕ
-  w′ = set w p 1
+  p = 7312 + k * 256 + x / 32
 
   keeps : (j : ℕ) → (j ≡ p → ⊥) → getD w′ j 0 ≡ getD w j 0
-  keeps j d = getD-set-other w p j 1 0 d
+  keeps j d = f .other j d
 
   touched : Touched w w′
   unfolding beyond
   touched = let l = g .depth in record {
-    size = simp length-set;
+    size = f .size;
     low = λ j a b. keeps j (λ e. omega arith);
     heads = λ j a b c. keeps j (λ e. omega arith);
     high = λ j a b. keeps j (λ e. omega arith);
-    rest = drop-set-lt 16384 w p 1 (omega arith);
+    rest = f .rest 16384 (omega arith);
   }
 
   same-bars : (j : ℕ) → j < getD w 2 0 → (m : ℕ) → scopeAt w′ j .inlineBarriers m ≡ scopeAt w j .inlineBarriers m
@@ -220,14 +219,9 @@ module _ (w : List ℕ) (g : Good w) (x : ℕ) (small : x < 256) (z : 0 < getD w
 
   used : (m : ℕ) → scopeAt w′ k .unresolvedUsages m ≡ (eqb x m || scopeAt w k .unresolvedUsages m)
   unfolding scopeAt unresAt
-  used m =
-      let f : List ℕ → ℕ → ℕ = λ v j. getD v (7312 + k * 256 + j) 0 in
-      ⊎-elim
-      (λ (l : m < 256). rw (getD-tab 256 (f w′) m 0 l, getD-tab 256 (f w) m 0 l) (⊎-elim
-      (λ (e : x ≡ m). rw (← e, eq-eqb x x refl) (ap yes (getD-set-same w p 1 0 (omega (arith, g .long, g .depth)))))
-      (λ (d : x ≡ m → ⊥). rw (ne-eqb x m d) (ap yes (keeps (7312 + k * 256 + m) (λ e. d (omega arith)))))
-      (same-or-not x m)))
-      (λ (l : 256 ≤ m). rw (getD-tab-out 256 (f w′) m 0 l, getD-tab-out 256 (f w) m 0 l, ne-eqb x m (λ e. omega arith)) refl)
+  used m = ⊎-elim
+      (λ (l : m < 256). rw (getD-tab 256 (λ j. flagAt w′ (7312 + k * 256) j) m 0 l, getD-tab 256 (λ j. flagAt w (7312 + k * 256) j) m 0 l) (f .here m l))
+      (λ (l : 256 ≤ m). rw (getD-tab-out 256 (λ j. flagAt w′ (7312 + k * 256) j) m 0 l, getD-tab-out 256 (λ j. flagAt w (7312 + k * 256) j) m 0 l, ne-eqb x m (λ e. omega arith)) refl)
       (below-or-not m 256)
 
   pub unresolved : Becomes w w′ (addUnresolved x (stack w))

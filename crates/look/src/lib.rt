@@ -17,6 +17,7 @@ use scopes::find_binding;
 use scopes::find_in;
 use scopes::offset;
 use words::arity_at;
+use words::flag_at;
 use words::kind_at;
 use words::num_at;
 
@@ -364,7 +365,7 @@ fn held_below(w: &[u32], d: usize, x: u8) -> bool
     let mut k = d;
     while 0 < k {
         k -= 1;
-        if w[7312 + k * 256 + x as usize] != 0 {
+        if flag_at(w, 7312 + k * 256, x) != 0 {
             return true;
         }
         let r = found_in(w, k, x);
@@ -384,7 +385,7 @@ pub fn should_prevent_inline_because_of_scope(w: &[u32], x: u8) -> bool
     if d == 0 {
         return false;
     }
-    if w[7312 + (d - 1) * 256 + x as usize] != 0 {
+    if flag_at(w, 7312 + (d - 1) * 256, x) != 0 {
         return true;
     }
     held_below(w, d - 1, x)

@@ -11,6 +11,7 @@ ghost use Rattle.look.specs.Look.{fnStart, paramsFrom};
 ghost use Rattle.look.specs.Touched.{BarStored};
 use look::first_of;
 use scopes::find_binding;
+use words::set_flag;
 
 // What `this` is matters to the innermost binding of x.
 pub fn mark_this_sensitive(w: &mut [u32], x: u8)
@@ -65,7 +66,7 @@ pub fn add_unresolved(w: &mut [u32], x: u8)
     if d == 0 {
         return;
     }
-    w[7312 + (d - 1) * 256 + x as usize] = 1;
+    set_flag(w, 7312 + (d - 1) * 256, x);
 }
 
 // A read of x is counted at its innermost binding, which is prevented if it is hoisted; without a binding x is unresolved.

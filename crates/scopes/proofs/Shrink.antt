@@ -7,28 +7,20 @@ use Prim.Native.Nat.{ℕ, zero, suc, _+_, _-_, _*_, _≤_, _<_}
 use native.Mathlib.Omega.{arith}
 use lib.ListN.{length, getD, set, take, length-set}
 use lib.Seq.{getD-set-same, getD-set-other}
-use lib.Bits.{bitOr, or-zero-l, or-add-and, and-le-r}
 use Rattle.words.specs.Tab.{getD-tab, getD-tab-out, take-tab, below-or-not, sum-le}
 use Rattle.words.specs.Layout.{yes, Agree, tree}
 use Rattle.words.specs.Moved.{Merged}
 use Rattle.words.proofs.Nodes.{beyond-same}
+use Rattle.words.specs.Flags.{flagAt}
+use Rattle.words.proofs.Flags.{flag-or}
 use Rattle.scopes.specs.State.{scopeKindOf, lenAt, clenAt, constAt, bindAt, Head, unresAt, headAt, headsAt, heads, flags, binds, consts, stack, Fits, CFits, Good, Becomes, dropInner}
 use Rattle.scopes.proofs.Split as laws
 use Rattle.scopes.proofs.Words.{heads-part, part-coff, part-crun, part-consts, part-tree}
 use Rattle.scopes.proofs.Grow.{some-head, part-off, part-run, part-binds, part-flags}
 
--- the bits of two flags are a flag: either of them
-merged-yes : (x y : ℕ) → yes (bitOr x y) ≡ (yes x || yes y)
-merged-yes zero y = ap yes (or-zero-l y)
-merged-yes (suc x) y = go (bitOr (suc x) y) (omega (arith, or-add-and (suc x) y, and-le-r (suc x) y))
-  where
-    go : (n : ℕ) → 0 < n → yes n ≡ true
-    go zero h = absurd (omega arith)
-    go (suc n) h = refl
-
 -- d is the place of the scope that is closed
 module _ (w u : List ℕ) (g : Good w) (d : ℕ) (is : getD w 2 0 ≡ d + 1) (z : 0 < d)
-    (one : Merged w u (7312 + d * 256) (7312 + (d - 1) * 256) 256) where
+    (one : Merged w u (7312 + d * 256) (7312 + (d - 1) * 256) 8) where
   abbrev n : ℕ
   n = getD w (7184 + d * 4 + 1) 0
 
@@ -76,10 +68,10 @@ module _ (w u : List ℕ) (g : Good w) (d : ℕ) (is : getD w 2 0 ≡ d + 1) (z 
   unres-are : (j : ℕ) → yes (getD (unresAt x (d - 1)) j 0) ≡ (yes (getD (unresAt w d) j 0) || yes (getD (unresAt w (d - 1)) j 0))
   unfolding unresAt
   unres-are j =
-      let t : List ℕ → ℕ → ℕ → ℕ = λ l k i. getD l (7312 + k * 256 + i) 0 in
+      let t : List ℕ → ℕ → ℕ → ℕ = λ l k i. flagAt l (7312 + k * 256) i in
       ⊎-elim
       (λ (l : j < 256). rw (getD-tab 256 (t x (d - 1)) j 0 l, getD-tab 256 (t w d) j 0 l, getD-tab 256 (t w (d - 1)) j 0 l)
-      (ap yes (three (7312 + (d - 1) * 256 + j) (λ e. omega arith) (λ e. omega arith) (λ e. omega arith) ∙ one .here j l) ∙ merged-yes (getD w (7312 + d * 256 + j) 0) (getD w (7312 + (d - 1) * 256 + j) 0)))
+      (flag-or w x (7312 + d * 256) (7312 + (d - 1) * 256) j l (λ i m. three (7312 + (d - 1) * 256 + i) (λ e. omega arith) (λ e. omega arith) (λ e. omega arith) ∙ one .here i m)))
       (λ (l : 256 ≤ j). rw (getD-tab-out 256 (t x (d - 1)) j 0 l, getD-tab-out 256 (t w d) j 0 l, getD-tab-out 256 (t w (d - 1)) j 0 l) refl)
       (below-or-not j 256)
 

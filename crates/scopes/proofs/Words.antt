@@ -18,7 +18,9 @@ use Rattle.tree.specs.Tree.{Tree, Core, noCore}
 use Rattle.definition.specs.Tree.{isIdent, num}
 use Rattle.definition.specs.Scope.{VarType, VarInfo, Stack, change, prevent, preventInline, preventOne, valueIs, hasIn}
 use Rattle.words.specs.Tab.{tab, length-tab, getD-tab, tab-ext, set-tab, take-tab, sum-ext, sum-part}
+use Rattle.words.specs.Flags.{flagAt}
 use Rattle.words.specs.Layout.{yes, Agree, coreFrom, tree, beyond}
+use Rattle.words.proofs.Flags.{flag-same}
 use Rattle.words.proofs.Nodes.{run-same, run-length, run-at, tree-same}
 use Rattle.scopes.specs.State.{scopeKindOf, split, varTypeOf, aliasAt, valueOf, lenAt, off, runAt, bindAt, clenAt, coff, crunAt, constAt, Head, unresAt, headAt, headsAt, heads, flags, binds, consts, stack, Fits, Good, Becomes, place, indexIn, hitAt, nameOf, recordAt, noRecord, Window, Whole, Others}
 use Rattle.scopes.proofs.Split as laws
@@ -108,7 +110,7 @@ pub heads-part : (w w′ : List ℕ) (k : ℕ) → Agree 7184 (7184 + k * 4) w w
 unfolding headsAt unresAt
 heads-part w w′ zero a b = refl
 heads-part w w′ (suc k) a b =
-    let u : tab 256 (λ j. getD w′ (7312 + k * 256 + j) 0) ≡ tab 256 (λ j. getD w (7312 + k * 256 + j) 0) = tab-ext 256 (λ j. getD w′ (7312 + k * 256 + j) 0) (λ j. getD w (7312 + k * 256 + j) 0) (λ j l. b (7312 + k * 256 + j) (omega arith) (omega arith)) in
+    let u : tab 256 (λ j. flagAt w′ (7312 + k * 256) j) ≡ tab 256 (λ j. flagAt w (7312 + k * 256) j) = tab-ext 256 (λ j. flagAt w′ (7312 + k * 256) j) (λ j. flagAt w (7312 + k * 256) j) (λ j l. flag-same w w′ (7312 + k * 256) j l (λ i m. b (7312 + k * 256 + i) (omega arith) (omega arith))) in
     let q : headAt w′ k ≡ headAt w k = head-eq (a (7184 + k * 4) (omega arith) (omega arith)) (a (7184 + k * 4 + 1) (omega arith) (omega arith)) (a (7184 + k * 4 + 2) (omega arith) (omega arith)) (a (7184 + k * 4 + 3) (omega arith) (omega arith)) u in
     rw (q, heads-part w w′ k (λ j l m. a j l (omega arith)) (λ j l m. b j l (omega arith))) refl
 

@@ -14,6 +14,7 @@ use Rattle.definition.specs.Tree.{isIdent, num}
 use Rattle.marks.specs.declared.Binding.{Binding}
 use Rattle.definition.specs.Scope.{VarType, param, vVar, vLet, vConst, ScopeKind, cond, loop, block, fn, VarInfo, Scope, Stack, hasIn, valueIs}
 use Rattle.words.specs.Tab.{tab, sum}
+use Rattle.words.specs.Flags.{flagAt}
 use Rattle.words.specs.Layout.{yes, Agree, run, tree, beyond}
 
 -- small numbers that stand for cases
@@ -92,7 +93,7 @@ pub record Head : Type 0 where
   pub unres : List ℕ
 
 unfoldable pub unresAt : List ℕ → ℕ → List ℕ
-unresAt w k = tab 256 (λ j. getD w (7312 + k * 256 + j) 0)
+unresAt w k = tab 256 (λ j. flagAt w (7312 + k * 256) j)
 
 abbrev pub headAt : List ℕ → ℕ → Head
 headAt w k = record {

@@ -238,7 +238,7 @@ pub fn open(w: &mut [u32], kind: u32)
     let d = w[2] as usize;
     let n = w[1];
     let c = w[3];
-    wipe(w, 7312 + d * 256, 256);
+    wipe(w, 7312 + d * 256, 8);
     put4(w, 7184 + d * 4, kind, n, c, 0);
     w[2] = (d + 1) as u32;
 }
@@ -251,7 +251,7 @@ pub fn drop_scope(w: &mut [u32])
     let d = w[2] as usize - 1;
     let n = w[7184 + d * 4 + 1];
     let c = w[7184 + d * 4 + 2];
-    merge(w, 7312 + d * 256, 7312 + (d - 1) * 256, 256);
+    merge(w, 7312 + d * 256, 7312 + (d - 1) * 256, 8);
     w[1] = n;
     w[3] = c;
     w[2] = d as u32;

@@ -9,7 +9,7 @@
 -- 4112 to 6671      bindings of all scopes, root first, 256    10: id, kind, alias, reads, prevented, undefined, this-sensitive, hoisted, value's length, barrier after it
 -- 6672 to 7183      constants of all scopes, root first, 256   2: id, value's length
 -- 7184 to 7311      scopes, root first, 32                     4: kind, first binding, first constant, barrier before the first binding
--- 7312 to 15503     unresolved: a word for each identifier     256 for each scope
+-- 7312 to 15503     unresolved: a bit for each identifier      256 for each scope: a set in the first 8 of them
 -- 15504 to 15759    identifiers, 256                           1: the number of the first node that has it
 -- 15760 to 16383    free
 use mathlib.Core.Path.{_≡_}

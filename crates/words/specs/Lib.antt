@@ -1,3 +1,4 @@
 pub mod Tab
 pub mod Layout
 pub mod Moved
+pub mod Flags

@@ -3,6 +3,7 @@ ghost use mathlib.Core.Path.{_≡_};
 ghost use Prim.Native.Nat.{_+_, _≤_, _<_};
 ghost use lib.ListN.{length};
 ghost use Rattle.words.specs.Layout.{nodeOf};
+ghost use Rattle.words.specs.Flags.{flagAt, Flagged};
 ghost use Rattle.words.specs.Moved.{Moved, Put4, Put5, Zeroed, Merged, Cleared};
 
 // The kind of node k of the tree.
@@ -126,4 +127,24 @@ pub fn merge(w: &mut [u32], a: usize, b: usize, n: usize)
         w[b + i] = w[a + i] | w[b + i];
         i += 1;
     }
+}
+
+// 1 if x is in the set that stands in eight words from p on, a bit for each number, else 0.
+pub fn flag_at(w: &[u32], p: usize, x: u8) -> u32
+    requires { ⌜ p + 8 ≤ length (now w) ⌝ }
+    ensures { λ r. ⌜ r ≡ flagAt (now (w .entry)) p x ⌝ }
+{
+    let i = x as usize / 32;
+    let k = x as u32 % 32;
+    (w[p + i] >> k) % 2
+}
+
+// Puts x into such a set.
+pub fn set_flag(w: &mut [u32], p: usize, x: u8)
+    requires { ⌜ p + 8 ≤ length (now w) ⌝ }
+    ensures { λ _. ⌜ Flagged (now (w .entry)) (now (w .exit)) p x ⌝ }
+{
+    let i = x as usize / 32;
+    let k = x as u32 % 32;
+    w[p + i] = w[p + i] | (1 << k);
 }

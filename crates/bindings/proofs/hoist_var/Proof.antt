@@ -14,6 +14,14 @@ use Rattle.bindings.proofs.Hoist.{run-none, twice, listed-count, gone, 
 use borrow.Author.Needs.{needs}
 use Rattle.bindings.proofs.hoist_var.Statement.{statement}
 use Rattle.bindings.proofs.hoist_var.Tie as tie
+use Rattle.bindings.proofs.hoist_var.Reads as reads
+use Rattle.bindings.proofs.hoist_var.Lts as lts
+use Rattle.bindings.proofs.either.Reads as either-reads
+use Rattle.bindings.proofs.own_binding.Reads as own-binding-reads
+use Rattle.bindings.proofs.rewrite.Reads as rewrite-reads
+use Rattle.records.proofs.set_run.Reads as set-run-reads
+use Rattle.scopes.proofs.append_record.Reads as append-record-reads
+use Rattle.words.proofs.flag_at.Reads as flag-at-reads
 
 mul-x : tie.Need-mul-x
 mul-x c = search needs
@@ -84,14 +92,20 @@ cast-d c = search needs
 sub-d : tie.Need-sub-d
 sub-d c = search needs
 
+mul-flag-at : tie.Need-mul-flag-at
+mul-flag-at c = search needs
+
+add-flag-at : tie.Need-add-flag-at
+add-flag-at c = search needs
+
+flag-at-requires : tie.Need-flag-at-requires
+flag-at-requires c κs = search needs
+
 mul-either : tie.Need-mul-either
 mul-either c = search needs
 
 add-either : tie.Need-add-either
 add-either c = search needs
-
-cast-either : tie.Need-cast-either
-cast-either c = search needs
 
 add-either-2 : tie.Need-add-either-2
 add-either-2 c = search needs
@@ -101,21 +115,6 @@ mul-either-2 c = search needs
 
 slice-read-either : tie.Need-slice-read-either
 slice-read-either c = search needs
-
-mul-either-3 : tie.Need-mul-either-3
-mul-either-3 c = search needs
-
-add-either-3 : tie.Need-add-either-3
-add-either-3 c = search needs
-
-add-either-4 : tie.Need-add-either-4
-add-either-4 c = search needs
-
-mul-either-4 : tie.Need-mul-either-4
-mul-either-4 c = search needs
-
-slice-read-either-2 : tie.Need-slice-read-either-2
-slice-read-either-2 c = search needs
 
 either-requires : tie.Need-either-requires
 either-requires c κs = search needs
@@ -132,7 +131,7 @@ own-binding-requires c κs = search needs
 set-run-requires : tie.Need-set-run-requires
 set-run-requires c κs =
     let at-if1 = c .before in
-    let at-entry = at-if1 .before .before .before .before .before .before .before .before .before .before .before .before .before in
+    let at-entry = at-if1 .before .before .before .before .before .before .before .before .before .before .before .before .before .before in
     let w = at-entry .args .w .now in
     let g = at-entry .pre .0 in
     (g, at-if1 .if1 .taken, omega arith, omega (arith, g .vals), rw (run-none w 0) refl)
@@ -142,7 +141,7 @@ rewrite-requires c κs =
     let at-set-run = c .before .before .before in
     let at-if1 = at-set-run .before .before in
     let at-own-binding = at-if1 .before in
-    let at-entry = at-own-binding .before .before .before .before .before .before .before .before .before .before .before .before in
+    let at-entry = at-own-binding .before .before .before .before .before .before .before .before .before .before .before .before .before in
     let l = at-set-run .set-run .ensures .0 in
     let n = listed-count (at-own-binding .own-binding .result) _ (at-entry .pre .0) l in
     (l .good, omega (arith, at-if1 .if1 .taken))
@@ -163,14 +162,14 @@ returns c =
     let at-if1 = at-set-run .before .before in
     let at-own-binding = at-if1 .before in
     let at-either = at-own-binding .before .before .before in
-    let at-entry = at-either .before .before .before .before .before .before .before .before .before in
+    let at-entry = at-either .before .before .before .before .before .before .before .before .before .before in
     let w = at-entry .args .w .now in
     let g = at-entry .pre .0 in
     let j = at-entry .args .j in
     let x : ℕ = getD w (4112 + j * 10) 0 in
     let p = at-either .either .result in
     let r = at-own-binding .own-binding .result in
-    let mark = at-either .either .ensures ∙ ap (λ (b : Bool). b || yes (getD w (4112 + j * 10 + 4) 0)) (sym (top.unres-at w g (at-entry .pre .1) x (at-entry .pre .4))) in
+    let mark = at-either .either .ensures ∙ ap (λ (b : Bool). b || yes (getD w (4112 + j * 10 + 4) 0)) (ap yes (at-either .before .before .flag-at .ensures) ∙ sym (top.unres-at w g (at-entry .pre .1) x (at-entry .pre .4))) in
     let u = at-set-run .set-run .last .0 in
     let h = at-if1 .if1 .taken in
     let one = rw (run-none w 0) at (at-set-run .set-run .ensures .0) in
@@ -190,14 +189,14 @@ returns-2 c =
     let at-if1 = at-append-record .before .before in
     let at-own-binding = at-if1 .before in
     let at-either = at-own-binding .before .before .before in
-    let at-entry = at-either .before .before .before .before .before .before .before .before .before in
+    let at-entry = at-either .before .before .before .before .before .before .before .before .before .before in
     let w = at-entry .args .w .now in
     let g = at-entry .pre .0 in
     let j = at-entry .args .j in
     let x : ℕ = getD w (4112 + j * 10) 0 in
     let p = at-either .either .result in
     let r = at-own-binding .own-binding .result in
-    let mark = at-either .either .ensures ∙ ap (λ (b : Bool). b || yes (getD w (4112 + j * 10 + 4) 0)) (sym (top.unres-at w g (at-entry .pre .1) x (at-entry .pre .4))) in
+    let mark = at-either .either .ensures ∙ ap (λ (b : Bool). b || yes (getD w (4112 + j * 10 + 4) 0)) (ap yes (at-either .before .before .flag-at .ensures) ∙ sym (top.unres-at w g (at-entry .pre .1) x (at-entry .pre .4))) in
     let e = at-append-record .append-record .ensures in
     let s = gone-absent w j x p refl (at-entry .pre .5) mark r (at-if1 .if1 .left) (at-own-binding .own-binding .ensures) ∙ ap (λ (c : VarInfo). append c (stack w)) (sym (bare-gone w j x p refl (at-entry .pre .5) mark)) in
     (rw s (e .0), λ i a b. e .1 i (omega arith) b, omega (arith, e .2))
@@ -229,17 +228,14 @@ hoist-var-spec =
     slice-read-d
     cast-d
     sub-d
+    mul-flag-at
+    add-flag-at
+    flag-at-requires
     mul-either
     add-either
-    cast-either
     add-either-2
     mul-either-2
     slice-read-either
-    mul-either-3
-    add-either-3
-    add-either-4
-    mul-either-4
-    slice-read-either-2
     either-requires
     slice-read-n
     cast-n

@@ -24,20 +24,14 @@ loop-holds c = (omega arith, refl)
 sub-k : tie.Need-sub-k Inv-loop μ-loop
 sub-k c = search needs
 
-mul-if1 : tie.Need-mul-if1 Inv-loop μ-loop
-mul-if1 c = search needs
+mul-flag-at : tie.Need-mul-flag-at Inv-loop μ-loop
+mul-flag-at c = search needs
 
-add-if1 : tie.Need-add-if1 Inv-loop μ-loop
-add-if1 c = search needs
+add-flag-at : tie.Need-add-flag-at Inv-loop μ-loop
+add-flag-at c = search needs
 
-add-if1-2 : tie.Need-add-if1-2 Inv-loop μ-loop
-add-if1-2 c = search needs
-
-mul-if1-2 : tie.Need-mul-if1-2 Inv-loop μ-loop
-mul-if1-2 c = search needs
-
-shared-slice-read-if1 : tie.Need-shared-slice-read-if1 Inv-loop μ-loop
-shared-slice-read-if1 c = search needs
+flag-at-requires : tie.Need-flag-at-requires Inv-loop μ-loop
+flag-at-requires c κs = search needs
 
 returns : tie.Need-returns Inv-loop μ-loop
 returns c =
@@ -46,7 +40,7 @@ returns c =
     let at-entry = at-loop .before .before in
     let w = at-entry .args .w .now in
     let k = at-loop .loop .k in
-    sym (at-loop .loop .inv .1 ∙ ap (held (at-entry .args .x)) (out.turn w k (at-entry .pre .0) (at-loop-test .loop-test .taken) (omega (arith, at-loop .loop .inv .0, at-entry .pre .1))) ∙ facts.held-unresolved (at-entry .args .x) (scopeAt w (k - 1)) (below w (k - 1)) (facts.unresolved-at w (k - 1) (at-entry .args .x) (omega arith) ∙ facts.flag-set (getD w (7312 + (k - 1) * 256 + at-entry .args .x) 0) (c .if1 .taken)))
+    sym (at-loop .loop .inv .1 ∙ ap (held (at-entry .args .x)) (out.turn w k (at-entry .pre .0) (at-loop-test .loop-test .taken) (omega (arith, at-loop .loop .inv .0, at-entry .pre .1))) ∙ facts.held-unresolved (at-entry .args .x) (scopeAt w (k - 1)) (below w (k - 1)) (facts.unresolved-at w (k - 1) (at-entry .args .x) (omega arith) ∙ ap yes (sym (c .before .flag-at .ensures)) ∙ facts.flag-set (c .before .flag-at .result) (c .if1 .taken)))
 
 found-in-requires : tie.Need-found-in-requires Inv-loop μ-loop
 found-in-requires c κs = search needs
@@ -78,7 +72,7 @@ loop-again c =
     let at-entry = at-loop .before .before in
     let w = at-entry .args .w .now in
     let k = at-loop .loop .k in
-    (omega arith, at-loop .loop .inv .1 ∙ ap (held (at-entry .args .x)) (out.turn w k (at-entry .pre .0) (at-loop-test .loop-test .taken) (omega (arith, at-loop .loop .inv .0, at-entry .pre .1))) ∙ facts.held-next (at-entry .args .x) (scopeAt w (k - 1)) (below w (k - 1)) (facts.unresolved-at w (k - 1) (at-entry .args .x) (omega arith) ∙ ap yes (at-if1 .if1 .left)) (ap isHoistedPrevented (at-found-in .found-in .ensures .is) ∙ sym (at-hoisted-prevented .hoisted-prevented .ensures) ∙ c .if2 .left))
+    (omega arith, at-loop .loop .inv .1 ∙ ap (held (at-entry .args .x)) (out.turn w k (at-entry .pre .0) (at-loop-test .loop-test .taken) (omega (arith, at-loop .loop .inv .0, at-entry .pre .1))) ∙ facts.held-next (at-entry .args .x) (scopeAt w (k - 1)) (below w (k - 1)) (facts.unresolved-at w (k - 1) (at-entry .args .x) (omega arith) ∙ ap yes (sym (at-if1 .before .flag-at .ensures) ∙ at-if1 .if1 .left)) (ap isHoistedPrevented (at-found-in .found-in .ensures .is) ∙ sym (at-hoisted-prevented .hoisted-prevented .ensures) ∙ c .if2 .left))
 
 returns-3 : tie.Need-returns-3 Inv-loop μ-loop
 returns-3 c =
@@ -96,11 +90,9 @@ held-below-spec =
     μ-loop
     loop-holds
     sub-k
-    mul-if1
-    add-if1
-    add-if1-2
-    mul-if1-2
-    shared-slice-read-if1
+    mul-flag-at
+    add-flag-at
+    flag-at-requires
     returns
     found-in-requires
     hoisted-prevented-requires

@@ -23,30 +23,24 @@ returns c =
     let at-entry = c .before .before .before in
     let w = at-entry .args .w .now in sym (ap (shouldPreventInlineBecauseOfScope (at-entry .args .x)) (out.below-all w ∙ ap (below w) (c .if1 .taken) ∙ out.below-none w))
 
-sub-if2 : tie.Need-sub-if2
-sub-if2 c = search needs
+sub-flag-at : tie.Need-sub-flag-at
+sub-flag-at c = search needs
 
-mul-if2 : tie.Need-mul-if2
-mul-if2 c = search needs
+mul-flag-at : tie.Need-mul-flag-at
+mul-flag-at c = search needs
 
-add-if2 : tie.Need-add-if2
-add-if2 c = search needs
+add-flag-at : tie.Need-add-flag-at
+add-flag-at c = search needs
 
-add-if2-2 : tie.Need-add-if2-2
-add-if2-2 c = search needs
-
-mul-if2-2 : tie.Need-mul-if2-2
-mul-if2-2 c = search needs
-
-shared-slice-read-if2 : tie.Need-shared-slice-read-if2
-shared-slice-read-if2 c = search needs
+flag-at-requires : tie.Need-flag-at-requires
+flag-at-requires c κs = search needs
 
 returns-2 : tie.Need-returns-2
 returns-2 c =
     let at-entry = c .before .before .before .before .before in
     let w = at-entry .args .w .now in
     let k = getD w 2 0 - 1 in
-    sym (ap (shouldPreventInlineBecauseOfScope (at-entry .args .x)) (out.below-all w ∙ out.turn w (getD w 2 0) (at-entry .pre) (omega arith) (omega arith)) ∙ facts.should-held (at-entry .args .x) (scopeAt w k) (below w k) ∙ rw (facts.unresolved-at w k (at-entry .args .x) (omega arith) ∙ facts.flag-set (getD w (7312 + k * 256 + at-entry .args .x) 0) (c .if2 .taken)) refl)
+    sym (ap (shouldPreventInlineBecauseOfScope (at-entry .args .x)) (out.below-all w ∙ out.turn w (getD w 2 0) (at-entry .pre) (omega arith) (omega arith)) ∙ facts.should-held (at-entry .args .x) (scopeAt w k) (below w k) ∙ rw (facts.unresolved-at w k (at-entry .args .x) (omega arith) ∙ ap yes (sym (c .before .flag-at .ensures)) ∙ facts.flag-set (c .before .flag-at .result) (c .if2 .taken)) refl)
 
 sub-held-below : tie.Need-sub-held-below
 sub-held-below c = search needs
@@ -60,7 +54,7 @@ returns-3 c =
     let at-entry = at-if2 .before .before .before .before .before in
     let w = at-entry .args .w .now in
     let k = getD w 2 0 - 1 in
-    c .held-below .ensures ∙ sym (ap (shouldPreventInlineBecauseOfScope (at-entry .args .x)) (out.below-all w ∙ out.turn w (getD w 2 0) (at-entry .pre) (omega arith) (omega arith)) ∙ facts.should-held (at-entry .args .x) (scopeAt w k) (below w k) ∙ rw (facts.unresolved-at w k (at-entry .args .x) (omega arith) ∙ ap yes (at-if2 .if2 .left)) refl)
+    c .held-below .ensures ∙ sym (ap (shouldPreventInlineBecauseOfScope (at-entry .args .x)) (out.below-all w ∙ out.turn w (getD w 2 0) (at-entry .pre) (omega arith) (omega arith)) ∙ facts.should-held (at-entry .args .x) (scopeAt w k) (below w k) ∙ rw (facts.unresolved-at w k (at-entry .args .x) (omega arith) ∙ ap yes (sym (at-if2 .before .flag-at .ensures) ∙ at-if2 .if2 .left)) refl)
 
 pub should-prevent-inline-because-of-scope-spec : {M : Type 1} → statement M
 should-prevent-inline-because-of-scope-spec =
@@ -69,12 +63,10 @@ should-prevent-inline-because-of-scope-spec =
     shared-slice-read-d
     cast-d
     returns
-    sub-if2
-    mul-if2
-    add-if2
-    add-if2-2
-    mul-if2-2
-    shared-slice-read-if2
+    sub-flag-at
+    mul-flag-at
+    add-flag-at
+    flag-at-requires
     returns-2
     sub-held-below
     held-below-requires

@@ -1,15 +1,18 @@
--- A word of the current scope. Assumes nothing.
+-- A bit of the current scope. Assumes nothing.
 use mathlib.Core.Path.{_≡_, refl, ap, _∙_}
 use native.Mathlib.Omega.{arith}
-use borrow.Author.Needs.{needs}
 use Rattle.definition.specs.Scope.{addUnresolved}
 use Rattle.scopes.specs.State.{stack}
 use Rattle.scopes.proofs.Words as words
 use Rattle.look.specs.Look.{below}
 use Rattle.look.proofs.Touch as touch
 use Rattle.look.proofs.Out as out
+use borrow.Author.Needs.{needs}
 use Rattle.markers.proofs.mark.add_unresolved.Statement.{statement}
 use Rattle.markers.proofs.mark.add_unresolved.Tie as tie
+use Rattle.markers.proofs.mark.add_unresolved.Reads as reads
+use Rattle.markers.proofs.mark.add_unresolved.Lts as lts
+use Rattle.words.proofs.set_flag.Reads as set-flag-reads
 
 slice-read-d : tie.Need-slice-read-d
 slice-read-d c = search needs
@@ -19,36 +22,32 @@ cast-d c = search needs
 
 returns : tie.Need-returns
 returns c =
-    let at-entry = c .before .before in
+    let at-entry = c .before .before .before in
     let w = at-entry .args .w .now in
     let e : stack w ≡ addUnresolved (at-entry .args .x) (stack w) = rw (out.below-all w ∙ ap (below w) (c .if1 .taken) ∙ out.below-none w) refl in
     record { good = at-entry .pre; is = e; tree = refl; others = words.others-self w; rest = refl }
 
-sub-w : tie.Need-sub-w
-sub-w c = search needs
+sub-set-flag : tie.Need-sub-set-flag
+sub-set-flag c = search needs
 
-mul-w : tie.Need-mul-w
-mul-w c = search needs
+mul-set-flag : tie.Need-mul-set-flag
+mul-set-flag c = search needs
 
-add-w : tie.Need-add-w
-add-w c = search needs
+add-set-flag : tie.Need-add-set-flag
+add-set-flag c = search needs
 
-add-w-2 : tie.Need-add-w-2
-add-w-2 c = search needs
-
-mul-w-2 : tie.Need-mul-w-2
-mul-w-2 c = search needs
-
-slice-write-w : tie.Need-slice-write-w
-slice-write-w c = search needs
+set-flag-requires : tie.Need-set-flag-requires
+set-flag-requires c κs = search needs
 
 same-length : tie.Need-same-length
 same-length c = search needs
 
 returns-2 : tie.Need-returns-2
 returns-2 c =
-    let at-entry = c .before .before in
-    touch.unresolved (at-entry .args .w .now) (at-entry .pre) (at-entry .args .x) (omega arith) (omega arith)
+    let at-set-flag = c .before .before in
+    let at-if1 = at-set-flag .before .before in
+    let at-entry = at-if1 .before .before .before in
+    touch.unresolved (at-entry .args .w .now) (at-set-flag .set-flag .last .0) (at-entry .pre) (at-entry .args .x) (omega arith) (omega (arith, at-if1 .if1 .left)) (at-set-flag .set-flag .ensures)
 
 pub add-unresolved-spec : {M : Type 1} → statement M
 add-unresolved-spec =
@@ -57,11 +56,9 @@ add-unresolved-spec =
     slice-read-d
     cast-d
     returns
-    sub-w
-    mul-w
-    add-w
-    add-w-2
-    mul-w-2
-    slice-write-w
+    sub-set-flag
+    mul-set-flag
+    add-set-flag
+    set-flag-requires
     same-length
     returns-2)
