@@ -23,11 +23,14 @@ mul-word c = search needs
 add-word : tie.Need-add-word Inv-loop μ-loop
 add-word c = omega arith
 
-add-word-2 : tie.Need-add-word-2 Inv-loop μ-loop
-add-word-2 c = search needs
-
 word-requires : tie.Need-word-requires Inv-loop μ-loop
 word-requires c κs = search needs
+
+cast-put-bool : tie.Need-cast-put-bool Inv-loop μ-loop
+cast-put-bool c = omega arith
+
+shr-put-bool : tie.Need-shr-put-bool Inv-loop μ-loop
+shr-put-bool c = omega arith
 
 put-bool-requires : tie.Need-put-bool-requires Inv-loop μ-loop
 put-bool-requires c κs = search needs
@@ -54,8 +57,9 @@ show-unresolved-spec =
     loop-holds
     mul-word
     add-word
-    add-word-2
     word-requires
+    cast-put-bool
+    shr-put-bool
     put-bool-requires
     add-x
     loop-less
