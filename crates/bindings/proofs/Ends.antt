@@ -15,7 +15,7 @@ use Rattle.scopes.specs.State.{Good, Becomes, bindAt, binds, stack, heads, head
 use Rattle.records.proofs.Count.{depth-is}
 use Rattle.records.proofs.Listed.{stack-none}
 use Rattle.bindings.specs.Hoist.{recordAt, hoistUp}
-use Rattle.bindings.proofs.Top.{topScope, under, stack-top, under-length, top-fits}
+use Rattle.rewrites.proofs.Top.{topScope, under, stack-top, under-length, top-fits}
 use Rattle.bindings.proofs.Hoist.{record-same}
 
 pub fn-yes : (k : ℕ) → 3 ≤ k → isFn (scopeKindOf k) ≡ true

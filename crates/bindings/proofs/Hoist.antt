@@ -15,25 +15,9 @@ use Rattle.scopes.proofs.Words.{bind-eq}
 use Rattle.records.specs.Steps.{Listed, refill}
 use Rattle.records.proofs.Count.{length-binds}
 use Rattle.records.proofs.Listed.{bind-there, change-at, listed-then, listed-becomes}
-use Rattle.bindings.specs.Hoist.{recordAt, hoistOne, hoistUp, Own}
-use Rattle.bindings.proofs.Top.{putTop, put-there, put-absent, unresTop}
-
--- a value of no node
-pub run-none : (w : List ℕ) (i : ℕ) → run w 16 i 0 ≡ []
-unfolding run
-run-none w i = tab-zero (λ j. coreFrom w (16 + (i + j) * 2))
-
--- two stores into one binding
-pub twice : {w u v : List ℕ} (k : ℕ) (b : VarInfo) (f : VarInfo → VarInfo) → k < getD w 1 0 → Good w → Listed w u (set (binds w) k b) (consts w) → Listed u v (set (binds u) k (f (bindAt u k))) (consts u) → Listed w v (set (binds w) k (f b)) (consts w)
-twice {w} {u} {v} k b f h g one two =
-    let n : getD u 1 0 ≡ getD w 1 0 = sym (length-binds u (one .good)) ∙ ap length (one .binds) ∙ simp length-set (length-binds w g) in
-    let l : k < length (binds w) = rw (length-binds w g) h in
-    let e : bindAt u k ≡ b = sym (bind-there u k (omega arith) b) ∙ ap (λ (bs : List VarInfo). getD bs k b) (one .binds) ∙ getD-set-same (binds w) k b b l in
-    let s : set (binds u) k (f (bindAt u k)) ≡ set (binds w) k (f b) = ap (λ (c : VarInfo). set (binds u) k (f c)) e ∙ ap (λ (bs : List VarInfo). set bs k (f b)) (one .binds) ∙ set-set (binds w) k b (f b) in
-    listed-then one (rw (s, one .consts) at two)
-
-pub listed-count : {w u : List ℕ} (k : ℕ) (b : VarInfo) → Good w → Listed w u (set (binds w) k b) (consts w) → getD u 1 0 ≡ getD w 1 0
-listed-count {w} {u} k b g l = sym (length-binds u (l .good)) ∙ ap length (l .binds) ∙ simp length-set (length-binds w g)
+use Rattle.rewrites.specs.Own.{Own}
+use Rattle.rewrites.proofs.Top.{putTop, put-there, put-absent, unresTop}
+use Rattle.bindings.specs.Hoist.{recordAt, hoistOne, hoistUp}
 
 -- what goes up, on the stack
 pub hoist-var-is : (c : VarInfo) (st : Stack) → isVar (c .kind) ≡ true → hoistOne c st ≡ putTop (hoist (unresTop st) c) st

@@ -1,6 +1,3 @@
 -- What the proofs of several functions use.
-pub mod Top
-pub mod Fields
 pub mod Hoist
 pub mod Ends
-pub mod Declares

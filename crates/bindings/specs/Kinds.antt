@@ -1,55 +1,10 @@
--- The port's own enums, and what of the definition each case is. Assumes nothing: these are definitions.
-use mathlib.Core.Bool.{Bool, true, false}
-use mathlib.Core.Option.{Option, none, some}
-use mathlib.Core.List.{List}
-use mathlib.Core.Path.{_≡_}
-use Prim.Native.Nat.{ℕ, _<_}
-use Rattle.tree.specs.Tree.{Core, firstT, plant}
+-- The port's own kinds of scopes, and what of the definition each case is. Assumes nothing: these are definitions.
 use Rattle.definition.specs.Scope as def
 use Rattle.bindings.specs.declared.ScopeKind.{ScopeKind}
 use Rattle.bindings.specs.declared.ScopeKind.the-variants.{Cond, Loop, Block, Fn}
-use Rattle.bindings.specs.declared.VarDeclKind.{VarDeclKind}
-use Rattle.bindings.specs.declared.VarDeclKind.the-variants.{Var, Let, Const}
-use Rattle.bindings.specs.declared.VarType.{VarType}
-use Rattle.bindings.specs.declared.VarType.the-variants.{Param, Declared}
-use Rattle.bindings.specs.declared.Alias.{Alias}
-use Rattle.bindings.specs.declared.Alias.the-variants.{NoAlias, AliasOf}
-use Rattle.bindings.specs.declared.Init.{Init}
-use Rattle.bindings.specs.declared.Init.the-variants.{NoInit, Recorded, Seen}
 
 abbrev pub kindOf : ScopeKind → def.ScopeKind
 kindOf Cond = def.cond
 kindOf Loop = def.loop
 kindOf Block = def.block
 kindOf (Fn named) = def.fn named
-
-abbrev pub declKindOf : VarDeclKind → def.VarType
-declKindOf Var = def.vVar
-declKindOf Let = def.vLet
-declKindOf Const = def.vConst
-
-abbrev pub typeOf : VarType → def.VarType
-typeOf Param = def.param
-typeOf (Declared k) = declKindOf k
-
-abbrev pub aliasOf : Alias → Option def.VarType
-aliasOf NoAlias = none
-aliasOf (AliasOf t) = some (typeOf t)
-
--- an init whose nodes are those of a run
-abbrev pub initAt : Init → List Core → def.Init
-initAt NoInit xs = def.noInit
-initAt Recorded xs = def.recorded (firstT (plant xs))
-initAt Seen xs = def.seen (firstT (plant xs))
-
--- is the old value kept
-abbrev pub isSeen : Init → Bool
-isSeen NoInit = false
-isSeen Recorded = false
-isSeen Seen = true
-
--- an init has nodes, and no init has none
-abbrev pub Sized : Init → ℕ → Type 0
-Sized NoInit m = m ≡ 0
-Sized Recorded m = 0 < m
-Sized Seen m = 0 < m

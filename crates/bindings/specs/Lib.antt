@@ -1,3 +1,2 @@
 pub mod Hoist
 pub mod Kinds
-pub mod Declare

@@ -21,9 +21,9 @@ use Rattle.records.specs.declared.Step.the-variants as rcase
 use Rattle.look.specs.Answers as answers
 use Rattle.look.specs.declared.Step as lstep
 use Rattle.look.specs.declared.Step.the-variants as lcase
-use Rattle.bindings.specs.declared.Init.{Init}
-use Rattle.bindings.specs.declared.Init.the-variants.{NoInit, Recorded, Seen}
-use Rattle.declare_steps.specs.Steps.{Sited}
+use Rattle.declares.specs.declared.Init.{Init}
+use Rattle.declares.specs.declared.Init.the-variants.{NoInit, Recorded, Seen}
+use Rattle.inits.specs.Inits.{Sited}
 use Rattle.calls.specs.Ready.{Ready, ValueAt, Begun}
 
 pub keep : {w u : List ℕ} → Ready w → Good u → tree u ≡ tree w → Ready u

@@ -1,6 +1,7 @@
 // The scopes in the words printed, root first, and then what the look-ups answer.
 ghost use Prim.Native.Nat.{_≤_, _<_};
 ghost use Rattle.calls.specs.Ready.{Ready};
+use constants::find_constant;
 use look::Count;
 use look::bound_here;
 use look::find_binding_from_current;
@@ -16,7 +17,6 @@ use look::should_prevent_inline_because_of_scope;
 use look::var_inline_prevented;
 use look::write_prevents_inline;
 use records::Constant;
-use records::find_constant;
 use records::live;
 use records::recorded_nodes;
 use scopes::find_binding;
@@ -187,7 +187,7 @@ fn show_scope_of(w: &[u32], x: u8)
     requires { ⌜ Ready (now w) ⌝ }
 {
     put_bool(look::has_constant(w, x));
-    put_bool(records::has_constant(w, x));
+    put_bool(constants::has_constant(w, x));
     match find_constant(w, x) {
         Constant::Unknown => put(0),
         Constant::At(_, n) => put_size(n),

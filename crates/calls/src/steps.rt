@@ -4,25 +4,25 @@ ghost use Rattle.calls.specs.Ready.{Ready};
 use super::values::any_value;
 use super::values::node_of;
 use super::values::some_value;
-use bindings::Init;
 use bindings::Scope;
 use bindings::ScopeKind;
-use bindings::VarDeclKind;
-use bindings::VarType;
 use bindings::close;
-use bindings::define;
-use bindings::first_value;
 use bindings::open_scope;
+use constants::add_const;
 use declare_steps::declare;
+use declares::Init;
+use declares::VarDeclKind;
+use declares::VarType;
+use declares::define;
+use declares::first_value;
 use markers::mark::mark_this_sensitive;
 use markers::mark::prevent_inline_of_params;
 use markers::mark::store_inline_barrier;
-use markers::usage::add_read;
-use markers::usage::add_write;
 use records::Step;
-use records::add_const;
 use records::record_value;
 use scopes::prevent_inline;
+use usages::add_read;
+use usages::add_write;
 
 // The number of a step's refusal.
 fn number(s: Step) -> u32 {

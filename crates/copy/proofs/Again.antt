@@ -21,7 +21,7 @@ use Rattle.roundtrip.specs.Fits.{Bytes}
 use Rattle.roundtrip.proofs.Texts.{both}
 use Rattle.roundtrip.proofs.Round.{found, back as file-back}
 use Rattle.treefile.specs.Reading.{Held}
-use Rattle.treefile.proofs.Fill.{is-T}
+use Rattle.parts.proofs.Tests.{is-T}
 use Rattle.treefile.proofs.Names.{enter-old, enter-new, place-new}
 use Rattle.treefile.proofs.Cores.{core-lit, core-id, core-plain, place-final, ids-more}
 use Rattle.writer.proofs.Tied.{resultScript}

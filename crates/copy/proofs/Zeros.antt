@@ -14,7 +14,7 @@ use Rattle.format.specs.declared.kinds.Row.{Row}
 use Rattle.format.specs.Kinds.{allows, rowOf, formOk, countOk, usesText, usesBits}
 use Rattle.format.specs.Script.{Script, hasId, zeroNode}
 use Rattle.format.specs.Read.{Place, fieldsOk, nodeOk, below, fills, nodesOk}
-use Rattle.treefile.proofs.Fill.{is-T, T-is, and-left, and-right}
+use Rattle.parts.proofs.Tests.{is-T, T-is, and-left, and-right}
 
 pub record Zeros (x : Raw) : Type 0 where
   pub text : usesText (x .kind) ≡ false → x .text ≡ 0

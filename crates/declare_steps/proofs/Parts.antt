@@ -22,11 +22,12 @@ use Rattle.scopes.specs.State.{varTypeOf}
 use Rattle.nodes.specs.Nodes.{Planted, treeFrom, forestFrom}
 use Rattle.nodes.proofs.Trees.{trees-le, plant-behind}
 use Rattle.nodes.proofs.Words.{tree-whole}
-use Rattle.bindings.specs.declared.Init.{Init}
-use Rattle.bindings.specs.declared.Init.the-variants.{NoInit, Recorded, Seen}
+use Rattle.declares.specs.declared.Init.{Init}
+use Rattle.declares.specs.declared.Init.the-variants.{NoInit, Recorded, Seen}
 use Rattle.look.specs.Look.{readsO}
 use Rattle.state.specs.State.{rest}
-use Rattle.declare_steps.specs.Steps.{initFrom, hasNone, named, overNone, overConst, overCheap, overOther, wants, takeIdent, takeValue, takeOrMark, takeInit}
+use Rattle.inits.specs.Inits.{initFrom, hasNone}
+use Rattle.declare_steps.specs.Steps.{named, overNone, overConst, overCheap, overOther, wants, takeIdent, takeValue, takeOrMark, takeInit}
 
 -- the visitor's fields
 pub rest-kind : (w : List ℕ) → rest w .varDeclKind ≡ varTypeOf (getD w 8 0)

@@ -18,49 +18,12 @@ use Rattle.nodes.specs.Nodes.{treeFrom}
 use Rattle.state.specs.State.{Ok}
 use Rattle.records.specs.declared.Step.{Step}
 use Rattle.records.specs.declared.Step.the-variants.{Done, Refused}
-use Rattle.bindings.specs.declared.Init.{Init}
-use Rattle.bindings.specs.declared.Init.the-variants.{NoInit, Recorded, Seen}
+use Rattle.declares.specs.declared.Init.{Init}
+use Rattle.declares.specs.declared.Init.the-variants.{NoInit, Recorded, Seen}
 use Rattle.declare_steps.specs.declared.Told.{Told}
 use Rattle.declare_steps.specs.declared.Told.the-variants.{Answer, Stopped}
 use Rattle.declare_steps.specs.declared.After.{After}
 use Rattle.declare_steps.specs.declared.After.the-variants.{At, Halted}
-
--- an init whose value is a tree, and that this tree is one of the n nodes
-abbrev pub initFrom : Init → Tree → def.Init
-initFrom NoInit t = def.noInit
-initFrom Recorded t = def.recorded t
-initFrom Seen t = def.seen t
-
-abbrev pub Sited : Init → ℕ → ℕ → Type 0
-Sited NoInit i n = Unit {0}
-Sited Recorded i n = i < n
-Sited Seen i n = i < n
-
--- it has a value; it has none
-abbrev pub Valued : Init → Type 0
-Valued NoInit = ⊥
-Valued Recorded = Unit {0}
-Valued Seen = Unit {0}
-
-abbrev pub hasNone : Init → Bool
-hasNone NoInit = true
-hasNone Recorded = false
-hasNone Seen = false
-
--- the bindings of the current scope: how many there are; where x is among them, or would be
-abbrev pub countHere : Stack → ℕ
-countHere [] = 0
-countHere (s ∷ st) = length (s .bindings)
-
-abbrev pub placeHere : ℕ → Stack → ℕ
-placeHere x st = placeOr (countHere st) (idxHere x st)
-
--- is there a barrier between x and the binding of y
-abbrev pub barredHere : ℕ → ℕ → Stack → Bool
-barredHere x y st = barred (idxHere y st) (placeHere x st) (barsHere st)
-
-abbrev pub worksWith : def.VarType → Option def.VarType → Bool
-worksWith k al = not (isParam k) && not (paramO al)
 
 -- the name of a declarator: only its number is looked at
 abbrev pub named : ℕ → Tree

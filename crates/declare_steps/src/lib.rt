@@ -1,44 +1,49 @@
 // The steps of declarators: declared, looked at, taken out.
 ghost use mathlib.Core.Path.{_≡_};
-ghost use mathlib.Core.Bool.{true, false, _||_, _&&_, not};
+ghost use mathlib.Core.Bool.{true, false, _&&_, not};
 ghost use mathlib.Core.Option.{some};
 ghost use Prim.Native.Nat.{_+_, _-_, _≤_, _<_};
 ghost use lib.ListN.{getD, drop};
 ghost use Rattle.tree.specs.Tree.{count, lengthF, plant};
 ghost use Rattle.tree.specs.Combine.{andThen, ret, done};
 ghost use Rattle.definition.specs.Tree.{isIdent, isCheap};
-ghost use Rattle.definition.specs.Scope.{declare, noInit, aliasFrom, isVar, isInlinePrevented, shouldPreventInlineBecauseOfScope, preventInline};
+ghost use Rattle.definition.specs.Scope.{declare, aliasFrom, isVar, preventInline};
 ghost use Rattle.definition.specs.Walk.{St, when, mark, declareM, declrAnalysis, overM, stays};
 ghost use Rattle.words.specs.Layout.{tree};
 ghost use Rattle.scopes.specs.State.{Good, stack, varTypeOf};
 ghost use Rattle.records.specs.Steps.{Grown};
-ghost use Rattle.bindings.specs.Kinds.{typeOf, aliasOf};
+ghost use Rattle.declares.specs.Kinds.{typeOf, aliasOf};
 ghost use Rattle.look.specs.Look.{idxHere};
 ghost use Rattle.nodes.specs.Nodes.{Planted, Child, Replants, cutAt, treeFrom, forestFrom};
 ghost use Rattle.state.specs.State.{rest, abs};
-ghost use Rattle.declare_steps.specs.Steps.{initFrom, Sited, Valued, hasNone, placeHere, barredHere, worksWith, named, doneOf, toldOf, Moves, Did, afterOf, Spot, declrAfter, overNone, overConst, overCheap, overOther, wants, takeIdent, takeValue, takeOrMark, takeInit};
-use bindings::Alias;
-use bindings::Init;
-use bindings::VarDeclKind;
-use bindings::VarType;
-use bindings::declare_with;
+ghost use Rattle.inits.specs.Inits.{initFrom, Sited, Valued, hasNone};
+ghost use Rattle.declare_steps.specs.Steps.{named, doneOf, toldOf, Moves, Did, afterOf, Spot, declrAfter, overNone, overConst, overCheap, overOther, wants, takeIdent, takeValue, takeOrMark, takeInit};
+use constants::add_const;
+use declares::Alias;
+use declares::Init;
+use declares::VarDeclKind;
+use declares::VarType;
+use declares::declare_with;
+use inits::barred_for;
+use inits::declare_bare;
+use inits::declare_value;
+use inits::is_ident;
+use inits::no_value;
+use inits::prevented_at;
 use look::Count;
 use look::barred;
 use look::find_binding_from_current;
 use look::has_same_this;
 use look::ident_at;
 use look::ident_prevented;
-use look::idx_val;
 use look::in_loop;
 use look::is_inline_prevented;
 use look::read_cnt;
-use look::should_prevent_inline_because_of_scope;
 use look::var_type;
 use nodes::cut;
 use nodes::has_this;
 use nodes::skip;
 use records::Step;
-use records::add_const;
 use scopes::prevent_inline;
 use words::kind_at;
 
@@ -83,121 +88,6 @@ fn alias_for(w: &[u32], y: u8) -> Alias
     Alias::AliasOf(type_of(t))
 }
 
-// Where x is among the bindings of the current scope, or would be.
-fn place_here(w: &[u32], x: u8) -> usize
-    requires { ⌜ Good (now w) ⌝ }
-    ensures { λ r. ⌜ (r ≡ placeHere x (stack (now (w .entry)))) × (r ≤ 256) ⌝ }
-{
-    let r = idx_val(w, x);
-    if 0 < r {
-        return r - 1;
-    }
-    let d = w[2] as usize;
-    if d == 0 {
-        return 0;
-    }
-    let a = w[7184 + (d - 1) * 4 + 1] as usize;
-    w[1] as usize - a
-}
-
-// Is there a barrier between x and the binding of y.
-fn barred_here(w: &[u32], x: u8, y: u8) -> bool
-    requires { ⌜ Good (now w) ⌝ }
-    ensures { λ r. ⌜ r ≡ barredHere x y (stack (now (w .entry))) ⌝ }
-{
-    let v = idx_val(w, y);
-    if v == 0 {
-        return false;
-    }
-    let idx = place_here(w, x);
-    barred(w, v - 1, idx)
-}
-
-// Neither of two types is a parameter's.
-fn works_with(kind: VarType, alias: Alias) -> bool
-    ensures { λ r. ⌜ r ≡ worksWith (typeOf kind) (aliasOf alias) ⌝ }
-{
-    match kind {
-        VarType::Param => false,
-        VarType::Declared(_) => match alias {
-            Alias::NoAlias => true,
-            Alias::AliasOf(t) => match t {
-                VarType::Param => false,
-                VarType::Declared(_) => true,
-            },
-        },
-    }
-}
-
-// Does a declaration of x as y mark both.
-fn barred_for(w: &[u32], x: u8, y: u8, kind: VarType, alias: Alias) -> bool
-    requires { ⌜ Good (now w) ⌝ }
-    ensures { λ r. ⌜ r ≡ (worksWith (typeOf kind) (aliasOf alias) && barredHere x y (stack (now (w .entry)))) ⌝ }
-{
-    if works_with(kind, alias) {
-        return barred_here(w, x, y);
-    }
-    false
-}
-
-// Is x prevented from the start, as the value of the tree at i.
-fn prevented_at(w: &[u32], x: u8, i: usize) -> bool
-    requires { ⌜ (Planted (now w)) × (i < getD (now w) 0 0) ⌝ }
-    ensures { λ r. ⌜ r ≡ (shouldPreventInlineBecauseOfScope x (stack (now (w .entry))) || isInlinePrevented (treeFrom (tree (now (w .entry))) i) (stack (now (w .entry)))) ⌝ }
-{
-    if should_prevent_inline_because_of_scope(w, x) {
-        return true;
-    }
-    is_inline_prevented(w, i)
-}
-
-// declare without an init.
-fn declare_bare(w: &mut [u32], x: u8, undefined: bool, kind: VarType) -> Step
-    requires { ⌜ Planted (now w) ⌝ }
-    ensures { λ r. ⌜ Grown (now (w .entry)) (now (w .exit)) (declare x noInit undefined (typeOf kind) (stack (now (w .entry)))) r ⌝ }
-{
-    let p = should_prevent_inline_because_of_scope(w, x);
-    let looped = in_loop(w);
-    declare_with(
-        w,
-        x,
-        Init::NoInit,
-        0,
-        0,
-        p,
-        undefined,
-        kind,
-        Alias::NoAlias,
-        looped,
-        false,
-        x,
-    )
-}
-
-// declare with the tree at i as its init, which is no identifier.
-fn declare_value(w: &mut [u32], x: u8, v: Init, i: usize, undefined: bool, kind: VarType) -> Step
-    requires { ⌜ (Planted (now w)) × (i < getD (now w) 0 0) × (Valued v) × (isIdent (treeFrom (tree (now w)) i) ≡ false) ⌝ }
-    ensures { λ r. ⌜ Grown (now (w .entry)) (now (w .exit)) (declare x (initFrom v (treeFrom (tree (now (w .entry))) i)) undefined (typeOf kind) (stack (now (w .entry)))) r ⌝ }
-{
-    let m = skip(w, i) - i;
-    let p = prevented_at(w, x, i);
-    let looped = in_loop(w);
-    declare_with(
-        w,
-        x,
-        v,
-        i,
-        m,
-        p,
-        undefined,
-        kind,
-        Alias::NoAlias,
-        looped,
-        false,
-        x,
-    )
-}
-
 // declare with the identifier at i as its init.
 fn declare_ident(w: &mut [u32], x: u8, v: Init, i: usize, undefined: bool, kind: VarType) -> Step
     requires { ⌜ (Planted (now w)) × (i < getD (now w) 0 0) × (Valued v) × (isIdent (treeFrom (tree (now w)) i) ≡ true) ⌝ }
@@ -212,14 +102,6 @@ fn declare_ident(w: &mut [u32], x: u8, v: Init, i: usize, undefined: bool, kind:
     declare_with(w, x, v, i, m, p, undefined, kind, alias, looped, barred, y)
 }
 
-// Is the tree at i an identifier.
-fn is_ident(w: &[u32], i: usize) -> bool
-    requires { ⌜ (Planted (now w)) × (i < getD (now w) 0 0) ⌝ }
-    ensures { λ r. ⌜ r ≡ isIdent (treeFrom (tree (now (w .entry))) i) ⌝ }
-{
-    kind_at(w, i) == 21
-}
-
 // A literal or an identifier.
 fn is_cheap(w: &[u32], i: usize) -> bool
     requires { ⌜ (Planted (now w)) × (i < getD (now w) 0 0) ⌝ }
@@ -229,16 +111,6 @@ fn is_cheap(w: &[u32], i: usize) -> bool
         return true;
     }
     kind_at(w, i) == 21
-}
-
-fn no_value(v: Init) -> bool
-    ensures { λ r. ⌜ r ≡ hasNone v ⌝ }
-{
-    match v {
-        Init::NoInit => true,
-        Init::Recorded => false,
-        Init::Seen => false,
-    }
 }
 
 // declare: the init is nothing, or the tree at i.

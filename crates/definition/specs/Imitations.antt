@@ -3,11 +3,20 @@
 use mathlib.Core.Path.{_≡_, refl}
 use mathlib.Core.Bool.{true, false}
 use mathlib.Core.List.{List, [], _∷_, map}
-use Prim.Native.Nat.{ℕ}
-use Rattle.definition.specs.Tree.{Tree, node, nil, cons}
+use Prim.Native.Nat.{ℕ, zero, suc}
+use Rattle.definition.specs.Tree.{Tree, Forest, node, nil, cons}
 use Rattle.definition.specs.Walk.{corePass}
 use Rattle.definition.specs.Cases.{Answer, yes!, meets, script, decl, declTo, do′, name, bind, lit, array, assign, block, f1, f2, f3}
-use Rattle.definition.specs.Stress.{nest, many}
+
+-- n arrays around x
+abbrev pub nest : ℕ → Tree → Tree
+nest zero t = t
+nest (suc n) t = array (nest n t)
+
+-- n times x;
+abbrev pub many : ℕ → Forest
+many zero = nil
+many (suc n) = cons (do′ (name 1)) (many n)
 
 -- a run limit, a script, and what is expected
 pub record Limited : Type 0 where

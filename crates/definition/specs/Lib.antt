@@ -7,7 +7,6 @@ pub mod Paired
 pub mod Relabel
 pub mod Cases
 pub mod Table
-pub mod Stress
 pub mod Imitations
 pub mod Refusals
 pub mod Traps

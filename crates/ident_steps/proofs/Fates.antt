@@ -16,7 +16,7 @@ use Rattle.words.specs.Tab.{sum-part}
 use Rattle.words.specs.Layout.{yes, coreFrom, nodeOf, run, tree}
 use Rattle.words.proofs.Nodes.{run-length, run-at, tree-at}
 use Rattle.scopes.specs.State.{Good, stack, bindAt, off, lenAt, runAt, valueOf}
-use Rattle.records.specs.Consts.{Found}
+use Rattle.constants.specs.Consts.{Found}
 use Rattle.records.specs.declared.Constant.{Constant}
 use Rattle.records.specs.declared.Constant.the-variants as constant
 use Rattle.nodes.specs.Nodes.{treeFrom, valueFrom}

@@ -12,7 +12,7 @@ ghost use Rattle.state.specs.State.{abs};
 ghost use Rattle.ident_steps.specs.Steps.{Goes, firstTest, firstF};
 use super::Next;
 use super::lift_value;
-use bindings::first_value;
+use declares::first_value;
 use look::find_binding_from_current;
 use look::ident_at;
 use look::is_inline_prevented;

@@ -17,18 +17,17 @@ ghost use Rattle.ident_steps.specs.Steps.{Goes, analysisF, costly, testS
 pub mod assign;
 
 use bindings::close;
+use constants::find_constant;
 use look::ident_at;
 use look::is_undefined;
 use look::value_kind;
 use look::var_inline_prevented;
-use markers::usage::add_read;
 use nodes::Step;
 use nodes::put_void;
 use nodes::replace_at;
 use nodes::skip;
 use nodes::unwrap;
 use records::Constant;
-use records::find_constant;
 use scopes::find_binding;
 use scopes::offset;
 use scopes::open;
@@ -39,6 +38,7 @@ use state::set_in_test;
 use state::set_inlining;
 use state::set_pat_mode;
 use state::set_var_decl_kind;
+use usages::add_read;
 use words::form_at;
 
 // Where the next tree begins, or the number of a refusal.

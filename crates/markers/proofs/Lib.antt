@@ -1,4 +1,2 @@
 -- What the proofs of several functions use.
-pub mod Again
 pub mod Fields
-pub mod Limits

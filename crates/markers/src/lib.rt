@@ -1,3 +1,2 @@
-// scope.rs: marks, and reads and writes of identifiers, over the working words.
+// scope.rs: marks, over the working words.
 pub mod mark;
-pub mod usage;

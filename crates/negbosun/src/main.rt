@@ -4,10 +4,10 @@ ghost use mathlib.Core.Path.{_≡_};
 ghost use Prim.Native.Nat.{_+_, _*_, _≤_};
 ghost use lib.ListN.{length};
 use format::Raw;
+use parts::fields::raw_at;
+use parts::fields::u32_at;
 use pass::negbosun_inline;
 use pass::negbosun_roots;
-use treefile::fields::raw_at;
-use treefile::fields::u32_at;
 
 // Room for the largest readable file, 32 + 16 * 1,024 + 4 * 256 + 4,096 bytes, and one byte more. A longer input is refused as the
 // whole of it would be: rows 2 and 3 look at the header alone, and a length above what row 3 leaves is row 4's, cut or not.

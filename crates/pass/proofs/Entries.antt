@@ -35,10 +35,10 @@ use Rattle.nodes.proofs.Trees.{count-some, length-flat}
 use Rattle.copy.specs.Copy.{WordsAre}
 use Rattle.run.specs.declared.Ran.{Ran}
 use Rattle.run.specs.declared.Ran.the-variants as Ran
-use Rattle.pass.specs.declared.Inlined.{Inlined}
+use Rattle.answers.specs.declared.Inlined.{Inlined}
 use Rattle.run.specs.Run.{outcome}
 use Rattle.run.specs.Inline.{readRuns, Final, FileIs}
-use Rattle.pass.specs.Entry.{enough, numbers, left, InlineIs}
+use Rattle.answers.specs.Entry.{enough, numbers, left, InlineIs}
 use Rattle.run.proofs.Files.{node-count}
 
 -- the test of row 1, and what passed it

@@ -1,4 +1,2 @@
 pub mod Entries
-pub mod Demands
 pub mod Listings
-pub mod Rows

@@ -20,11 +20,11 @@ use Rattle.scopes.specs.State.{stack}
 use Rattle.copy.specs.Copy.{WordsAre}
 use Rattle.run.specs.declared.Ran.{Ran}
 use Rattle.run.specs.declared.Ran.the-variants as Ran
-use Rattle.pass.specs.declared.Roots.{Roots}
+use Rattle.answers.specs.declared.Roots.{Roots}
 use Rattle.run.specs.Inline.{readRuns, Final, FileIs}
-use Rattle.pass.specs.Entry.{enough}
+use Rattle.answers.specs.Entry.{enough}
 use Rattle.roots.specs.Listing.{Known, rootsIn, Listing, refused, listed, inRoom, left, SaysSo, WroteRoots}
-use Rattle.pass.specs.Roots.{answered, listing, numbers, RootsIs}
+use Rattle.answers.specs.Roots.{answered, listing, numbers, RootsIs}
 use Rattle.run.proofs.Files.{is-found, node-count}
 
 -- how it ends, by row 1

@@ -1,30 +1,16 @@
 // The whole pass over a tree file, from its bytes to the result's, as C functions.
 ghost use mathlib.Core.Path.{_≡_};
 ghost use Rattle.tree.specs.Base.{toNat};
-ghost use Rattle.pass.specs.Entry.{enough, InlineIs};
-ghost use Rattle.pass.specs.Roots.{RootsIs};
+ghost use Rattle.answers.specs.Entry.{enough, InlineIs};
+ghost use Rattle.answers.specs.Roots.{RootsIs};
+use answers::Inlined;
+use answers::Roots;
 use roots::write_roots;
 use run::Ran;
 use run::inline::inline_file;
 use words::clear;
 use writer::Written;
 use writer::write;
-
-// A refusal's number; or 0, the result's length, the runs done, and 1 if the last one left the mark.
-#[repr(C)]
-pub struct Inlined {
-    pub refused: u32,
-    pub length: usize,
-    pub runs: u32,
-    pub changed: u32,
-}
-
-// A refusal's number; or 0, and how many root bindings there are.
-#[repr(C)]
-pub struct Roots {
-    pub refused: u32,
-    pub count: usize,
-}
 
 // Row 1: 1 to 16 runs, and at least 16,384 words.
 fn enough(runs: u32, words: usize) -> bool

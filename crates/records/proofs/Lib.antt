@@ -2,5 +2,3 @@
 pub mod Count
 pub mod Store
 pub mod Listed
-pub mod Constants
-pub mod ConstWords

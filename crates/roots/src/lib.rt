@@ -12,7 +12,7 @@ ghost use Rattle.definition.specs.Walk.{rootMarks};
 ghost use Rattle.scopes.specs.State.{Good, stack};
 ghost use Rattle.roots.specs.Listing.{Known, marksTo, rootAt, rootWords, rootList, rootsIn, inRoom, WroteRoots};
 use format::Raw;
-use treefile::fields::raw_at;
+use parts::fields::raw_at;
 use writer::Written;
 
 // How many bindings the root has: those before the second scope's.

@@ -3,7 +3,7 @@ ghost use mathlib.Core.Path.{_≡_};
 ghost use Prim.Native.Nat.{_+_, _*_, _≤_};
 ghost use lib.ListN.{length};
 use format::Raw;
-use treefile::fields::raw_at;
+use parts::fields::raw_at;
 use treefile::header::Header;
 use treefile::read::Answer;
 use treefile::read::read;

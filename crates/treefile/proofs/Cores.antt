@@ -25,8 +25,8 @@ use Rattle.format.specs.Core.{coreNode, coreFrom, coreNodes}
 use Rattle.format.specs.Read.{Place, fieldsOk, nodeOk, below, fills, nodesOk, nodesFrom}
 use Rattle.treefile.specs.Idents.{idsOf, Listed}
 use Rattle.treefile.specs.Load.{Appended, scriptOf, Loaded, Loading, Kept}
-use Rattle.treefile.proofs.Raws.{nodes-length, node-raw}
-use Rattle.treefile.proofs.Fill.{is-T, T-is, and-left, and-right}
+use Rattle.parts.proofs.Raws.{nodes-length, node-raw}
+use Rattle.parts.proofs.Tests.{is-T, T-is, and-left, and-right}
 use Rattle.treefile.proofs.Names.{same-refl, enter-old, enter-new, ids-same}
 
 -- what row 6 shows of every node

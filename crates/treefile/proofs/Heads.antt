@@ -8,7 +8,7 @@ use borrow.Author.Tests.{le-leb, lt-leb, eq-eqb, ne-eqb}
 use lib.Dec.{T, eqb, leb, leb→le, eqb→eq}
 use lib.ListN.{length}
 use Rattle.format.specs.Read.{Read, bad, u32, header}
-use Rattle.treefile.proofs.Fill.{is-T, and-left, and-right}
+use Rattle.parts.proofs.Tests.{is-T, and-left, and-right}
 
 -- the tests of rows 2, 3 and 4
 abbrev pub row2 : List ℕ → Bool

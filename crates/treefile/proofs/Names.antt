@@ -18,7 +18,7 @@ use Rattle.format.specs.declared.Raw.{Raw}
 use Rattle.format.specs.Script.{zeroNode, hasId, sameId, known, enter, placeOf}
 use Rattle.format.specs.Read.{number, u32, rawOf}
 use Rattle.treefile.specs.Idents.{numbered, idsOf, Listed}
-use Rattle.treefile.proofs.Fill.{T-is}
+use Rattle.parts.proofs.Tests.{T-is}
 
 -- an identifier's fields in the file
 pub text-field : (bs : List ℕ) (a : ℕ) → rawOf (drop a bs) .text ≡ u32 bs (a + 4)

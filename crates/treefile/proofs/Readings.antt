@@ -18,14 +18,14 @@ use Rattle.treefile.specs.declared.header.Head.{Head}
 use Rattle.treefile.specs.declared.header.Head.the-variants.{Found, Refused as NoHead}
 use Rattle.treefile.specs.declared.read.Answer.{Answer}
 use Rattle.treefile.specs.declared.read.Answer.the-variants as Answer
-use Rattle.treefile.specs.Child.{rootPlace}
-use Rattle.treefile.specs.Text.{Placed, textsOf}
+use Rattle.preorder.specs.Child.{rootPlace}
+use Rattle.parts.specs.Text.{Placed, textsOf}
 use Rattle.treefile.specs.Idents.{idsOf, Listed}
 use Rattle.treefile.specs.Head.{HeadIs, headed, Headed, Counts}
 use Rattle.treefile.specs.Load.{scriptOf, Readable, Loaded, Next, Kept}
 use Rattle.treefile.specs.Reading.{CheckIs, Held, countsOf, told, Left, LoadIs, answerOf, After, WordsAre, ReadIs}
-use Rattle.treefile.proofs.Raws.{nodes-length}
-use Rattle.treefile.proofs.Strings.{count-texts}
+use Rattle.parts.proofs.Raws.{nodes-length}
+use Rattle.parts.proofs.Strings.{count-texts}
 use Rattle.treefile.proofs.Names.{ids-length}
 use Rattle.treefile.proofs.Cores.{core-all, kept-then}
 

@@ -1,5 +1,3 @@
-pub mod Child
-pub mod Text
 pub mod Idents
 pub mod Head
 pub mod Load

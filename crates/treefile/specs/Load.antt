@@ -10,7 +10,7 @@ use Rattle.format.specs.declared.Raw.{Raw}
 use Rattle.format.specs.Script.{Script, hasId, enterAll, idents, textAt}
 use Rattle.format.specs.Core.{coreNodes}
 use Rattle.format.specs.Read.{nodesFrom, rawOf, nodesOk}
-use Rattle.treefile.specs.Text.{textsOf, Placed}
+use Rattle.parts.specs.Text.{textsOf, Placed}
 use Rattle.treefile.specs.Idents.{idsOf, Listed}
 
 -- a node more in the tree; the words of the scopes and identifiers as they were

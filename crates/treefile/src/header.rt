@@ -6,7 +6,7 @@ ghost use lib.Dec.{eqb, leb};
 ghost use lib.ListN.{length};
 ghost use Rattle.format.specs.Read.{u32};
 ghost use Rattle.treefile.specs.Head.{HeadIs};
-use crate::fields::u32_at;
+use parts::fields::u32_at;
 
 // How many nodes, texts and text bytes a file has.
 pub struct Header {

@@ -6,8 +6,8 @@ ghost use lib.ListN.{length, drop};
 ghost use Rattle.format.specs.Script.{hasId, sameId, placeOf};
 ghost use Rattle.format.specs.Read.{rawOf};
 ghost use Rattle.treefile.specs.Idents.{idsOf, Listed, Enters};
-use crate::fields::u32_at;
-use crate::fields::u64_at;
+use parts::fields::u32_at;
+use parts::fields::u64_at;
 
 // The number of an identifier, or none where 256 others are listed.
 pub enum Entered {

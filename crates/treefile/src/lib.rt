@@ -1,8 +1,5 @@
-// Reading and writing of the tree file (document 01, "The tree file").
-pub mod fields;
+// Reading of the tree file (document 01, "The tree file").
 pub mod header;
 mod idents;
 mod load;
-mod nodes;
 pub mod read;
-mod texts;

@@ -6,11 +6,11 @@ ghost use lib.ListN.{length, getD};
 ghost use Rattle.tree.specs.Base.{toNat};
 ghost use Rattle.tree.specs.Tree.{core};
 ghost use Rattle.treefile.specs.Load.{Appended, Named, Readable, Loading, Step, Done};
-use crate::fields::raw_at;
 use crate::idents::Entered;
 use crate::idents::enter;
-use crate::texts::same_text;
-use crate::texts::text;
+use parts::fields::raw_at;
+use parts::texts::same_text;
+use parts::texts::text;
 
 // Appends a node to the tree, which has k nodes.
 fn put_node(words: &mut [u32], k: usize, kind: u32, form: u32, arity: u32, num: u32)

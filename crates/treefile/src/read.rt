@@ -7,9 +7,9 @@ use crate::header::Head;
 use crate::header::Header;
 use crate::header::read_header;
 use crate::load::load;
-use crate::nodes::nodes_ok;
-use crate::texts::distinct_ok;
-use crate::texts::rising_ok;
+use parts::texts::distinct_ok;
+use parts::texts::rising_ok;
+use preorder::nodes_ok;
 
 // A script, by its counts, or a refusal's number.
 pub enum Answer {

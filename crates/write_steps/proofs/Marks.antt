@@ -17,7 +17,7 @@ use Rattle.words.specs.Layout.{nodeOf, yes}
 use Rattle.words.proofs.Nodes.{tree-length, tree-at}
 use Rattle.scopes.specs.State.{Becomes, stack}
 use Rattle.look.proofs.Facts.{flag-set}
-use Rattle.markers.proofs.Limits.{becomes-self}
+use Rattle.usages.proofs.Limits.{becomes-self}
 use Rattle.nodes.specs.Nodes.{Planted}
 use Rattle.state.specs.State.{rest, abs, Act}
 use Rattle.write_steps.proofs.Steps.{Step, step-act, step-as, step-none, mark-step}

@@ -18,7 +18,7 @@ use Rattle.records.specs.declared.Step.the-variants as recordsCase
 use Rattle.look.specs.Answers as look
 use Rattle.look.specs.declared.Step as lookStep
 use Rattle.look.specs.declared.Step.the-variants as lookCase
-use Rattle.markers.proofs.Limits.{grow-done, grow-stop}
+use Rattle.usages.proofs.Limits.{grow-done, grow-stop}
 use Rattle.nodes.specs.Nodes.{Planted}
 use Rattle.write_steps.specs.Answers.{numberOf}
 use Rattle.state.specs.State.{rest, abs, Ok, Acts, Act}

@@ -19,7 +19,7 @@ use Rattle.words.specs.Tab.{getD-tab, getD-tab-out, below-or-not}
 use Rattle.words.specs.Layout.{tree}
 use Rattle.words.proofs.Nodes.{tree-length}
 use Rattle.treefile.specs.Idents.{numbered, idsOf, Listed}
-use Rattle.treefile.proofs.Raws.{node-raw}
+use Rattle.parts.proofs.Raws.{node-raw}
 use Rattle.roundtrip.specs.Fits.{Bytes}
 use Rattle.roundtrip.proofs.Nodes.{nodes-length}
 use Rattle.roundtrip.proofs.Texts.{texts-length}

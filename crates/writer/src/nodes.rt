@@ -10,7 +10,7 @@ ghost use Rattle.words.specs.Layout.{nodeOf, tree};
 ghost use Rattle.writer.specs.Back.{Source, nodeIn, identIn, textIn, backIn};
 use crate::put::put_raw;
 use format::Raw;
-use treefile::fields::raw_at;
+use parts::fields::raw_at;
 use words::arity_at;
 use words::form_at;
 use words::kind_at;

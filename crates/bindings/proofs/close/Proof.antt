@@ -6,7 +6,7 @@ use lib.ListN.{getD}
 use Rattle.scopes.specs.State.{stack}
 use Rattle.records.proofs.Count.{depth-is}
 use Rattle.records.proofs.Listed.{becomes-then}
-use Rattle.bindings.proofs.Top as top
+use Rattle.rewrites.proofs.Top as top
 use Rattle.bindings.proofs.Ends as ends
 use borrow.Author.Needs.{needs}
 use Rattle.bindings.proofs.close.Statement.{statement}

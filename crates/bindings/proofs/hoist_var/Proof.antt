@@ -9,19 +9,12 @@ use Rattle.words.specs.Layout.{yes}
 use Rattle.definition.specs.Scope.{VarInfo, withValue, append}
 use Rattle.scopes.specs.State.{bindAt, stack}
 use Rattle.records.specs.Steps.{refill}
-use Rattle.bindings.proofs.Top as top
-use Rattle.bindings.proofs.Hoist.{run-none, twice, listed-count, gone, bare-gone, refill-gone, gone-there, gone-absent}
+use Rattle.rewrites.proofs.Top as top
+use Rattle.rewrites.proofs.Again.{run-none, twice, listed-count}
+use Rattle.bindings.proofs.Hoist.{gone, bare-gone, refill-gone, gone-there, gone-absent}
 use borrow.Author.Needs.{needs}
 use Rattle.bindings.proofs.hoist_var.Statement.{statement}
 use Rattle.bindings.proofs.hoist_var.Tie as tie
-use Rattle.bindings.proofs.hoist_var.Reads as reads
-use Rattle.bindings.proofs.hoist_var.Lts as lts
-use Rattle.bindings.proofs.either.Reads as either-reads
-use Rattle.bindings.proofs.own_binding.Reads as own-binding-reads
-use Rattle.bindings.proofs.rewrite.Reads as rewrite-reads
-use Rattle.records.proofs.set_run.Reads as set-run-reads
-use Rattle.scopes.proofs.append_record.Reads as append-record-reads
-use Rattle.words.proofs.flag_at.Reads as flag-at-reads
 
 mul-x : tie.Need-mul-x
 mul-x c = search needs

@@ -3,7 +3,7 @@ use mathlib.Core.Bool.{false}
 use Rattle.declare_steps.proofs.Acts as acts
 use Rattle.words.specs.Layout.{tree}
 use Rattle.state.specs.State.{rest}
-use Rattle.bindings.specs.Kinds.{typeOf}
+use Rattle.declares.specs.Kinds.{typeOf}
 use Rattle.tree.specs.Combine.{ret}
 use Rattle.declare_steps.specs.Steps.{named}
 use Rattle.declare_steps.proofs.Ends as ends

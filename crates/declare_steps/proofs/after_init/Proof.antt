@@ -4,7 +4,7 @@ use mathlib.Core.List.{List}
 use Prim.Native.Nat.{_-_}
 use Rattle.nodes.specs.Nodes.{treeFrom}
 use Rattle.tree.specs.Tree.{count}
-use Rattle.bindings.specs.Kinds.{typeOf}
+use Rattle.declares.specs.Kinds.{typeOf}
 use Rattle.declare_steps.proofs.Ends as ends
 use Rattle.tree.specs.Tree.{Core}
 use borrow.Author.Needs.{needs}

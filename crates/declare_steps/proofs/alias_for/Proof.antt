@@ -2,7 +2,7 @@
 use mathlib.Core.Path.{sym, ap, _∙_}
 use mathlib.Core.Option.{some}
 use Prim.Native.Nat.{ℕ}
-use Rattle.declare_steps.proofs.Init as init
+use Rattle.inits.proofs.Init as init
 use Rattle.scopes.specs.State.{stack}
 use Rattle.look.specs.Look.{atPlace}
 use Rattle.look.proofs.Facts.{at-is}

@@ -1,7 +1,7 @@
 -- By what the init is. Assumes nothing.
 use mathlib.Core.Path.{sym, _∙_}
 use lib.ListN.{getD}
-use Rattle.declare_steps.proofs.Init as init
+use Rattle.inits.proofs.Init as init
 use Rattle.words.specs.Layout.{tree}
 use Rattle.nodes.specs.Nodes.{treeFrom}
 use borrow.Author.Needs.{needs}
@@ -9,11 +9,11 @@ use Rattle.declare_steps.proofs.declare.Statement.{statement}
 use Rattle.declare_steps.proofs.declare.Tie as tie
 use Rattle.declare_steps.proofs.declare.Reads as reads
 use Rattle.declare_steps.proofs.declare.Lts as lts
-use Rattle.declare_steps.proofs.declare_bare.Reads as declare-bare-reads
+use Rattle.inits.proofs.declare_bare.Reads as declare-bare-reads
 use Rattle.declare_steps.proofs.declare_ident.Reads as declare-ident-reads
-use Rattle.declare_steps.proofs.declare_value.Reads as declare-value-reads
-use Rattle.declare_steps.proofs.is_ident.Reads as is-ident-reads
-use Rattle.declare_steps.proofs.no_value.Reads as no-value-reads
+use Rattle.inits.proofs.declare_value.Reads as declare-value-reads
+use Rattle.inits.proofs.is_ident.Reads as is-ident-reads
+use Rattle.inits.proofs.no_value.Reads as no-value-reads
 
 no-value-requires : tie.Need-no-value-requires
 no-value-requires c κs = search needs

@@ -3,11 +3,11 @@ use mathlib.Core.Path.{_≡_, sym, _∙_}
 use Prim.Native.Nat.{_-_}
 use native.Mathlib.Omega.{arith}
 use borrow.Author.Tests.{eqb-true}
-use Rattle.declare_steps.proofs.Init as init
+use Rattle.inits.proofs.Init as init
 use Rattle.words.specs.Layout.{tree}
 use Rattle.nodes.specs.Nodes.{treeFrom}
 use Rattle.tree.specs.Tree.{kind, count}
-use Rattle.bindings.specs.Kinds.{typeOf, aliasOf}
+use Rattle.declares.specs.Kinds.{typeOf, aliasOf}
 use Rattle.nodes.proofs.Splice.{subtree-one}
 use mathlib.Core.Logic.{inr}
 use borrow.Author.Needs.{needs}
@@ -15,10 +15,10 @@ use Rattle.declare_steps.proofs.declare_ident.Statement.{statement}
 use Rattle.declare_steps.proofs.declare_ident.Tie as tie
 use Rattle.declare_steps.proofs.declare_ident.Reads as reads
 use Rattle.declare_steps.proofs.declare_ident.Lts as lts
-use Rattle.bindings.proofs.declare_with.Reads as declare-with-reads
+use Rattle.declares.proofs.declare_with.Reads as declare-with-reads
 use Rattle.declare_steps.proofs.alias_for.Reads as alias-for-reads
-use Rattle.declare_steps.proofs.barred_for.Reads as barred-for-reads
-use Rattle.declare_steps.proofs.prevented_at.Reads as prevented-at-reads
+use Rattle.inits.proofs.barred_for.Reads as barred-for-reads
+use Rattle.inits.proofs.prevented_at.Reads as prevented-at-reads
 use Rattle.look.proofs.ident_at.Reads as ident-at-reads
 use Rattle.look.proofs.in_loop.Reads as in-loop-reads
 use Rattle.nodes.proofs.skip.Reads as skip-reads

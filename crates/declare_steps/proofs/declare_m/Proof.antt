@@ -5,8 +5,8 @@ use Rattle.words.specs.Layout.{tree}
 use Rattle.nodes.specs.Nodes.{treeFrom}
 use Rattle.state.specs.State.{rest}
 use Rattle.definition.specs.Scope.{declare}
-use Rattle.bindings.specs.Kinds.{typeOf}
-use Rattle.declare_steps.specs.Steps.{initFrom}
+use Rattle.declares.specs.Kinds.{typeOf}
+use Rattle.inits.specs.Inits.{initFrom}
 use borrow.Author.Needs.{needs}
 use Rattle.declare_steps.proofs.declare_m.Statement.{statement}
 use Rattle.declare_steps.proofs.declare_m.Tie as tie

@@ -1,7 +1,7 @@
 -- By whether there is an initialiser. Assumes nothing.
 use mathlib.Core.Path.{ap}
 use Prim.Native.Nat.{ℕ}
-use Rattle.bindings.specs.Kinds.{typeOf}
+use Rattle.declares.specs.Kinds.{typeOf}
 use Rattle.declare_steps.specs.Steps.{named}
 use Rattle.declare_steps.proofs.Ends as ends
 use Rattle.state.specs.State.{abs}

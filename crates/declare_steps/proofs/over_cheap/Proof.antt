@@ -1,7 +1,7 @@
 -- Declared, and then marked if its value is prevented. Assumes nothing.
 use mathlib.Core.Path.{sym, ap, _∙_}
 use mathlib.Core.List.{List}
-use Rattle.declare_steps.proofs.Init as init
+use Rattle.inits.proofs.Init as init
 use Rattle.declare_steps.proofs.Acts as acts
 use Rattle.declare_steps.proofs.Parts as parts
 use Rattle.scopes.specs.State.{stack}
@@ -11,7 +11,7 @@ use Rattle.tree.specs.Tree.{Tree}
 use Rattle.state.specs.State.{rest}
 use Rattle.definition.specs.Walk.{when, mark}
 use Rattle.definition.specs.Scope.{isInlinePrevented, preventInline}
-use Rattle.bindings.specs.Kinds.{typeOf}
+use Rattle.declares.specs.Kinds.{typeOf}
 use Rattle.definition.specs.Walk.{St}
 use Rattle.tree.specs.Combine.{Nothing}
 use Rattle.tree.specs.Tree.{Core}

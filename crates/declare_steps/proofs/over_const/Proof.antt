@@ -5,7 +5,7 @@ use mathlib.Core.Option.{none, some}
 use Prim.Native.Nat.{_-_}
 use native.Mathlib.Omega.{arith}
 use lib.ListN.{getD}
-use Rattle.declare_steps.proofs.Init as init
+use Rattle.inits.proofs.Init as init
 use Rattle.declare_steps.proofs.Acts as acts
 use Rattle.declare_steps.proofs.Parts as parts
 use Rattle.words.specs.Layout.{tree}
@@ -24,7 +24,7 @@ use Rattle.declare_steps.proofs.over_const.Reads as reads
 use Rattle.declare_steps.proofs.over_const.Lts as lts
 use Rattle.declare_steps.proofs.is_cheap.Reads as is-cheap-reads
 use Rattle.nodes.proofs.skip.Reads as skip-reads
-use Rattle.records.proofs.add_const.Reads as add-const-reads
+use Rattle.constants.proofs.add_const.Reads as add-const-reads
 
 slice-read-if1 : tie.Need-slice-read-if1
 slice-read-if1 c = search needs

@@ -2,12 +2,12 @@
 use mathlib.Core.Path.{sym, ap, _∙_}
 use native.Mathlib.Omega.{arith}
 use lib.ListN.{getD}
-use Rattle.declare_steps.proofs.Init as init
+use Rattle.declare_steps.proofs.Init as codes
 use Rattle.declare_steps.proofs.Acts as acts
 use Rattle.declare_steps.proofs.Parts as parts
 use Rattle.state.specs.State.{rest}
 use Rattle.definition.specs.Scope.{isConst}
-use Rattle.bindings.specs.Kinds.{typeOf}
+use Rattle.declares.specs.Kinds.{typeOf}
 use borrow.Author.Needs.{needs}
 use Rattle.declare_steps.proofs.over_none.Statement.{statement}
 use Rattle.declare_steps.proofs.over_none.Tie as tie
@@ -22,7 +22,7 @@ slice-read-k c = search needs
 returns : tie.Need-returns
 returns c =
     let at-entry = c .before .before .before in
-    acts.moves-by (parts.none-const (at-entry .args .x) (rest (at-entry .args .w .now)) (ap isConst (parts.rest-kind (at-entry .args .w .now)) ∙ init.const-yes (getD (at-entry .args .w .now) 8 0) (omega (arith, c .if1)))) (acts.moves-self (at-entry .pre) tt)
+    acts.moves-by (parts.none-const (at-entry .args .x) (rest (at-entry .args .w .now)) (ap isConst (parts.rest-kind (at-entry .args .w .now)) ∙ codes.const-yes (getD (at-entry .args .w .now) 8 0) (omega (arith, c .if1)))) (acts.moves-self (at-entry .pre) tt)
 
 type-of-requires : tie.Need-type-of-requires
 type-of-requires c κs = search needs
@@ -39,7 +39,7 @@ returns-2 c =
     let at-type-of = at-declare-m .before .before in
     let at-if1 = at-type-of .before in
     let at-entry = at-if1 .before .before .before in
-    acts.moves-by (parts.none-declared (at-entry .args .x) (rest (at-entry .args .w .now)) (typeOf (at-type-of .type-of .result)) (at-type-of .type-of .ensures ∙ sym (parts.rest-kind (at-entry .args .w .now))) (ap isConst (parts.rest-kind (at-entry .args .w .now)) ∙ init.const-no (getD (at-entry .args .w .now) 8 0) (omega (arith, at-if1 .if1)))) (at-declare-m .declare-m .ensures)
+    acts.moves-by (parts.none-declared (at-entry .args .x) (rest (at-entry .args .w .now)) (typeOf (at-type-of .type-of .result)) (at-type-of .type-of .ensures ∙ sym (parts.rest-kind (at-entry .args .w .now))) (ap isConst (parts.rest-kind (at-entry .args .w .now)) ∙ codes.const-no (getD (at-entry .args .w .now) 8 0) (omega (arith, at-if1 .if1)))) (at-declare-m .declare-m .ensures)
 
 pub over-none-spec : {M : Type 1} → statement M
 over-none-spec =

@@ -8,7 +8,7 @@ use Rattle.nodes.specs.Nodes.{treeFrom}
 use Rattle.state.specs.State.{rest}
 use Rattle.definition.specs.Walk.{when, mark}
 use Rattle.definition.specs.Scope.{preventInline}
-use Rattle.bindings.specs.Kinds.{typeOf}
+use Rattle.declares.specs.Kinds.{typeOf}
 use Rattle.tree.specs.Combine.{ret}
 use Rattle.tree.specs.Combine.{Nothing}
 use Rattle.definition.specs.Tree.{hasThis}

@@ -3,7 +3,7 @@ use mathlib.Core.Path.{sym, ap, _∙_}
 use mathlib.Core.Bool.{not}
 use mathlib.Core.Option.{some}
 use native.Mathlib.Omega.{arith}
-use Rattle.declare_steps.proofs.Init as init
+use Rattle.inits.proofs.Init as init
 use Rattle.declare_steps.proofs.Parts as parts
 use Rattle.scopes.specs.State.{stack}
 use Rattle.words.specs.Layout.{tree}

@@ -5,13 +5,13 @@ use Rattle.declare_steps.proofs.Parts as parts
 use Rattle.words.specs.Layout.{tree}
 use Rattle.nodes.specs.Nodes.{treeFrom}
 use Rattle.state.specs.State.{rest}
-use Rattle.bindings.specs.Kinds.{typeOf}
+use Rattle.declares.specs.Kinds.{typeOf}
 use Rattle.declare_steps.proofs.take_ident.Statement.{statement}
 use Rattle.declare_steps.proofs.take_ident.Tie as tie
 use Rattle.declare_steps.proofs.take_ident.Reads as reads
 use Rattle.declare_steps.proofs.take_ident.Lts as lts
 use Rattle.declare_steps.proofs.declare_m.Reads as declare-m-reads
-use Rattle.declare_steps.proofs.is_ident.Reads as is-ident-reads
+use Rattle.inits.proofs.is_ident.Reads as is-ident-reads
 
 is-ident-requires : tie.Need-is-ident-requires
 is-ident-requires c κs =

@@ -5,7 +5,7 @@ use Rattle.declare_steps.proofs.Parts as parts
 use Rattle.words.specs.Layout.{tree}
 use Rattle.nodes.specs.Nodes.{treeFrom}
 use Rattle.state.specs.State.{rest}
-use Rattle.bindings.specs.Kinds.{typeOf}
+use Rattle.declares.specs.Kinds.{typeOf}
 use Rattle.tree.specs.Combine.{Nothing}
 use Rattle.declare_steps.specs.Steps.{takeOrMark}
 use borrow.Author.Needs.{needs}

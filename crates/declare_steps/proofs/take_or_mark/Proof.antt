@@ -1,7 +1,7 @@
 -- Marked if the initialiser is prevented. Assumes nothing.
 use mathlib.Core.Path.{sym, ap, _∙_}
 use mathlib.Core.Bool.{false}
-use Rattle.declare_steps.proofs.Init as init
+use Rattle.inits.proofs.Init as init
 use Rattle.declare_steps.proofs.Acts as acts
 use Rattle.declare_steps.proofs.Parts as parts
 use Rattle.scopes.specs.State.{stack}
@@ -10,7 +10,7 @@ use Rattle.nodes.specs.Nodes.{treeFrom}
 use Rattle.tree.specs.Tree.{Tree}
 use Rattle.state.specs.State.{rest}
 use Rattle.definition.specs.Scope.{isInlinePrevented}
-use Rattle.bindings.specs.Kinds.{typeOf}
+use Rattle.declares.specs.Kinds.{typeOf}
 use Rattle.tree.specs.Combine.{ret}
 use Rattle.definition.specs.Scope.{Stack}
 use Rattle.declare_steps.proofs.take_or_mark.Statement.{statement}

@@ -1,6 +1,6 @@
 -- The words 0, 1 and 2 are told apart, and the rest is `const`. Assumes nothing.
 use mathlib.Core.Path.{sym}
-use Rattle.declare_steps.proofs.Init as init
+use Rattle.declare_steps.proofs.Init as codes
 use borrow.Author.Needs.{needs}
 use Rattle.declare_steps.proofs.type_of.Statement.{statement}
 use Rattle.declare_steps.proofs.type_of.Tie as tie
@@ -21,7 +21,7 @@ returns-4 c =
     let at-if2 = c .before in
     let at-if1 = at-if2 .before in
     let at-entry = at-if1 .before in
-    sym (init.const-code (at-entry .args .code) (at-if1 .if1 .left) (at-if2 .if2 .left) (c .if3 .left))
+    sym (codes.const-code (at-entry .args .code) (at-if1 .if1 .left) (at-if2 .if2 .left) (c .if3 .left))
 
 pub type-of-spec : {M : Type 1} → statement M
 type-of-spec = tie.close (tie.spec returns returns-2 returns-3 returns-4)

@@ -6,13 +6,13 @@ use Rattle.state.specs.State.{rest}
 use Rattle.definition.specs.Scope.{isVar}
 use Rattle.scopes.specs.State.{varTypeOf}
 use Rattle.look.proofs.Facts.{var-no, flag}
-use Rattle.declare_steps.specs.Steps.{hasNone}
+use Rattle.inits.specs.Inits.{hasNone}
 use borrow.Author.Needs.{needs}
 use Rattle.declare_steps.proofs.undefined_now.Statement.{statement}
 use Rattle.declare_steps.proofs.undefined_now.Tie as tie
 use Rattle.declare_steps.proofs.undefined_now.Reads as reads
 use Rattle.declare_steps.proofs.undefined_now.Lts as lts
-use Rattle.declare_steps.proofs.no_value.Reads as no-value-reads
+use Rattle.inits.proofs.no_value.Reads as no-value-reads
 
 shared-slice-read-if1 : tie.Need-shared-slice-read-if1
 shared-slice-read-if1 c = search needs

@@ -9,11 +9,6 @@ use Rattle.walk_laws.proofs.Codes as codes
 use borrow.Author.Needs.{needs}
 use Rattle.walk.proofs.pats.Statement.{statement}
 use Rattle.walk.proofs.pats.Tie as tie
-use Rattle.walk.proofs.pats.Reads as reads
-use Rattle.walk.proofs.pats.Lts as lts
-use Rattle.nodes.proofs.skip.Reads as skip-reads
-use Rattle.walk_steps.proofs.answer.refused.Reads as refused-reads
-use Rattle.write_steps.proofs.declared.pat_step.Reads as pat-step-reads
 
 pat-step-requires : tie.Need-pat-step-requires
 pat-step-requires c κs = heres.at-skip (c .before .before .pre)

@@ -5,10 +5,6 @@ use Rattle.walk_laws.proofs.Heres as heres
 use Rattle.walk_laws.proofs.Ways as ways
 use Rattle.walk.proofs.program.Statement.{statement}
 use Rattle.walk.proofs.program.Tie as tie
-use Rattle.walk.proofs.program.Reads as reads
-use Rattle.walk.proofs.program.Lts as lts
-use Rattle.walk.proofs.own.Reads as own-reads
-use Rattle.walk_steps.proofs.answer.next.Reads as next-reads
 
 own-requires : tie.Need-own-requires
 own-requires c κs = heres.here-root (c .before .before .pre)

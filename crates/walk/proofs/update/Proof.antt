@@ -11,11 +11,6 @@ use Rattle.walk_laws.proofs.Codes as codes
 use borrow.Author.Needs.{needs}
 use Rattle.walk.proofs.update.Statement.{statement}
 use Rattle.walk.proofs.update.Tie as tie
-use Rattle.walk.proofs.update.Reads as reads
-use Rattle.walk.proofs.update.Lts as lts
-use Rattle.nodes.proofs.skip.Reads as skip-reads
-use Rattle.walk_steps.proofs.answer.refused.Reads as refused-reads
-use Rattle.write_steps.proofs.write_kids.Reads as write-kids-reads
 
 write-kids-requires : tie.Need-write-kids-requires
 write-kids-requires c κs = heres.at-skip (c .before .before .pre)

@@ -12,8 +12,8 @@ use Rattle.treefile.proofs.idents.same_id.Statement.{statement}
 use Rattle.treefile.proofs.idents.same_id.Tie as tie
 use Rattle.treefile.proofs.idents.same_id.Reads as reads
 use Rattle.treefile.proofs.idents.same_id.Lts as lts
-use Rattle.treefile.proofs.fields.u32_at.Reads as u32-at-reads
-use Rattle.treefile.proofs.fields.u64_at.Reads as u64-at-reads
+use Rattle.parts.proofs.fields.u32_at.Reads as u32-at-reads
+use Rattle.parts.proofs.fields.u64_at.Reads as u64-at-reads
 
 add-u32-at : tie.Need-add-u32-at
 add-u32-at c = search needs

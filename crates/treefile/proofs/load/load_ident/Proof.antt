@@ -8,10 +8,10 @@ use Rattle.format.specs.declared.Raw.{Raw}
 use Rattle.format.specs.Script.{zeroNode, hasId, isLit}
 use Rattle.format.specs.Read.{rawOf, nodesFrom}
 use Rattle.treefile.specs.Load.{scriptOf}
-use Rattle.treefile.proofs.Raws.{nodes-length, node-raw}
+use Rattle.parts.proofs.Raws.{nodes-length, node-raw}
 use Rattle.treefile.proofs.Cores.{node-sound, loaded-more, core-id, kept-by, kept-then, id-text, over, number-final}
-use Rattle.treefile.proofs.Fill.{is-T}
-use Rattle.treefile.proofs.Strings.{count-texts, text-is}
+use Rattle.parts.proofs.Tests.{is-T}
+use Rattle.parts.proofs.Strings.{count-texts, text-is}
 use mathlib.Core.Bool.{true, false}
 use Rattle.words.specs.Layout.{tree}
 use Rattle.words.proofs.Nodes.{tree-same}
@@ -20,19 +20,19 @@ use Rattle.treefile.proofs.Cores.{kept-mid}
 use Rattle.format.specs.Script.{enter as enterR, placeOf, sameText, arguments}
 use mathlib.Core.List.{List}
 use Rattle.tree.specs.Base.{toNat}
-use Rattle.treefile.specs.Text.{textIn}
+use Rattle.parts.specs.Text.{textIn}
 use Rattle.treefile.proofs.Cores.{core-ident, flag-small}
 use borrow.Author.Needs.{needs}
 use Rattle.treefile.proofs.load.load_ident.Statement.{statement}
 use Rattle.treefile.proofs.load.load_ident.Tie as tie
 use Rattle.treefile.proofs.load.load_ident.Reads as reads
 use Rattle.treefile.proofs.load.load_ident.Lts as lts
-use Rattle.treefile.proofs.fields.raw_at.Reads as raw-at-reads
+use Rattle.parts.proofs.fields.raw_at.Reads as raw-at-reads
 use Rattle.treefile.proofs.idents.enter.Reads as enter-reads
 use Rattle.treefile.proofs.load.flag.Reads as flag-reads
 use Rattle.treefile.proofs.load.put_node.Reads as put-node-reads
-use Rattle.treefile.proofs.texts.same_text.Reads as same-text-reads
-use Rattle.treefile.proofs.texts.text.Reads as text-reads
+use Rattle.parts.proofs.texts.same_text.Reads as same-text-reads
+use Rattle.parts.proofs.texts.text.Reads as text-reads
 
 mul-raw-at : tie.Need-mul-raw-at
 mul-raw-at c =

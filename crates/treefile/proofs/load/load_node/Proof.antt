@@ -8,9 +8,9 @@ use Rattle.format.specs.declared.Raw.{Raw}
 use Rattle.format.specs.Script.{zeroNode, hasId, isLit}
 use Rattle.format.specs.Read.{rawOf, nodesFrom}
 use Rattle.treefile.specs.Load.{scriptOf}
-use Rattle.treefile.proofs.Raws.{nodes-length, node-raw}
+use Rattle.parts.proofs.Raws.{nodes-length, node-raw}
 use Rattle.treefile.proofs.Cores.{node-sound, loaded-more, core-lit, core-plain, enter-none, kept-by}
-use Rattle.treefile.proofs.Fill.{is-T}
+use Rattle.parts.proofs.Tests.{is-T}
 use mathlib.Core.Bool.{true, false}
 use Rattle.treefile.proofs.Cores.{lit-no-id}
 use borrow.Author.Needs.{needs}
@@ -18,7 +18,7 @@ use Rattle.treefile.proofs.load.load_node.Statement.{statement}
 use Rattle.treefile.proofs.load.load_node.Tie as tie
 use Rattle.treefile.proofs.load.load_node.Reads as reads
 use Rattle.treefile.proofs.load.load_node.Lts as lts
-use Rattle.treefile.proofs.fields.raw_at.Reads as raw-at-reads
+use Rattle.parts.proofs.fields.raw_at.Reads as raw-at-reads
 use Rattle.treefile.proofs.load.load_ident.Reads as load-ident-reads
 use Rattle.treefile.proofs.load.put_node.Reads as put-node-reads
 

@@ -10,9 +10,9 @@ use Rattle.treefile.proofs.read.check.Tie as tie
 use Rattle.treefile.proofs.read.check.Reads as reads
 use Rattle.treefile.proofs.read.check.Lts as lts
 use Rattle.treefile.proofs.header.read_header.Reads as read-header-reads
-use Rattle.treefile.proofs.nodes.nodes_ok.Reads as nodes-ok-reads
-use Rattle.treefile.proofs.texts.distinct_ok.Reads as distinct-ok-reads
-use Rattle.treefile.proofs.texts.rising_ok.Reads as rising-ok-reads
+use Rattle.preorder.proofs.nodes_ok.Reads as nodes-ok-reads
+use Rattle.parts.proofs.texts.distinct_ok.Reads as distinct-ok-reads
+use Rattle.parts.proofs.texts.rising_ok.Reads as rising-ok-reads
 
 read-header-requires : tie.Need-read-header-requires
 read-header-requires c κs = search needs

@@ -4,9 +4,6 @@ use Rattle.walk_laws.proofs.Codes as codes
 use borrow.Author.Needs.{needs}
 use Rattle.walk_steps.proofs.answer.coded.Statement.{statement}
 use Rattle.walk_steps.proofs.answer.coded.Tie as tie
-use Rattle.walk_steps.proofs.answer.coded.Reads as reads
-use Rattle.walk_steps.proofs.answer.coded.Lts as lts
-use Rattle.walk_steps.proofs.answer.refused.Reads as refused-reads
 
 enum-known-n : tie.Need-enum-known-n
 enum-known-n c = search needs

@@ -4,8 +4,6 @@ use Rattle.walk_laws.proofs.Codes as codes
 use borrow.Author.Needs.{needs}
 use Rattle.walk_steps.proofs.answer.next.Statement.{statement}
 use Rattle.walk_steps.proofs.answer.next.Tie as tie
-use Rattle.walk_steps.proofs.answer.next.Reads as reads
-use Rattle.walk_steps.proofs.answer.next.Lts as lts
 
 returns : tie.Need-returns
 returns c = (sym (codes.at-low _ (c .if1 .taken)), c .if1 .taken)

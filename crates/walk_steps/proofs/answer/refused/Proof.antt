@@ -4,8 +4,6 @@ use Rattle.walk_laws.proofs.Codes as codes
 use borrow.Author.Needs.{needs}
 use Rattle.walk_steps.proofs.answer.refused.Statement.{statement}
 use Rattle.walk_steps.proofs.answer.refused.Tie as tie
-use Rattle.walk_steps.proofs.answer.refused.Reads as reads
-use Rattle.walk_steps.proofs.answer.refused.Lts as lts
 
 add-result : tie.Need-add-result
 add-result c = search needs

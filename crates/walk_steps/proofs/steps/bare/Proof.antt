@@ -4,10 +4,6 @@ use Rattle.walk_laws.proofs.Heres as heres
 use Rattle.walk_laws.proofs.Shorts as shorts
 use Rattle.walk_steps.proofs.steps.bare.Statement.{statement}
 use Rattle.walk_steps.proofs.steps.bare.Tie as tie
-use Rattle.walk_steps.proofs.steps.bare.Reads as reads
-use Rattle.walk_steps.proofs.steps.bare.Lts as lts
-use Rattle.words.proofs.arity_at.Reads as arity-at-reads
-use Rattle.words.proofs.kind_at.Reads as kind-at-reads
 
 arity-at-requires : tie.Need-arity-at-requires
 arity-at-requires c κs = heres.at-node (c .before .pre)

@@ -3,8 +3,6 @@ use mathlib.Core.Path.{sym, ap}
 use borrow.Author.Tests.{eq-eqb, ne-eqb}
 use Rattle.walk_steps.proofs.steps.decl_kind.Statement.{statement}
 use Rattle.walk_steps.proofs.steps.decl_kind.Tie as tie
-use Rattle.walk_steps.proofs.steps.decl_kind.Reads as reads
-use Rattle.walk_steps.proofs.steps.decl_kind.Lts as lts
 
 returns : tie.Need-returns
 returns c = rw (eq-eqb _ 0 (c .if1 .taken))

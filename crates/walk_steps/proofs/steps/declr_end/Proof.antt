@@ -3,10 +3,6 @@ use borrow.Author.Needs.{needs}
 use Rattle.walk_laws.proofs.Declrs as declrs
 use Rattle.walk_steps.proofs.steps.declr_end.Statement.{statement}
 use Rattle.walk_steps.proofs.steps.declr_end.Tie as tie
-use Rattle.walk_steps.proofs.steps.declr_end.Reads as reads
-use Rattle.walk_steps.proofs.steps.declr_end.Lts as lts
-use Rattle.declare_steps.proofs.declr_after.Reads as declr-after-reads
-use Rattle.declare_steps.proofs.type_of.Reads as type-of-reads
 
 type-of-requires : tie.Need-type-of-requires
 type-of-requires c κs = search needs

@@ -3,9 +3,6 @@ use Rattle.walk_laws.proofs.Declrs as declrs
 use Rattle.walk_laws.proofs.Heres as heres
 use Rattle.walk_steps.proofs.steps.nameless.Statement.{statement}
 use Rattle.walk_steps.proofs.steps.nameless.Tie as tie
-use Rattle.walk_steps.proofs.steps.nameless.Reads as reads
-use Rattle.walk_steps.proofs.steps.nameless.Lts as lts
-use Rattle.words.proofs.kind_at.Reads as kind-at-reads
 
 returns : tie.Need-returns
 returns c = declrs.headed-none (c .before .before .pre) (c .if1 .taken)

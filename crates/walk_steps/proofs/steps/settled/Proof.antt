@@ -4,9 +4,6 @@ use Rattle.walk_laws.proofs.Heres as heres
 use Rattle.walk_laws.proofs.Shorts as shorts
 use Rattle.walk_steps.proofs.steps.settled.Statement.{statement}
 use Rattle.walk_steps.proofs.steps.settled.Tie as tie
-use Rattle.walk_steps.proofs.steps.settled.Reads as reads
-use Rattle.walk_steps.proofs.steps.settled.Lts as lts
-use Rattle.words.proofs.kind_at.Reads as kind-at-reads
 
 kind-at-requires : tie.Need-kind-at-requires
 kind-at-requires c κs = heres.at-node (c .before .pre)

@@ -1,7 +1,7 @@
 -- The node turned, the binding declared, the node turned back. Assumes nothing.
 use mathlib.Core.Logic.{inl}
 use native.Mathlib.Omega.{arith}
-use Rattle.bindings.specs.Kinds.{typeOf}
+use Rattle.declares.specs.Kinds.{typeOf}
 use Rattle.write_steps.proofs.Declares.{turned-in, bound-needs, bound-act}
 use borrow.Author.Needs.{needs}
 use Rattle.write_steps.proofs.declared.declare_bound.Statement.{statement}

@@ -1,0 +1,17 @@
+// What the C functions of the pass answer.
+
+// A refusal's number; or 0, the result's length, the runs done, and 1 if the last one left the mark.
+#[repr(C)]
+pub struct Inlined {
+    pub refused: u32,
+    pub length: usize,
+    pub runs: u32,
+    pub changed: u32,
+}
+
+// A refusal's number; or 0, and how many root bindings there are.
+#[repr(C)]
+pub struct Roots {
+    pub refused: u32,
+    pub count: usize,
+}

@@ -1,0 +1,3 @@
+pub mod Stress
+pub mod Refusals
+pub mod Traps

@@ -1,0 +1,47 @@
+-- declare without an init names no binding. Assumes nothing.
+use mathlib.Core.Path.{refl}
+use native.Mathlib.Omega.{arith}
+use Rattle.inits.proofs.Init as init
+use Rattle.scopes.specs.State.{stack}
+use Rattle.declares.specs.Kinds.{typeOf}
+use borrow.Author.Needs.{needs}
+use Rattle.inits.proofs.declare_bare.Statement.{statement}
+use Rattle.inits.proofs.declare_bare.Tie as tie
+use Rattle.inits.proofs.declare_bare.Reads as reads
+use Rattle.inits.proofs.declare_bare.Lts as lts
+use Rattle.declares.proofs.declare_with.Reads as declare-with-reads
+use Rattle.look.proofs.in_loop.Reads as in-loop-reads
+use Rattle.look.proofs.should_prevent_inline_because_of_scope.Reads as should-prevent-inline-because-of-scope-reads
+
+should-prevent-inline-because-of-scope-requires :
+    tie.Need-should-prevent-inline-because-of-scope-requires
+should-prevent-inline-because-of-scope-requires c κs = search needs
+
+in-loop-requires : tie.Need-in-loop-requires
+in-loop-requires c κs = search needs
+
+declare-with-requires : tie.Need-declare-with-requires
+declare-with-requires c κs =
+    let at-entry = c .before .before .before .before .before .before in
+    (at-entry .pre .good, omega arith, init.none-one (at-entry .args .w .now), refl)
+
+same-length : tie.Need-same-length
+same-length c = search needs
+
+returns : tie.Need-returns
+returns c =
+    let at-declare-with = c .before .before in
+    let at-in-loop = at-declare-with .before .before in
+    let at-should-prevent-inline-because-of-scope = at-in-loop .before .before in
+    let at-entry = at-should-prevent-inline-because-of-scope .before .before .before in
+    rw (init.bare-is (at-entry .args .x) (at-entry .args .undefined) (typeOf (at-entry .args .kind)) (stack (at-entry .args .w .now)) (at-should-prevent-inline-because-of-scope .should-prevent-inline-because-of-scope .result) (at-in-loop .in-loop .result) (at-should-prevent-inline-because-of-scope .should-prevent-inline-because-of-scope .ensures) (at-in-loop .in-loop .ensures)) at (at-declare-with .declare-with .ensures)
+
+pub declare-bare-spec : {M : Type 1} → statement M
+declare-bare-spec =
+    tie.close
+    (tie.spec
+    should-prevent-inline-because-of-scope-requires
+    in-loop-requires
+    declare-with-requires
+    same-length
+    returns)

@@ -1,0 +1,22 @@
+-- A tree's kind is that of its first node. Assumes nothing.
+use mathlib.Core.Path.{sym, ap, _∙_}
+use Prim.Native.Nat.{ℕ}
+use lib.Dec.{eqb}
+use Rattle.inits.proofs.Init as init
+use borrow.Author.Needs.{needs}
+use Rattle.inits.proofs.is_ident.Statement.{statement}
+use Rattle.inits.proofs.is_ident.Tie as tie
+use Rattle.inits.proofs.is_ident.Reads as reads
+use Rattle.inits.proofs.is_ident.Lts as lts
+use Rattle.words.proofs.kind_at.Reads as kind-at-reads
+
+kind-at-requires : tie.Need-kind-at-requires
+kind-at-requires c κs = search needs
+
+returns : tie.Need-returns
+returns c =
+    let at-entry = c .before .before in
+    ap (λ (n : ℕ). eqb n 21) (c .kind-at .ensures ∙ sym (init.from-kind (at-entry .args .w .now) (at-entry .args .i) (at-entry .pre .1)))
+
+pub is-ident-spec : {M : Type 1} → statement M
+is-ident-spec = tie.close (tie.spec kind-at-requires returns)

@@ -1,0 +1,165 @@
+// The init of a declaration over the working words: what bars it or prevents it, and a declaration with none or with a value.
+ghost use mathlib.Core.Path.{_≡_};
+ghost use mathlib.Core.Bool.{true, false, _||_, _&&_};
+ghost use Prim.Native.Nat.{_+_, _-_, _≤_, _<_};
+ghost use lib.ListN.{getD};
+ghost use Rattle.definition.specs.Tree.{isIdent};
+ghost use Rattle.definition.specs.Scope.{declare, noInit, isInlinePrevented, shouldPreventInlineBecauseOfScope};
+ghost use Rattle.words.specs.Layout.{tree};
+ghost use Rattle.scopes.specs.State.{Good, stack};
+ghost use Rattle.records.specs.Steps.{Grown};
+ghost use Rattle.declares.specs.Kinds.{typeOf, aliasOf};
+ghost use Rattle.nodes.specs.Nodes.{Planted, treeFrom};
+ghost use Rattle.inits.specs.Inits.{initFrom, Valued, hasNone, placeHere, barredHere, worksWith};
+use declares::Alias;
+use declares::Init;
+use declares::VarType;
+use declares::declare_with;
+use look::barred;
+use look::idx_val;
+use look::in_loop;
+use look::is_inline_prevented;
+use look::should_prevent_inline_because_of_scope;
+use nodes::skip;
+use records::Step;
+use words::kind_at;
+
+// Where x is among the bindings of the current scope, or would be.
+fn place_here(w: &[u32], x: u8) -> usize
+    requires { ⌜ Good (now w) ⌝ }
+    ensures { λ r. ⌜ (r ≡ placeHere x (stack (now (w .entry)))) × (r ≤ 256) ⌝ }
+{
+    let r = idx_val(w, x);
+    if 0 < r {
+        return r - 1;
+    }
+    let d = w[2] as usize;
+    if d == 0 {
+        return 0;
+    }
+    let a = w[7184 + (d - 1) * 4 + 1] as usize;
+    w[1] as usize - a
+}
+
+// Is there a barrier between x and the binding of y.
+fn barred_here(w: &[u32], x: u8, y: u8) -> bool
+    requires { ⌜ Good (now w) ⌝ }
+    ensures { λ r. ⌜ r ≡ barredHere x y (stack (now (w .entry))) ⌝ }
+{
+    let v = idx_val(w, y);
+    if v == 0 {
+        return false;
+    }
+    let idx = place_here(w, x);
+    barred(w, v - 1, idx)
+}
+
+// Neither of two types is a parameter's.
+fn works_with(kind: VarType, alias: Alias) -> bool
+    ensures { λ r. ⌜ r ≡ worksWith (typeOf kind) (aliasOf alias) ⌝ }
+{
+    match kind {
+        VarType::Param => false,
+        VarType::Declared(_) => match alias {
+            Alias::NoAlias => true,
+            Alias::AliasOf(t) => match t {
+                VarType::Param => false,
+                VarType::Declared(_) => true,
+            },
+        },
+    }
+}
+
+// Does a declaration of x as y mark both.
+pub fn barred_for(w: &[u32], x: u8, y: u8, kind: VarType, alias: Alias) -> bool
+    requires { ⌜ Good (now w) ⌝ }
+    ensures { λ r. ⌜ r ≡ (worksWith (typeOf kind) (aliasOf alias) && barredHere x y (stack (now (w .entry)))) ⌝ }
+{
+    if works_with(kind, alias) {
+        return barred_here(w, x, y);
+    }
+    false
+}
+
+// Is x prevented from the start, as the value of the tree at i.
+pub fn prevented_at(w: &[u32], x: u8, i: usize) -> bool
+    requires { ⌜ (Planted (now w)) × (i < getD (now w) 0 0) ⌝ }
+    ensures { λ r. ⌜ r ≡ (shouldPreventInlineBecauseOfScope x (stack (now (w .entry))) || isInlinePrevented (treeFrom (tree (now (w .entry))) i) (stack (now (w .entry)))) ⌝ }
+{
+    if should_prevent_inline_because_of_scope(w, x) {
+        return true;
+    }
+    is_inline_prevented(w, i)
+}
+
+// declare without an init.
+pub fn declare_bare(w: &mut [u32], x: u8, undefined: bool, kind: VarType) -> Step
+    requires { ⌜ Planted (now w) ⌝ }
+    ensures { λ r. ⌜ Grown (now (w .entry)) (now (w .exit)) (declare x noInit undefined (typeOf kind) (stack (now (w .entry)))) r ⌝ }
+{
+    let p = should_prevent_inline_because_of_scope(w, x);
+    let looped = in_loop(w);
+    declare_with(
+        w,
+        x,
+        Init::NoInit,
+        0,
+        0,
+        p,
+        undefined,
+        kind,
+        Alias::NoAlias,
+        looped,
+        false,
+        x,
+    )
+}
+
+// declare with the tree at i as its init, which is no identifier.
+pub fn declare_value(
+    w: &mut [u32],
+    x: u8,
+    v: Init,
+    i: usize,
+    undefined: bool,
+    kind: VarType,
+) -> Step
+    requires { ⌜ (Planted (now w)) × (i < getD (now w) 0 0) × (Valued v) × (isIdent (treeFrom (tree (now w)) i) ≡ false) ⌝ }
+    ensures { λ r. ⌜ Grown (now (w .entry)) (now (w .exit)) (declare x (initFrom v (treeFrom (tree (now (w .entry))) i)) undefined (typeOf kind) (stack (now (w .entry)))) r ⌝ }
+{
+    let m = skip(w, i) - i;
+    let p = prevented_at(w, x, i);
+    let looped = in_loop(w);
+    declare_with(
+        w,
+        x,
+        v,
+        i,
+        m,
+        p,
+        undefined,
+        kind,
+        Alias::NoAlias,
+        looped,
+        false,
+        x,
+    )
+}
+
+// Is the tree at i an identifier.
+pub fn is_ident(w: &[u32], i: usize) -> bool
+    requires { ⌜ (Planted (now w)) × (i < getD (now w) 0 0) ⌝ }
+    ensures { λ r. ⌜ r ≡ isIdent (treeFrom (tree (now (w .entry))) i) ⌝ }
+{
+    kind_at(w, i) == 21
+}
+
+pub fn no_value(v: Init) -> bool
+    ensures { λ r. ⌜ r ≡ hasNone v ⌝ }
+{
+    match v {
+        Init::NoInit => true,
+        Init::Recorded => false,
+        Init::Seen => false,
+    }
+}

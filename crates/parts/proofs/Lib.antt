@@ -1,0 +1,4 @@
+pub mod Numbers
+pub mod Raws
+pub mod Tests
+pub mod Strings

@@ -1,0 +1,84 @@
+// Bindings over the working words: the innermost scope's own, and one overwritten in place.
+ghost use mathlib.Core.Path.{_≡_};
+ghost use Prim.Native.Nat.{_+_, _*_, _-_, _≤_, _<_};
+ghost use lib.ListN.{getD, set};
+ghost use Rattle.definition.specs.Scope.{redeclare};
+ghost use Rattle.words.specs.Layout.{yes, Agree, run};
+ghost use Rattle.scopes.specs.State.{Good, binds, consts, bindAt, valueOf, runOf};
+ghost use Rattle.records.specs.Steps.{Listed, refill, Grown, putAt};
+ghost use Rattle.rewrites.specs.Own.{Own};
+use records::Step;
+use records::first_at;
+use records::passes;
+use records::set_run;
+use words::put5;
+
+// Overwrites the words of binding k but its name and its value.
+pub fn rewrite(
+    w: &mut [u32],
+    k: usize,
+    kind: u32,
+    alias: u32,
+    reads: u32,
+    prevented: u32,
+    undef: u32,
+    sensitive: u32,
+    hoisted: u32,
+)
+    requires { ⌜ (Good (now w)) × (k < getD (now w) 1 0) ⌝ }
+    ensures { λ _. ⌜ (Listed (now (w .entry)) (now (w .exit)) (set (binds (now (w .entry))) k (refill kind alias reads prevented undef sensitive hoisted (bindAt (now (w .entry)) k))) (consts (now (w .entry)))) × (Agree (4112 + k * 10 + 10) 6672 (now (w .entry)) (now (w .exit))) ⌝ }
+{
+    put5(w, 4112 + k * 10 + 1, kind, alias, reads, prevented, undef);
+    w[4112 + k * 10 + 6] = sensitive;
+    w[4112 + k * 10 + 7] = hoisted;
+}
+
+// The binding of x in the innermost scope, by its place among all; their count if there is none.
+pub fn own_binding(w: &[u32], x: u8) -> usize
+    requires { ⌜ (Good (now w)) × (0 < getD (now w) 2 0) ⌝ }
+    ensures { λ r. ⌜ Own (now (w .entry)) x r ⌝ }
+{
+    let d = w[2] as usize - 1;
+    let a = w[7184 + d * 4 + 1] as usize;
+    let n = w[1] as usize;
+    first_at(w, 4112, 10, a, n, x)
+}
+
+// Binding k is declared again, with its value as it is.
+fn remark(w: &mut [u32], k: usize, prevented: u32, undef: u32)
+    requires { ⌜ (Good (now w)) × (k < getD (now w) 1 0) ⌝ }
+    ensures { λ _. ⌜ Listed (now (w .entry)) (now (w .exit)) (set (binds (now (w .entry))) k (redeclare (yes prevented) (yes undef) (bindAt (now (w .entry)) k .value) (bindAt (now (w .entry)) k))) (consts (now (w .entry))) ⌝ }
+{
+    let p = 4112 + k * 10;
+    let kind = w[p + 1];
+    let alias = w[p + 2];
+    let sensitive = w[p + 6];
+    let hoisted = w[p + 7];
+    rewrite(w, k, kind, alias, 0, prevented, undef, sensitive, hoisted);
+}
+
+// Binding k is declared again, with the m nodes of the tree from node i on as its value, none if m is 0.
+pub fn redeclare_as(w: &mut [u32], k: usize, i: usize, m: usize, prevented: u32, undef: u32) -> Step
+    requires { ⌜ (Good (now w)) × (k < getD (now w) 1 0) × (i + m ≤ getD (now w) 0 0) × (runOf (valueOf (run (now w) 16 i m)) ≡ run (now w) 16 i m) ⌝ }
+    ensures { λ r. ⌜ Grown (now (w .entry)) (now (w .exit)) (putAt (now (w .entry)) k (redeclare (yes prevented) (yes undef) (valueOf (run (now (w .entry)) 16 i m)) (bindAt (now (w .entry)) k))) r ⌝ }
+{
+    let old = w[4112 + k * 10 + 8] as usize;
+    if passes(w, old, m, 0) {
+        return Step::Refused(9);
+    }
+    set_run(w, k, i, m);
+    remark(w, k, prevented, undef);
+    Step::Done
+}
+
+// Binding k is declared again, and keeps its value.
+pub fn redeclare_seen(w: &mut [u32], k: usize, prevented: u32, undef: u32) -> Step
+    requires { ⌜ (Good (now w)) × (k < getD (now w) 1 0) ⌝ }
+    ensures { λ r. ⌜ Grown (now (w .entry)) (now (w .exit)) (putAt (now (w .entry)) k (redeclare (yes prevented) (yes undef) (bindAt (now (w .entry)) k .value) (bindAt (now (w .entry)) k))) r ⌝ }
+{
+    if passes(w, 0, 0, 0) {
+        return Step::Refused(9);
+    }
+    remark(w, k, prevented, undef);
+    Step::Done
+}

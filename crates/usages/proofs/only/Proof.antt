@@ -1,0 +1,15 @@
+-- By the two flags. Assumes nothing.
+use Rattle.usages.proofs.Again as again
+use Rattle.usages.proofs.only.Statement.{statement}
+use Rattle.usages.proofs.only.Tie as tie
+use Rattle.usages.proofs.only.Reads as reads
+use Rattle.usages.proofs.only.Lts as lts
+
+returns : tie.Need-returns
+returns c = again.only-args (c .before .args .marked) (c .if1 .taken)
+
+returns-2 : tie.Need-returns-2
+returns-2 c = again.only-marked (c .before .args .marked) (c .if1 .left)
+
+pub only-spec : {M : Type 1} → statement M
+only-spec = tie.close (tie.spec returns returns-2)
