@@ -2,8 +2,6 @@
 use Rattle.usages.proofs.Again as again
 use Rattle.usages.proofs.far_or.Statement.{statement}
 use Rattle.usages.proofs.far_or.Tie as tie
-use Rattle.usages.proofs.far_or.Reads as reads
-use Rattle.usages.proofs.far_or.Lts as lts
 
 returns : tie.Need-returns
 returns c = again.far-marked (c .before .args .here) (c .before .args .force) (c .if1 .taken)

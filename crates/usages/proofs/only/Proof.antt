@@ -2,8 +2,6 @@
 use Rattle.usages.proofs.Again as again
 use Rattle.usages.proofs.only.Statement.{statement}
 use Rattle.usages.proofs.only.Tie as tie
-use Rattle.usages.proofs.only.Reads as reads
-use Rattle.usages.proofs.only.Lts as lts
 
 returns : tie.Need-returns
 returns c = again.only-args (c .before .args .marked) (c .if1 .taken)

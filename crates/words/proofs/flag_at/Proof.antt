@@ -4,8 +4,6 @@ use Rattle.words.specs.Flags.{flagAt}
 use borrow.Author.Needs.{needs}
 use Rattle.words.proofs.flag_at.Statement.{statement}
 use Rattle.words.proofs.flag_at.Tie as tie
-use Rattle.words.proofs.flag_at.Reads as reads
-use Rattle.words.proofs.flag_at.Lts as lts
 
 add-result : tie.Need-add-result
 add-result c = search needs

@@ -4,8 +4,6 @@ use Rattle.words.proofs.Flags as flags
 use borrow.Author.Needs.{needs}
 use Rattle.words.proofs.set_flag.Statement.{statement}
 use Rattle.words.proofs.set_flag.Tie as tie
-use Rattle.words.proofs.set_flag.Reads as reads
-use Rattle.words.proofs.set_flag.Lts as lts
 
 add-w : tie.Need-add-w
 add-w c = search needs

@@ -10,9 +10,6 @@ use Rattle.look.proofs.Out as out
 use borrow.Author.Needs.{needs}
 use Rattle.markers.proofs.mark.add_unresolved.Statement.{statement}
 use Rattle.markers.proofs.mark.add_unresolved.Tie as tie
-use Rattle.markers.proofs.mark.add_unresolved.Reads as reads
-use Rattle.markers.proofs.mark.add_unresolved.Lts as lts
-use Rattle.words.proofs.set_flag.Reads as set-flag-reads
 
 slice-read-d : tie.Need-slice-read-d
 slice-read-d c = search needs

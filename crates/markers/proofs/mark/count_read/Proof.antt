@@ -12,12 +12,6 @@ use Rattle.markers.proofs.Fields as fields
 use borrow.Author.Needs.{needs}
 use Rattle.markers.proofs.mark.count_read.Statement.{statement}
 use Rattle.markers.proofs.mark.count_read.Tie as tie
-use Rattle.markers.proofs.mark.count_read.Reads as reads
-use Rattle.markers.proofs.mark.count_read.Lts as lts
-use Rattle.markers.proofs.mark.add_unresolved.Reads as add-unresolved-reads
-use Rattle.markers.proofs.mark.either.Reads as either-reads
-use Rattle.markers.proofs.mark.one_more.Reads as one-more-reads
-use Rattle.scopes.proofs.find_binding.Reads as find-binding-reads
 
 find-binding-requires : tie.Need-find-binding-requires
 find-binding-requires c κs = search needs
