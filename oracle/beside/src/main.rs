@@ -8,11 +8,10 @@ mod port;
 
 use generator::{damage::damage, near::near_limit, pairs, random_script, rng::Rng};
 use negbosun::Inliner;
-use programs::shrink::{renamed, shrink};
+use programs::shrink::small_file;
 use std::sync::atomic::{AtomicU64, Ordering::Relaxed};
 use std::sync::Mutex;
-use tree_file::javascript::print;
-use tree_file::{on_deep_stack, read, to_hex, write, Answer, Script};
+use tree_file::{on_deep_stack, to_hex, write, Answer, Script};
 
 /// After so many differences there is nothing more to learn.
 const ENOUGH: u64 = 10;
@@ -84,15 +83,7 @@ fn agrees(inliner: &mut Inliner, file: &[u8], runs: u32) -> bool {
 /// The file made small, with both answers.
 fn report(inliner: &mut Inliner, file: &[u8], runs: u32) -> String {
     let differs = &mut |script: &Script| !agrees(inliner, &write(script), runs);
-    let (file, text) = match read(file) {
-        Ok(script) => {
-            let small = shrink(&script, differs);
-            let plain = renamed(&small);
-            let small = if differs(&plain) { plain } else { small };
-            (write(&small), print(&small))
-        }
-        Err(row) => (file.to_vec(), format!("a file of row {row}")),
-    };
+    let (file, text) = small_file(file, differs);
     let port = match port::answer(inliner, &file, runs) {
         Ok(answer) => answer.to_string(),
         Err(problem) => problem,

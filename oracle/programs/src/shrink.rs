@@ -1,6 +1,7 @@
 //! Makes a script smaller while something stays true of it.
 
 use std::collections::HashMap;
+use tree_file::javascript::print;
 use tree_file::{read, write, Script, Tree};
 
 /// The smallest script that single steps lead to.
@@ -10,6 +11,19 @@ pub fn shrink(script: &Script, holds: &mut dyn FnMut(&Script) -> bool) -> Script
         best = smaller;
     }
     best
+}
+
+/// A readable file made small while something stays true of its script, with the script's text; any other file as it is.
+pub fn small_file(file: &[u8], holds: &mut dyn FnMut(&Script) -> bool) -> (Vec<u8>, String) {
+    match read(file) {
+        Ok(script) => {
+            let small = shrink(&script, holds);
+            let plain = renamed(&small);
+            let small = if holds(&plain) { plain } else { small };
+            (write(&small), print(&small))
+        }
+        Err(row) => (file.to_vec(), format!("a file of row {row}")),
+    }
 }
 
 fn step(script: &Script, holds: &mut dyn FnMut(&Script) -> bool) -> Option<Script> {

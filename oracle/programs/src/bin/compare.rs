@@ -7,9 +7,8 @@
 use generator::{damage::damage, near::near_limit, random_script, rng::Rng};
 use original::answer;
 use programs::other::Other;
-use programs::shrink::{renamed, shrink};
-use tree_file::javascript::print;
-use tree_file::{on_deep_stack, read, to_hex, write, Script};
+use programs::shrink::small_file;
+use tree_file::{on_deep_stack, to_hex, write, Script};
 
 /// After so many differences there is nothing more to learn.
 const ENOUGH: u64 = 10;
@@ -46,15 +45,7 @@ fn agrees(other: &mut Other, file: &[u8], runs: u32) -> bool {
 
 fn report(other: &mut Other, file: &[u8], runs: u32) {
     let differs = &mut |script: &Script| !agrees(other, &write(script), runs);
-    let (file, text) = match read(file) {
-        Ok(script) => {
-            let small = shrink(&script, differs);
-            let plain = renamed(&small);
-            let small = if differs(&plain) { plain } else { small };
-            (write(&small), print(&small))
-        }
-        Err(row) => (file.to_vec(), format!("a file of row {row}")),
-    };
+    let (file, text) = small_file(file, differs);
     println!("{text}\n{} {runs}", to_hex(&file));
     println!("the original:\n{}", answer(&file, runs));
     println!("the other:\n{}", other.answer(&file, runs));
