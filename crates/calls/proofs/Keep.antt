@@ -3,55 +3,39 @@ use mathlib.Core.Path.{_≡_, refl, sym, ap, _∙_}
 use mathlib.Core.List.{List, [], _∷_, _++_}
 use mathlib.Core.Bool.{Bool}
 use mathlib.Core.Logic.{⊎-elim}
-use Prim.Native.Nat.{ℕ, zero, suc, _+_, _-_, _≤_, _<_}
+use Prim.Native.Nat.{ℕ, zero, suc, _+_, _≤_, _<_}
 use native.Mathlib.Omega.{arith}
 use lib.ListN.{length, getD}
-use Rattle.tree.specs.Tree.{Core, core, noCore, count}
+use Rattle.tree.specs.Tree.{Core, core, noCore}
 use Rattle.definition.specs.Scope.{Stack}
 use Rattle.words.specs.Tab.{tab, sum, below-or-not}
-use Rattle.words.specs.Layout.{run, tree}
+use Rattle.words.specs.Layout.{tree}
 use Rattle.words.specs.Moved.{Cleared}
 use Rattle.words.proofs.Nodes.{tree-length}
 use Rattle.scopes.specs.State.{Good, Becomes, Names, heads, headsAt}
-use Rattle.nodes.specs.Nodes.{treeFrom, Apart}
-use Rattle.nodes.proofs.Splice.{subtree-one}
+use Rattle.nodes.specs.Nodes.{Planted, Apart}
 use Rattle.records.specs.Steps as records
 use Rattle.records.specs.declared.Step as rstep
 use Rattle.records.specs.declared.Step.the-variants as rcase
 use Rattle.look.specs.Answers as answers
 use Rattle.look.specs.declared.Step as lstep
 use Rattle.look.specs.declared.Step.the-variants as lcase
-use Rattle.declares.specs.declared.Init.{Init}
-use Rattle.declares.specs.declared.Init.the-variants.{NoInit, Recorded, Seen}
-use Rattle.inits.specs.Inits.{Sited}
-use Rattle.calls.specs.Ready.{Ready, ValueAt, Begun}
+use Rattle.calls.specs.Begun.{Begun}
 
-pub keep : {w u : List ℕ} → Ready w → Good u → tree u ≡ tree w → Ready u
-keep {w} {u} r g e =
-    let n : getD u 0 0 ≡ getD w 0 0 = sym (tree-length u) ∙ ap (λ (t : List Core). length t) e ∙ tree-length w in
-    record { planted = record { good = g; one = rw (sym e) at (r .planted .one) }; nodes = rw (sym n) at (r .nodes) }
+pub keep : {w u : List ℕ} → Planted w → Good u → tree u ≡ tree w → Planted u
+keep {w} {u} r g e = record { good = g; one = rw (sym e) at (r .one) }
 
-pub became : {w u : List ℕ} {st : Stack} → Ready w → Becomes w u st → Ready u
+pub became : {w u : List ℕ} {st : Stack} → Planted w → Becomes w u st → Planted u
 became r b = keep r (b .good) (b .tree)
 
 -- a step keeps it, whether it is refused or not
-pub limited : (n : ℕ) (t : Bool) (w u : List ℕ) (st : Stack) (s : rstep.Step) → Ready w → records.Limited n t w u st s → Ready u
+pub limited : (n : ℕ) (t : Bool) (w u : List ℕ) (st : Stack) (s : rstep.Step) → Planted w → records.Limited n t w u st s → Planted u
 limited n t w u st rcase.Done r l = became r (l .0)
 limited n t w u st (rcase.Refused m) r l = keep r (l .2 .good) (l .2 .tree)
 
-pub stepped : (w u : List ℕ) (st : Stack) (s : lstep.Step) → Ready w → answers.Stepped w u st s → Ready u
+pub stepped : (w u : List ℕ) (st : Stack) (s : lstep.Step) → Planted w → answers.Stepped w u st s → Planted u
 stepped w u st lcase.Done r l = became r (l .0)
 stepped w u st (lcase.Refused m) r l = keep r (l .2 .good) (l .2 .tree)
-
--- the nodes of the tree at i
-pub value-at : {w : List ℕ} → Ready w → (i e : ℕ) → i < getD w 0 0 → e ≡ i + count (treeFrom (tree w) i) → e ≤ getD w 0 0 → ValueAt w i (e - i)
-value-at {w} r i e l p h =
-    let q : e - i ≡ count (treeFrom (tree w) i) = omega (arith, p) in
-    record { inside = omega (arith, p); one = rw q (subtree-one (r .planted) l) }
-
-pub no-value : (w : List ℕ) → ValueAt w 0 0
-unfolding run tab
-no-value w = record { inside = omega arith; one = refl }
 
 -- no scope and no node
 pub cleared : {w u : List ℕ} → 16384 ≤ length w → Cleared w u → Begun u []
@@ -118,17 +102,8 @@ small (suc (suc (suc (suc (suc (suc (suc (suc (suc zero))))))))) = omega arith
 small (suc (suc (suc (suc (suc (suc (suc (suc (suc (suc zero)))))))))) = omega arith
 small (suc (suc (suc (suc (suc (suc (suc (suc (suc (suc (suc j))))))))))) = omega arith
 
-pub begun-ready : {w : List ℕ} → Begun w planted → Ready w
-begun-ready {w} b = record {
-  planted = record { good = begun-good b (omega arith) (λ j z. omega (arith, small j)); one = rw (b .is) (record { is = refl }) };
-  nodes = rw (size b) (omega arith);
-}
-
--- an init with a node of the tree stands there
-pub sited : (v : Init) (i n : ℕ) → i < n → Sited v i n
-sited NoInit i n h = tt
-sited Recorded i n h = h
-sited Seen i n h = h
+pub begun-planted : {w : List ℕ} → Begun w planted → Planted w
+begun-planted {w} b = record { good = begun-good b (omega arith) (λ j z. omega (arith, small j)); one = rw (b .is) (record { is = refl }) }
 
 -- a byte that is not 0 stands within the slice
 pub inside : {n i r : ℕ} → (n ≤ i → r ≡ 0) → (r ≡ 0 → ⊥) → i < n

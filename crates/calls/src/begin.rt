@@ -4,7 +4,8 @@ ghost use mathlib.Core.List.{List, [], _∷_, _++_};
 ghost use Prim.Native.Nat.{ℕ, _≤_, _<_};
 ghost use lib.ListN.{length, getD};
 ghost use Rattle.tree.specs.Tree.{Core, core};
-ghost use Rattle.calls.specs.Ready.{Ready, Begun};
+ghost use Rattle.nodes.specs.Nodes.{Planted};
+ghost use Rattle.calls.specs.Begun.{Begun};
 use bindings::Scope;
 use bindings::ScopeKind;
 use bindings::open_scope;
@@ -22,7 +23,7 @@ fn grow(w: &mut [u32], kind: u32, arity: u32, num: u32)
 // An array of all values: identifiers 0 and 1, a literal, a member of 0, an array of a literal and 1, a call of 2.
 fn plant(w: &mut [u32])
     requires { ⌜ 16384 ≤ length (now w) ⌝ }
-    ensures { λ _. ⌜ Ready (now (w .exit)) ⌝ }
+    ensures { λ _. ⌜ Planted (now (w .exit)) ⌝ }
 {
     clear(w);
     grow(w, 27, 6, 0);
@@ -40,7 +41,7 @@ fn plant(w: &mut [u32])
 
 pub fn begin(w: &mut [u32])
     requires { ⌜ 16384 ≤ length (now w) ⌝ }
-    ensures { λ _. ⌜ Ready (now (w .exit)) ⌝ }
+    ensures { λ _. ⌜ Planted (now (w .exit)) ⌝ }
 {
     plant(w);
     let root = Scope::new(ScopeKind::DEFAULT);

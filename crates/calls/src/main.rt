@@ -3,7 +3,7 @@
 ghost use mathlib.Core.Path.{_≡_};
 ghost use Prim.Native.Nat.{_≤_, _<_};
 ghost use lib.ListN.{length};
-ghost use Rattle.calls.specs.Ready.{Ready};
+ghost use Rattle.nodes.specs.Nodes.{Planted};
 
 mod begin;
 mod show;
@@ -26,8 +26,8 @@ fn byte(s: &[u8], i: usize) -> u8
 
 // The call at a place, unless one was refused before; the number of the refusal.
 fn next(w: &mut [u32], s: &[u8], i: usize, no: u32) -> u32
-    requires { ⌜ (Ready (now w)) × (i < 65536) ⌝ }
-    ensures { λ _. ⌜ Ready (now (w .exit)) ⌝ }
+    requires { ⌜ (Planted (now w)) × (i < 65536) ⌝ }
+    ensures { λ _. ⌜ Planted (now (w .exit)) ⌝ }
 {
     if no != 0 {
         return no;

@@ -1,25 +1,25 @@
 // The scopes in the words printed, root first, and then what the look-ups answer.
 ghost use Prim.Native.Nat.{_≤_, _<_};
-ghost use Rattle.calls.specs.Ready.{Ready};
-use constants::find_constant;
-use look::Count;
+ghost use Rattle.nodes.specs.Nodes.{Planted};
 use look::bound_here;
-use look::find_binding_from_current;
-use look::has_same_this;
-use look::ident_prevented;
 use look::idx_val;
 use look::in_loop;
-use look::is_inline_prevented;
-use look::read_cnt;
-use look::read_prevents_inlining;
-use look::scope_for;
-use look::should_prevent_inline_because_of_scope;
-use look::var_inline_prevented;
-use look::write_prevents_inline;
 use records::Constant;
 use records::live;
 use records::recorded_nodes;
-use scopes::find_binding;
+use scope::Count;
+use scope::find_binding;
+use scope::find_binding_from_current;
+use scope::find_constant;
+use scope::has_same_this;
+use scope::ident_prevented;
+use scope::is_inline_prevented;
+use scope::read_cnt;
+use scope::read_prevents_inlining;
+use scope::scope_for;
+use scope::should_prevent_inline_because_of_scope;
+use scope::var_inline_prevented;
+use scope::write_prevents_inline;
 use std::num::wrapping_add_u32;
 
 fn letter(c: u8) {
@@ -164,7 +164,7 @@ fn show_scopes(w: &[u32]) {
 
 // What is asked of the innermost binding of x.
 fn show_found(w: &[u32], x: u8)
-    requires { ⌜ Ready (now w) ⌝ }
+    requires { ⌜ Planted (now w) ⌝ }
 {
     match read_cnt(w, x) {
         Count::Nothing => put(0),
@@ -173,9 +173,9 @@ fn show_found(w: &[u32], x: u8)
             put_word(n);
         }
     }
-    let k = find_binding(w, x);
-    if 0 < k {
-        put_bool(var_inline_prevented(w, k - 1));
+    let b = find_binding(w, x);
+    if 0 < b {
+        put_bool(var_inline_prevented(w, b));
     }
     put_bool(find_binding_from_current(w, x) != 0);
     put_size(idx_val(w, x));
@@ -184,9 +184,9 @@ fn show_found(w: &[u32], x: u8)
 
 // What is asked of the constants of x, and of its scope.
 fn show_scope_of(w: &[u32], x: u8)
-    requires { ⌜ Ready (now w) ⌝ }
+    requires { ⌜ Planted (now w) ⌝ }
 {
-    put_bool(look::has_constant(w, x));
+    put_bool(scope::has_constant(w, x));
     put_bool(constants::has_constant(w, x));
     match find_constant(w, x) {
         Constant::Unknown => put(0),
@@ -198,7 +198,7 @@ fn show_scope_of(w: &[u32], x: u8)
 }
 
 fn show_look(w: &[u32], x: u8)
-    requires { ⌜ Ready (now w) ⌝ }
+    requires { ⌜ Planted (now w) ⌝ }
 {
     letter(b'x');
     show_found(w, x);
@@ -211,7 +211,7 @@ fn show_look(w: &[u32], x: u8)
 }
 
 fn show_counts(w: &[u32])
-    requires { ⌜ Ready (now w) ⌝ }
+    requires { ⌜ Planted (now w) ⌝ }
 {
     letter(b'n');
     put_bool(in_loop(w));
@@ -226,7 +226,7 @@ fn show_counts(w: &[u32])
 }
 
 fn show_all(w: &[u32])
-    requires { ⌜ Ready (now w) ⌝ }
+    requires { ⌜ Planted (now w) ⌝ }
 {
     show_scopes(w);
     show_look(w, 0);
@@ -238,7 +238,7 @@ fn show_all(w: &[u32])
 
 // A line: the number of a refusal, or the scopes.
 pub fn show(w: &[u32], no: u32)
-    requires { ⌜ Ready (now w) ⌝ }
+    requires { ⌜ Planted (now w) ⌝ }
 {
     if no == 0 {
         io::write_all(1, b"scopes");

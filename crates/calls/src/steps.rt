@@ -1,28 +1,27 @@
 // The calls, by their numbers. Each answers the number of its refusal, 0 if it is done.
 ghost use Prim.Native.Nat.{_≤_, _<_};
-ghost use Rattle.calls.specs.Ready.{Ready};
-use super::values::any_value;
+ghost use Rattle.nodes.specs.Nodes.{Planted};
 use super::values::node_of;
-use super::values::some_value;
-use bindings::Scope;
-use bindings::ScopeKind;
-use bindings::close;
-use bindings::open_scope;
-use constants::add_const;
-use declare_steps::declare;
-use declares::Init;
-use declares::VarDeclKind;
-use declares::VarType;
+use super::values::value_of;
 use declares::define;
-use declares::first_value;
-use markers::mark::mark_this_sensitive;
-use markers::mark::prevent_inline_of_params;
-use markers::mark::store_inline_barrier;
 use records::Step;
-use records::record_value;
-use scopes::prevent_inline;
-use usages::add_read;
-use usages::add_write;
+use scope::Init;
+use scope::Scope;
+use scope::ScopeKind;
+use scope::VarDeclKind;
+use scope::VarType;
+use scope::add_const;
+use scope::add_read;
+use scope::add_write;
+use scope::close;
+use scope::declare;
+use scope::first_value;
+use scope::mark_this_sensitive;
+use scope::open_scope;
+use scope::prevent_inline;
+use scope::prevent_inline_of_params;
+use scope::record_value;
+use scope::store_inline_barrier;
 
 // The number of a step's refusal.
 fn number(s: Step) -> u32 {
@@ -61,8 +60,8 @@ fn var_kind(k: u32) -> VarType {
 
 // Opens a scope of kind m.
 fn opens(w: &mut [u32], m: u8) -> u32
-    requires { ⌜ Ready (now w) ⌝ }
-    ensures { λ _. ⌜ Ready (now (w .exit)) ⌝ }
+    requires { ⌜ Planted (now w) ⌝ }
+    ensures { λ _. ⌜ Planted (now (w .exit)) ⌝ }
 {
     let k = scope_kind(m);
     let s = Scope::new(k);
@@ -83,8 +82,8 @@ fn init_of(v: u8, m: u8) -> Init {
 
 // m: the type, and from bit 2 on whether it is undefined, and whether its value is only seen.
 fn declares(w: &mut [u32], x: u8, v: u8, m: u8) -> u32
-    requires { ⌜ Ready (now w) ⌝ }
-    ensures { λ _. ⌜ Ready (now (w .exit)) ⌝ }
+    requires { ⌜ Planted (now w) ⌝ }
+    ensures { λ _. ⌜ Planted (now (w .exit)) ⌝ }
 {
     let kind = var_kind((m % 4) as u32);
     let undefined = m / 4 % 2 == 1;
@@ -96,44 +95,44 @@ fn declares(w: &mut [u32], x: u8, v: u8, m: u8) -> u32
 
 // m: the name is `arguments`; the write is forced.
 fn write(w: &mut [u32], x: u8, m: u8) -> u32
-    requires { ⌜ Ready (now w) ⌝ }
-    ensures { λ _. ⌜ Ready (now (w .exit)) ⌝ }
+    requires { ⌜ Planted (now w) ⌝ }
+    ensures { λ _. ⌜ Planted (now (w .exit)) ⌝ }
 {
     let r = add_write(w, x, m % 2 == 1, m / 2 % 2 == 1);
     use_number(r)
 }
 
 fn record(w: &mut [u32], x: u8, v: u8) -> u32
-    requires { ⌜ Ready (now w) ⌝ }
-    ensures { λ _. ⌜ Ready (now (w .exit)) ⌝ }
+    requires { ⌜ Planted (now w) ⌝ }
+    ensures { λ _. ⌜ Planted (now (w .exit)) ⌝ }
 {
-    let e = any_value(w, v);
-    let r = record_value(w, x, e.at, e.len);
+    let e = value_of(v);
+    let r = record_value(w, x, e);
     number(r)
 }
 
 fn first(w: &mut [u32], x: u8, v: u8) -> u32
-    requires { ⌜ Ready (now w) ⌝ }
-    ensures { λ _. ⌜ Ready (now (w .exit)) ⌝ }
+    requires { ⌜ Planted (now w) ⌝ }
+    ensures { λ _. ⌜ Planted (now (w .exit)) ⌝ }
 {
-    let e = any_value(w, v);
-    let r = first_value(w, x, e.at, e.len);
+    let e = value_of(v);
+    let r = first_value(w, x, e);
     number(r)
 }
 
 fn constant(w: &mut [u32], x: u8, v: u8) -> u32
-    requires { ⌜ Ready (now w) ⌝ }
-    ensures { λ _. ⌜ Ready (now (w .exit)) ⌝ }
+    requires { ⌜ Planted (now w) ⌝ }
+    ensures { λ _. ⌜ Planted (now (w .exit)) ⌝ }
 {
-    let e = any_value(w, v);
-    let r = add_const(w, x, e.at, e.len);
+    let e = value_of(v);
+    let r = add_const(w, x, e);
     number(r)
 }
 
 // The calls that are never refused.
 fn mark(w: &mut [u32], c: u8, x: u8, m: u8)
-    requires { ⌜ Ready (now w) ⌝ }
-    ensures { λ _. ⌜ Ready (now (w .exit)) ⌝ }
+    requires { ⌜ Planted (now w) ⌝ }
+    ensures { λ _. ⌜ Planted (now (w .exit)) ⌝ }
 {
     if c == 7 {
         close(w);
@@ -154,8 +153,8 @@ fn mark(w: &mut [u32], c: u8, x: u8, m: u8)
 
 // Call c, with identifier x, value v and mark m.
 pub fn call(w: &mut [u32], c: u8, x: u8, v: u8, m: u8) -> u32
-    requires { ⌜ Ready (now w) ⌝ }
-    ensures { λ _. ⌜ Ready (now (w .exit)) ⌝ }
+    requires { ⌜ Planted (now w) ⌝ }
+    ensures { λ _. ⌜ Planted (now (w .exit)) ⌝ }
 {
     match c {
         1 => opens(w, m),

@@ -1,20 +1,8 @@
-// The tree that values are taken from: its nodes, and which of them a value of the script is.
-ghost use mathlib.Core.Path.{_≡_};
-ghost use Prim.Native.Nat.{_-_, _≤_, _<_};
-ghost use lib.ListN.{getD};
-ghost use Rattle.calls.specs.Ready.{Ready, ValueAt};
-use nodes::skip;
-
-// The nodes of a value: its first, and how many.
-pub struct Value {
-    pub at: usize,
-    pub len: usize,
-}
+// The values of a script: where each begins in the tree that they are taken from.
+use scope::Value;
 
 // The first node of value v: two identifiers, a literal, a member of an identifier, an array, a call, and the whole tree.
-pub fn node_of(v: u8) -> usize
-    ensures { λ r. ⌜ r < 11 ⌝ }
-{
+pub fn node_of(v: u8) -> usize {
     match v {
         1 => 1,
         2 => 2,
@@ -27,22 +15,9 @@ pub fn node_of(v: u8) -> usize
 }
 
 // Value v, none for 0.
-pub fn any_value(w: &[u32], v: u8) -> Value
-    requires { ⌜ Ready (now w) ⌝ }
-    ensures { λ r. ⌜ ValueAt (now (w .entry)) (r .at) (r .len) ⌝ }
-{
+pub fn value_of(v: u8) -> Value {
     if v == 0 {
-        return Value { at: 0, len: 0 };
+        return Value::Nothing;
     }
-    some_value(w, v)
-}
-
-// The same of a value that is not none.
-pub fn some_value(w: &[u32], v: u8) -> Value
-    requires { ⌜ Ready (now w) ⌝ }
-    ensures { λ r. ⌜ (ValueAt (now (w .entry)) (r .at) (r .len)) × (0 < r .len) ⌝ }
-{
-    let i = node_of(v);
-    let e = skip(w, i);
-    Value { at: i, len: e - i }
+    Value::At(node_of(v))
 }

@@ -16,24 +16,13 @@ use Rattle.words.specs.Layout.{tree}
 use Rattle.look.specs.Look.{idxHere, barsHere}
 use Rattle.nodes.specs.Nodes.{treeFrom}
 use Rattle.state.specs.State.{Ok}
-use Rattle.records.specs.declared.Step.{Step}
-use Rattle.records.specs.declared.Step.the-variants.{Done, Refused}
-use Rattle.declares.specs.declared.Init.{Init}
-use Rattle.declares.specs.declared.Init.the-variants.{NoInit, Recorded, Seen}
+pub use Rattle.scope.specs.Steps.{named, doneOf, Moves}
 use Rattle.declare_steps.specs.declared.Told.{Told}
 use Rattle.declare_steps.specs.declared.Told.the-variants.{Answer, Stopped}
 use Rattle.declare_steps.specs.declared.After.{After}
 use Rattle.declare_steps.specs.declared.After.the-variants.{At, Halted}
 
--- the name of a declarator: only its number is looked at
-abbrev pub named : ℕ → Tree
-named x = node 20 0 x nil
-
 -- answers
-abbrev pub doneOf : Step → St → Res St Nothing
-doneOf Done s = done s tt
-doneOf (Refused n) s = stop n
-
 abbrev pub toldOf : Told → St → Res St Bool
 toldOf (Answer b) s = done s b
 toldOf (Stopped n) s = stop n
@@ -41,12 +30,6 @@ toldOf (Stopped n) s = stop n
 abbrev pub afterOf : After → Flat St → Res (Flat St) ℕ
 afterOf (At j) s = done s j
 afterOf (Halted n) s = stop n
-
--- a step that leaves the nodes alone: m is what the definition does from the state of w, r the same by the step's answer
-pub record Moves {A : Type 0} (w u : List ℕ) (m r : Res St A) : Type 0 where
-  pub ok : Ok w u
-  pub nodes : tree u ≡ tree w
-  pub is : m ≡ r
 
 -- a step on the state of the walk on the list
 pub record Did {A : Type 0} (w u : List ℕ) (m r : Res (Flat St) A) : Type 0 where

@@ -18,33 +18,23 @@ ghost use Rattle.nodes.specs.Nodes.{Planted, Child, Replants, cutAt, treeFrom, 
 ghost use Rattle.state.specs.State.{rest, abs};
 ghost use Rattle.inits.specs.Inits.{initFrom, Sited, Valued, hasNone};
 ghost use Rattle.declare_steps.specs.Steps.{named, doneOf, toldOf, Moves, Did, afterOf, Spot, declrAfter, overNone, overConst, overCheap, overOther, wants, takeIdent, takeValue, takeOrMark, takeInit};
-use constants::add_const;
-use declares::Alias;
-use declares::Init;
-use declares::VarDeclKind;
-use declares::VarType;
-use declares::declare_with;
-use inits::barred_for;
-use inits::declare_bare;
-use inits::declare_value;
 use inits::is_ident;
-use inits::no_value;
-use inits::prevented_at;
-use look::Count;
-use look::barred;
-use look::find_binding_from_current;
-use look::has_same_this;
-use look::ident_at;
-use look::ident_prevented;
-use look::in_loop;
-use look::is_inline_prevented;
-use look::read_cnt;
-use look::var_type;
+use inits::type_of;
 use nodes::cut;
 use nodes::has_this;
 use nodes::skip;
 use records::Step;
-use scopes::prevent_inline;
+use scope::Count;
+use scope::Init;
+use scope::Value;
+use scope::VarType;
+use scope::add_const;
+use scope::declare_m;
+use scope::has_same_this;
+use scope::ident_prevented;
+use scope::is_inline_prevented;
+use scope::prevent_inline;
+use scope::read_cnt;
 use words::kind_at;
 
 // A step that also tells whether something holds.
@@ -59,49 +49,6 @@ pub enum After {
     Halted(u32),
 }
 
-// The type that a word stands for.
-pub fn type_of(code: u32) -> VarType
-    ensures { λ r. ⌜ typeOf r ≡ varTypeOf code ⌝ }
-{
-    if code == 0 {
-        return VarType::Param;
-    }
-    if code == 1 {
-        return VarType::Declared(VarDeclKind::Var);
-    }
-    if code == 2 {
-        return VarType::Declared(VarDeclKind::Let);
-    }
-    VarType::Declared(VarDeclKind::Const)
-}
-
-// The type of the binding of y in the current scope.
-fn alias_for(w: &[u32], y: u8) -> Alias
-    requires { ⌜ Good (now w) ⌝ }
-    ensures { λ r. ⌜ aliasOf r ≡ aliasFrom (idxHere y (stack (now (w .entry)))) ⌝ }
-{
-    let r = find_binding_from_current(w, y);
-    if r == 0 {
-        return Alias::NoAlias;
-    }
-    let t = var_type(w, r - 1);
-    Alias::AliasOf(type_of(t))
-}
-
-// declare with the identifier at i as its init.
-fn declare_ident(w: &mut [u32], x: u8, v: Init, i: usize, undefined: bool, kind: VarType) -> Step
-    requires { ⌜ (Planted (now w)) × (i < getD (now w) 0 0) × (Valued v) × (isIdent (treeFrom (tree (now w)) i) ≡ true) ⌝ }
-    ensures { λ r. ⌜ Grown (now (w .entry)) (now (w .exit)) (declare x (initFrom v (treeFrom (tree (now (w .entry))) i)) undefined (typeOf kind) (stack (now (w .entry)))) r ⌝ }
-{
-    let m = skip(w, i) - i;
-    let p = prevented_at(w, x, i);
-    let looped = in_loop(w);
-    let y = ident_at(w, i);
-    let alias = alias_for(w, y);
-    let barred = barred_for(w, x, y, kind, alias);
-    declare_with(w, x, v, i, m, p, undefined, kind, alias, looped, barred, y)
-}
-
 // A literal or an identifier.
 fn is_cheap(w: &[u32], i: usize) -> bool
     requires { ⌜ (Planted (now w)) × (i < getD (now w) 0 0) ⌝ }
@@ -111,46 +58,6 @@ fn is_cheap(w: &[u32], i: usize) -> bool
         return true;
     }
     kind_at(w, i) == 21
-}
-
-// declare: the init is nothing, or the tree at i.
-pub fn declare(w: &mut [u32], x: u8, v: Init, i: usize, undefined: bool, kind: VarType) -> Step
-    requires { ⌜ (Planted (now w)) × (Sited v i (getD (now w) 0 0)) ⌝ }
-    ensures { λ r. ⌜ Grown (now (w .entry)) (now (w .exit)) (declare x (initFrom v (treeFrom (tree (now (w .entry))) i)) undefined (typeOf kind) (stack (now (w .entry)))) r ⌝ }
-{
-    if no_value(v) {
-        return declare_bare(w, x, undefined, kind);
-    }
-    if is_ident(w, i) {
-        return declare_ident(w, x, v, i, undefined, kind);
-    }
-    declare_value(w, x, v, i, undefined, kind)
-}
-
-// declare's is_undefined.
-fn undefined_now(w: &[u32], v: Init, is_change: bool) -> bool
-    requires { ⌜ Good (now w) ⌝ }
-    ensures { λ r. ⌜ r ≡ (isVar (rest (now (w .entry)) .varDeclKind) && not «is_change» && hasNone v && rest (now (w .entry)) .inlining) ⌝ }
-{
-    if w[8] != 1 {
-        return false;
-    }
-    if is_change {
-        return false;
-    }
-    if no_value(v) {
-        return w[6] != 0;
-    }
-    false
-}
-
-// Inlining::declare.
-pub fn declare_m(w: &mut [u32], x: u8, v: Init, i: usize, is_change: bool, kind: VarType) -> Step
-    requires { ⌜ (Planted (now w)) × (Sited v i (getD (now w) 0 0)) ⌝ }
-    ensures { λ r. ⌜ Moves (now (w .entry)) (now (w .exit)) (declareM (named x) (initFrom v (treeFrom (tree (now (w .entry))) i)) «is_change» (typeOf kind) (rest (now (w .entry)))) (doneOf r (rest (now (w .exit)))) ⌝ }
-{
-    let undefined = undefined_now(w, v, is_change);
-    declare(w, x, v, i, undefined, kind)
 }
 
 // An answer to a step.
@@ -195,10 +102,9 @@ fn over_const(w: &mut [u32], x: u8, e: usize) -> Step
         return Step::Done;
     }
     if is_cheap(w, e) {
-        let m = skip(w, e) - e;
-        return add_const(w, x, e, m);
+        return add_const(w, x, Value::At(e));
     }
-    add_const(w, x, 0, 0)
+    add_const(w, x, Value::Nothing)
 }
 
 // A literal or an identifier as initialiser.

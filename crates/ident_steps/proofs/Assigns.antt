@@ -1,7 +1,7 @@
 -- `=` in Inlining by the words: its parts, its test, and the first value recorded. Assumes nothing.
 use mathlib.Core.Path.{_≡_, refl, sym, ap, _∙_}
 use mathlib.Core.List.{List}
-use mathlib.Core.Bool.{Bool, true, false, not}
+use mathlib.Core.Bool.{Bool, true, false, not, _&&_}
 use mathlib.Core.Option.{Option, none, some}
 use Prim.Native.Nat.{ℕ, zero, suc, _+_, _≤_, _<_}
 use native.Mathlib.Numerals.{add-one}
@@ -30,6 +30,7 @@ use Rattle.nodes.proofs.Words.{tree-whole}
 use Rattle.nodes.proofs.Walks.{second-child, skip-is}
 use Rattle.state.specs.State.{rest, abs, Ok}
 use Rattle.state.proofs.Fields.{becomes-ok, ok-self, ok-then}
+use Rattle.scope.specs.Handles.{ofBinding}
 use Rattle.ident_steps.specs.Steps.{Goes, firstTest, firstF, swapF}
 use Rattle.ident_steps.specs.declared.Next.{Next}
 use Rattle.ident_steps.specs.declared.Next.the-variants.{At, Refused}
@@ -54,16 +55,9 @@ second-none (suc zero) (cons t ts) h = refl
 second-none (suc (suc n)) ts h = absurd (omega arith)
 
 -- the test, by the binding found
-module _ (b : VarInfo) (q : Bool) where
-  pub first-not : b .isUndefined ≡ false → firstTest (some b) q ≡ false
-  first-not e = rw e refl
-
-  module _ (e : b .isUndefined ≡ true) where
-    pub first-held : varInlinePrevented b ≡ true → firstTest (some b) q ≡ false
-    first-held h = rw (e, h) refl
-
-    pub first-by : varInlinePrevented b ≡ false → firstTest (some b) q ≡ not q
-    first-by h = rw (e, h) refl
+pub first-is : (o : Option VarInfo) (q : Bool) → firstTest o q ≡ (ofBinding (λ (v : VarInfo). v .isUndefined) o && not (ofBinding varInlinePrevented o) && not q)
+first-is none q = refl
+first-is (some b) q = refl
 
 -- the parts of node i
 module _ {w : List ℕ} (P : Planted w) (i : ℕ) (l : i < getD w 0 0) where

@@ -10,7 +10,8 @@ use lib.ListN.{length, getD}
 use Rattle.tree.specs.Base.{pick}
 use Rattle.tree.specs.Tree.{Tree, kind, num, Core, noCore, plant, firstT}
 use Rattle.tree.specs.Combine.{nodeAt}
-use Rattle.definition.specs.Scope.{VarInfo, findBinding, findConstant, varInlinePrevented}
+use Rattle.definition.specs.Tree.{countO}
+use Rattle.definition.specs.Scope.{VarInfo, findBinding, findConstant, varInlinePrevented, valueO}
 use Rattle.definition.specs.Walk.{sameIdent}
 use Rattle.words.specs.Tab.{sum-part}
 use Rattle.words.specs.Layout.{yes, coreFrom, nodeOf, run, tree}
@@ -21,29 +22,28 @@ use Rattle.records.specs.declared.Constant.{Constant}
 use Rattle.records.specs.declared.Constant.the-variants as constant
 use Rattle.nodes.specs.Nodes.{treeFrom, valueFrom}
 use Rattle.state.specs.State.{rest, abs}
-use Rattle.ident_steps.specs.Steps.{stays, undefined, inlined, fateOf, fateAt, constantAt, Held, Named}
+use Rattle.scope.specs.Handles.{Held, ofBinding}
+use Rattle.scope.proofs.Numbers.{value-some}
+use Rattle.nodes.proofs.Trees.{count-some}
+use Rattle.ident_steps.specs.Steps.{stays, undefined, inlined, fateOf, fateAt, constantAt, Named}
 use Rattle.ident_steps.proofs.Laws.{tree-num}
 
--- a value that has nodes
-pub value-some : (xs : List Core) → 0 < length xs → valueOf xs ≡ some (firstT (plant xs))
-value-some [] h = absurd (omega arith)
-value-some (x ∷ xs) h = refl
+-- the fate by the binding, if there is one
+pub fate-prevented : (o : Option VarInfo) → ofBinding varInlinePrevented o ≡ true → fateOf o ≡ stays
+fate-prevented none e = refl
+fate-prevented (some b) e = rw e refl
 
-value-none : (xs : List Core) → length xs ≡ 0 → valueOf xs ≡ none
-value-none [] e = refl
-value-none (x ∷ xs) e = absurd (omega arith)
+pub fate-value : (o : Option VarInfo) → ofBinding varInlinePrevented o ≡ false → (t : Tree) → valueO o ≡ some t → fateOf o ≡ inlined t
+fate-value none e t q = absurd (omega (arith, ap countO q, count-some t))
+fate-value (some b) e t q = rw (e, q) refl
 
--- the fate by the binding
-module _ (b : VarInfo) where
-  pub fate-prevented : varInlinePrevented b ≡ true → fateOf (some b) ≡ stays
-  fate-prevented e = rw e refl
+no-value : (v : Option Tree) → countO v ≡ 0 → v ≡ none
+no-value none z = refl
+no-value (some t) z = absurd (omega (arith, count-some t))
 
-  module _ (e : varInlinePrevented b ≡ false) where
-    pub fate-value : (t : Tree) → b .value ≡ some t → fateOf (some b) ≡ inlined t
-    fate-value t q = rw (e, q) refl
-
-    pub fate-none : b .value ≡ none → fateOf (some b) ≡ pick (b .isUndefined) undefined stays
-    fate-none q = rw (e, q) refl
+pub fate-none : (o : Option VarInfo) → ofBinding varInlinePrevented o ≡ false → countO (valueO o) ≡ 0 → fateOf o ≡ pick (ofBinding (λ v. v .isUndefined) o) undefined stays
+fate-none none e z = refl
+fate-none (some b) e z = rw (e, no-value (b .value) z) refl
 
 module _ (w : List ℕ) (i x : ℕ) (l : i < getD w 0 0) (n : x ≡ nodeOf w i .num) where
   name : nodeAt (abs w) i .num ≡ x
@@ -69,18 +69,6 @@ pub named : (w : List ℕ) (i x : ℕ) (r : Constant) → constantAt (abs w) i �
 named w i x constant.Unknown q h = q ∙ h
 named w i x (constant.At at m) q h =
     (q ∙ h .0 ∙ value-some (run w 3088 at m) (omega (arith, run-length w 3088 at m, h .1)), record { some = h .1; inside = h .2; whole = h .3 })
-
--- the value of binding k
-module _ (w : List ℕ) (g : Good w) (k : ℕ) (h : k < getD w 1 0) where
-  pub bound-none : lenAt w k ≡ 0 → bindAt w k .value ≡ none
-  bound-none z = value-none (runAt w k) (run-length w 2064 (off w k) (lenAt w k) ∙ z)
-
-  module _ (at m : ℕ) (p : at ≡ off w k) (q : m ≡ lenAt w k) (z : 0 < m) where
-    pub bound-value : bindAt w k .value ≡ some (valueFrom w 2064 at m)
-    bound-value = rw (p, q) (value-some (runAt w k) (omega (arith, run-length w 2064 (off w k) (lenAt w k))))
-
-    pub bound-held : Held w 2064 at m
-    bound-held = record { some = z; inside = omega (arith, sum-part (λ j. lenAt w j) k (getD w 1 0) h, g .vals, p, q); whole = rw (p, q) (g .whole k h) }
 
 -- the same identifier, by the first node of a value
 module _ (w : List ℕ) (i : ℕ) (l : i < getD w 0 0) (at m : ℕ) (z : 0 < m) where

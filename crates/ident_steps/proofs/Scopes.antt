@@ -13,7 +13,6 @@ use Rattle.definition.specs.Scope.{ScopeKind, vVar, newScope, close}
 use Rattle.definition.specs.Walk.{St, opening, deeper, restore, shallower, setStack, setVarDeclKind, setPatMode, setInTest, setInlining, setConds}
 use Rattle.words.specs.Layout.{yes, tree}
 use Rattle.scopes.specs.State.{stack, varTypeOf}
-use Rattle.records.proofs.Count.{depth-is}
 use Rattle.state.specs.State.{rest, abs, modeOf, Turns}
 use Rattle.ident_steps.specs.Steps.{Restored}
 use Rattle.ident_steps.proofs.Laws.{flat-eq, turns-abs}
@@ -26,11 +25,11 @@ module _ (w : List ℕ) (k : ScopeKind) where
   unfolding opening rest
   by e = ap opened e
 
-  pub enter-full : 32 ≤ getD w 2 0 → onRest (opening k) (abs w) ≡ stop 8
-  enter-full h = by (le-leb 32 (length (stack w)) (omega (arith, depth-is w)))
+  pub enter-full : leb 32 (length (stack w)) ≡ true → onRest (opening k) (abs w) ≡ stop 8
+  enter-full h = by h
 
-  pub enter-open : getD w 2 0 < 32 → onRest (opening k) (abs w) ≡ done (record { nodes = tree w; rest = setVarDeclKind vVar (setStack (newScope k ∷ stack w) (rest w)) }) tt
-  enter-open h = by (lt-leb 32 (length (stack w)) (omega (arith, depth-is w)))
+  pub enter-open : leb 32 (length (stack w)) ≡ false → onRest (opening k) (abs w) ≡ done (record { nodes = tree w; rest = setVarDeclKind vVar (setStack (newScope k ∷ stack w) (rest w)) }) tt
+  enter-open h = by h
 
 module _ (w : List ℕ) where
   abbrev deep : Bool → Res (Flat St) Nothing

@@ -3,7 +3,7 @@ use mathlib.Core.Path.{_≡_}
 use mathlib.Core.List.{List}
 use mathlib.Core.Bool.{Bool, true, false, _&&_, not}
 use mathlib.Core.Option.{Option, none, some}
-use Prim.Native.Nat.{ℕ, _+_, _≤_, _<_}
+use Prim.Native.Nat.{ℕ}
 use lib.Dec.{eqb}
 use Rattle.tree.specs.Base.{pick}
 use Rattle.tree.specs.Tree.{Tree, form, num}
@@ -11,12 +11,13 @@ use Rattle.tree.specs.Combine.{Res, stop, done, M as MS, Nothing, _>>_, Flat, n
 use Rattle.definition.specs.Scope.{VarInfo, Stack, varInlinePrevented, findBinding, findConstant, preventInline, addRead, change, defined, withValue}
 use Rattle.definition.specs.Walk.{St, when, modify, mark, grow, replace, restore, setChanged, sameIdent, cheapO}
 use Rattle.flat.specs.WalkF.{testRead}
-use Rattle.words.specs.Layout.{yes, run}
-use Rattle.scopes.specs.State.{varTypeOf, Whole}
+use Rattle.words.specs.Layout.{yes}
+use Rattle.scopes.specs.State.{varTypeOf}
 use Rattle.nodes.specs.Nodes.{valueFrom}
 use Rattle.records.specs.declared.Constant.{Constant}
 use Rattle.records.specs.declared.Constant.the-variants as constant
 use Rattle.state.specs.State.{abs, rest, modeOf, Ok, Turns}
+use Rattle.scope.specs.Handles.{Held}
 use Rattle.ident_steps.specs.declared.Next.{Next}
 use Rattle.ident_steps.specs.declared.Next.the-variants.{At, Refused}
 use Rattle.ident_steps.specs.declared.Found.{Found}
@@ -63,12 +64,6 @@ fateAt st i = fateOf (findBinding (nodeAt st i .num) (st .rest .stack))
 -- the constant that an identifier names, in the first run
 abbrev pub constantAt : Flat St → ℕ → Option Tree
 constantAt st i = pick (st .rest .isFirstRun) (findConstant (nodeAt st i .num) (st .rest .stack)) none
-
--- m nodes from `at` on of a store of values are the nodes of one tree
-pub record Held (w : List ℕ) (base at m : ℕ) : Type 0 where
-  pub some : 0 < m
-  pub inside : at + m ≤ 512
-  pub whole : Whole (run w base at m)
 
 abbrev pub Fated : List ℕ → ℕ → Found → Type 0
 Fated w i found.Nothing = fateAt (abs w) i ≡ stays

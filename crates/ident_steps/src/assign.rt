@@ -12,14 +12,15 @@ ghost use Rattle.state.specs.State.{abs};
 ghost use Rattle.ident_steps.specs.Steps.{Goes, firstTest, firstF};
 use super::Next;
 use super::lift_value;
-use declares::first_value;
-use look::find_binding_from_current;
 use look::ident_at;
-use look::is_inline_prevented;
-use look::is_undefined;
-use look::var_inline_prevented;
 use nodes::skip;
 use records::Step;
+use scope::Value;
+use scope::find_binding_from_current;
+use scope::first_value;
+use scope::is_inline_prevented;
+use scope::is_undefined;
+use scope::var_inline_prevented;
 use words::arity_at;
 use words::kind_at;
 
@@ -28,12 +29,9 @@ fn first_here(w: &[u32], x: u8, j: usize) -> bool
     requires { ⌜ (Good (now w)) × (j < getD (now w) 0 0) ⌝ }
     ensures { λ r. ⌜ r ≡ firstTest (findBindingFromCurrent x (stack (now (w .entry)))) (isInlinePrevented (nodeTree (now (w .entry)) j) (stack (now (w .entry)))) ⌝ }
 {
-    let k = find_binding_from_current(w, x);
-    if k == 0 {
-        return false;
-    }
-    if is_undefined(w, k - 1) {
-        if var_inline_prevented(w, k - 1) {
+    let b = find_binding_from_current(w, x);
+    if is_undefined(w, b) {
+        if var_inline_prevented(w, b) {
             return false;
         }
         return !is_inline_prevented(w, j);
@@ -46,8 +44,7 @@ fn first_assigned(w: &mut [u32], i: usize, j: usize, p: u32, x: u8) -> Next
     requires { ⌜ (Planted (now w)) × (Child (tree (now w)) i 1 j) × (p ≤ 201) ⌝ }
     ensures { λ r. ⌜ Goes (now (w .entry)) (now (w .exit)) r (firstF p x (treeFrom (tree (now (w .entry))) j) i (abs (now (w .entry)))) ⌝ }
 {
-    let m = skip(w, j) - j;
-    match first_value(w, x, j, m) {
+    match first_value(w, x, Value::At(j)) {
         Step::Refused(n) => Next::Refused(n),
         Step::Done => lift_value(w, i, j, p),
     }

@@ -12,33 +12,35 @@ ghost use Rattle.words.specs.Layout.{nodeOf, coreFrom, yes, tree};
 ghost use Rattle.scopes.specs.State.{Good, Becomes, stack, scopeKindOf};
 ghost use Rattle.nodes.specs.Nodes.{Planted, Child, treeFrom, valueFrom};
 ghost use Rattle.state.specs.State.{abs, Act};
-ghost use Rattle.ident_steps.specs.Steps.{Goes, analysisF, costly, testStack, Fated, Named, Held, Landed, swapF, valueF, constF, Restored};
+ghost use Rattle.scope.specs.Handles.{Held};
+ghost use Rattle.ident_steps.specs.Steps.{Goes, analysisF, costly, testStack, Fated, Named, Landed, swapF, valueF, constF, Restored};
 
 pub mod assign;
 
-use bindings::close;
-use constants::find_constant;
 use look::ident_at;
-use look::is_undefined;
-use look::value_kind;
-use look::var_inline_prevented;
 use nodes::Step;
 use nodes::put_void;
 use nodes::replace_at;
 use nodes::skip;
 use nodes::unwrap;
 use records::Constant;
-use scopes::find_binding;
-use scopes::offset;
-use scopes::open;
-use scopes::prevent_inline;
+use scope::add_read;
+use scope::close;
+use scope::find_binding;
+use scope::find_constant;
+use scope::is_undefined;
+use scope::open_kind;
+use scope::prevent_inline;
+use scope::value_at;
+use scope::value_kind;
+use scope::value_len;
+use scope::var_inline_prevented;
 use state::set_changed;
 use state::set_conds;
 use state::set_in_test;
 use state::set_inlining;
 use state::set_pat_mode;
 use state::set_var_decl_kind;
-use usages::add_read;
 use words::form_at;
 
 // Where the next tree begins, or the number of a refusal.
@@ -59,11 +61,11 @@ fn costly(w: &[u32], x: u8) -> bool
     requires { ⌜ Good (now w) ⌝ }
     ensures { λ r. ⌜ r ≡ costly (findBinding x (stack (now (w .entry)))) ⌝ }
 {
-    let k = find_binding(w, x);
-    if k == 0 {
+    let b = find_binding(w, x);
+    if b == 0 {
         return false;
     }
-    let m = value_kind(w, k - 1);
+    let m = value_kind(w, b);
     if m == 22 {
         return false;
     }
@@ -100,18 +102,18 @@ pub fn fate(w: &[u32], i: usize) -> Found
     ensures { λ r. ⌜ Fated (now (w .entry)) i r ⌝ }
 {
     let x = ident_at(w, i);
-    let k = find_binding(w, x);
-    if k == 0 {
+    let b = find_binding(w, x);
+    if b == 0 {
         return Found::Nothing;
     }
-    if var_inline_prevented(w, k - 1) {
+    if var_inline_prevented(w, b) {
         return Found::Nothing;
     }
-    let m = w[4112 + (k - 1) * 10 + 8] as usize;
+    let m = value_len(w, b);
     if 0 < m {
-        return Found::Value(offset(w, k - 1), m);
+        return Found::Value(value_at(w, b), m);
     }
-    if is_undefined(w, k - 1) {
+    if is_undefined(w, b) {
         return Found::Void;
     }
     Found::Nothing
@@ -202,12 +204,13 @@ pub fn enter(w: &mut [u32], kind: u32) -> u32
     requires { ⌜ Planted (now w) ⌝ }
     ensures { λ r. ⌜ Act (now (w .entry)) (now (w .exit)) r (onRest (opening (scopeKindOf kind)) (abs (now (w .entry)))) ⌝ }
 {
-    if 32 <= w[2] {
-        return 8;
+    match open_kind(w, kind) {
+        records::Step::Refused(n) => n,
+        records::Step::Done => {
+            set_var_decl_kind(w, 1);
+            0
+        }
     }
-    open(w, kind);
-    set_var_decl_kind(w, 1);
-    0
 }
 
 // Closes the innermost scope, and gives the visitor back the fields that it had before.

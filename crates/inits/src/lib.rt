@@ -1,25 +1,30 @@
-// The init of a declaration over the working words: what bars it or prevents it, and a declaration with none or with a value.
+// declare over the working words: what bars or prevents an init, and a declaration with none, with an identifier, or with another value.
 ghost use mathlib.Core.Path.{_≡_};
 ghost use mathlib.Core.Bool.{true, false, _||_, _&&_};
 ghost use Prim.Native.Nat.{_+_, _-_, _≤_, _<_};
 ghost use lib.ListN.{getD};
 ghost use Rattle.definition.specs.Tree.{isIdent};
-ghost use Rattle.definition.specs.Scope.{declare, noInit, isInlinePrevented, shouldPreventInlineBecauseOfScope};
+ghost use Rattle.definition.specs.Scope.{declare, noInit, aliasFrom, isInlinePrevented, shouldPreventInlineBecauseOfScope};
 ghost use Rattle.words.specs.Layout.{tree};
-ghost use Rattle.scopes.specs.State.{Good, stack};
+ghost use Rattle.scopes.specs.State.{Good, stack, varTypeOf};
 ghost use Rattle.records.specs.Steps.{Grown};
 ghost use Rattle.declares.specs.Kinds.{typeOf, aliasOf};
+ghost use Rattle.look.specs.Look.{idxHere};
 ghost use Rattle.nodes.specs.Nodes.{Planted, treeFrom};
-ghost use Rattle.inits.specs.Inits.{initFrom, Valued, hasNone, placeHere, barredHere, worksWith};
+ghost use Rattle.inits.specs.Inits.{initFrom, Sited, Valued, hasNone, placeHere, barredHere, worksWith};
 use declares::Alias;
 use declares::Init;
+use declares::VarDeclKind;
 use declares::VarType;
 use declares::declare_with;
 use look::barred;
+use look::find_binding_from_current;
+use look::ident_at;
 use look::idx_val;
 use look::in_loop;
 use look::is_inline_prevented;
 use look::should_prevent_inline_because_of_scope;
+use look::var_type;
 use nodes::skip;
 use records::Step;
 use words::kind_at;
@@ -162,4 +167,61 @@ pub fn no_value(v: Init) -> bool
         Init::Recorded => false,
         Init::Seen => false,
     }
+}
+
+// The type that a word stands for.
+pub fn type_of(code: u32) -> VarType
+    ensures { λ r. ⌜ typeOf r ≡ varTypeOf code ⌝ }
+{
+    if code == 0 {
+        return VarType::Param;
+    }
+    if code == 1 {
+        return VarType::Declared(VarDeclKind::Var);
+    }
+    if code == 2 {
+        return VarType::Declared(VarDeclKind::Let);
+    }
+    VarType::Declared(VarDeclKind::Const)
+}
+
+// The type of the binding of y in the current scope.
+fn alias_for(w: &[u32], y: u8) -> Alias
+    requires { ⌜ Good (now w) ⌝ }
+    ensures { λ r. ⌜ aliasOf r ≡ aliasFrom (idxHere y (stack (now (w .entry)))) ⌝ }
+{
+    let r = find_binding_from_current(w, y);
+    if r == 0 {
+        return Alias::NoAlias;
+    }
+    let t = var_type(w, r - 1);
+    Alias::AliasOf(type_of(t))
+}
+
+// declare with the identifier at i as its init.
+fn declare_ident(w: &mut [u32], x: u8, v: Init, i: usize, undefined: bool, kind: VarType) -> Step
+    requires { ⌜ (Planted (now w)) × (i < getD (now w) 0 0) × (Valued v) × (isIdent (treeFrom (tree (now w)) i) ≡ true) ⌝ }
+    ensures { λ r. ⌜ Grown (now (w .entry)) (now (w .exit)) (declare x (initFrom v (treeFrom (tree (now (w .entry))) i)) undefined (typeOf kind) (stack (now (w .entry)))) r ⌝ }
+{
+    let m = skip(w, i) - i;
+    let p = prevented_at(w, x, i);
+    let looped = in_loop(w);
+    let y = ident_at(w, i);
+    let alias = alias_for(w, y);
+    let barred = barred_for(w, x, y, kind, alias);
+    declare_with(w, x, v, i, m, p, undefined, kind, alias, looped, barred, y)
+}
+
+// declare: the init is nothing, or the tree at i.
+pub fn declare(w: &mut [u32], x: u8, v: Init, i: usize, undefined: bool, kind: VarType) -> Step
+    requires { ⌜ (Planted (now w)) × (Sited v i (getD (now w) 0 0)) ⌝ }
+    ensures { λ r. ⌜ Grown (now (w .entry)) (now (w .exit)) (declare x (initFrom v (treeFrom (tree (now (w .entry))) i)) undefined (typeOf kind) (stack (now (w .entry)))) r ⌝ }
+{
+    if no_value(v) {
+        return declare_bare(w, x, undefined, kind);
+    }
+    if is_ident(w, i) {
+        return declare_ident(w, x, v, i, undefined, kind);
+    }
+    declare_value(w, x, v, i, undefined, kind)
 }

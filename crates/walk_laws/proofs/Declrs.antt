@@ -37,7 +37,7 @@ use Rattle.declare_steps.specs.declared.After.the-variants as after
 use Rattle.declare_steps.specs.Steps as steps
 use Rattle.declare_steps.specs.Steps.{afterOf, named, toldOf, Moves, Spot, declrAfter}
 use Rattle.declare_steps.proofs.Acts.{rest-stack}
-use Rattle.declare_steps.proofs.Init.{const-yes, const-no}
+use Rattle.inits.proofs.Codes.{const-yes, const-no}
 use Rattle.declare_steps.proofs.Parts.{rest-kind, forest-none, forest-some, over-name, stays-name, takes-name}
 use Rattle.ident_steps.specs.declared.Next.{Next}
 use Rattle.ident_steps.specs.declared.Next.the-variants.{At, Refused}

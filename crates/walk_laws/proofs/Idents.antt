@@ -22,6 +22,7 @@ use Rattle.flat.specs.WalkF.{WalksF, testRead, inlineValueF, foundF, identInlin
 use Rattle.ident_steps.specs.declared.Next.{Next}
 use Rattle.ident_steps.specs.declared.Next.the-variants.{At, Refused}
 use Rattle.ident_steps.specs.Steps as steps
+use Rattle.scope.specs.Handles.{Held}
 use Rattle.records.specs.declared.Constant.{Constant}
 use Rattle.records.specs.declared.Constant.the-variants as constant
 use Rattle.ident_steps.specs.declared.Found.{Found}
@@ -108,7 +109,7 @@ module _ (v : WalksF) (p i : ℕ) {w u : List ℕ} {a : Next} where
 
 -- what the steps answered
 module _ (w : List ℕ) (i : ℕ) where
-  pub named-at : {c : Constant} (at m : ℕ) → c ≡ constant.At at m → steps.Named w i c → (steps.constantAt (abs w) i ≡ some (valueFrom w 3088 at m)) × steps.Held w 3088 at m
+  pub named-at : {c : Constant} (at m : ℕ) → c ≡ constant.At at m → steps.Named w i c → (steps.constantAt (abs w) i ≡ some (valueFrom w 3088 at m)) × Held w 3088 at m
   named-at at m e n = subst (λ (c : Constant). steps.Named w i c) e n
 
   pub named-unknown : {c : Constant} → c ≡ constant.Unknown → steps.Named w i c → steps.constantAt (abs w) i ≡ none
@@ -120,7 +121,7 @@ module _ (w : List ℕ) (i : ℕ) where
   pub fated-void : {c : Found} → c ≡ found.Void → steps.Fated w i c → fateAt (abs w) i ≡ undefined
   fated-void e n = subst (λ (c : Found). steps.Fated w i c) e n
 
-  pub fated-value : {c : Found} (at m : ℕ) → c ≡ found.Value at m → steps.Fated w i c → (fateAt (abs w) i ≡ inlined (valueFrom w 2064 at m)) × steps.Held w 2064 at m
+  pub fated-value : {c : Found} (at m : ℕ) → c ≡ found.Value at m → steps.Fated w i c → (fateAt (abs w) i ≡ inlined (valueFrom w 2064 at m)) × Held w 2064 at m
   fated-value at m e n = subst (λ (c : Found). steps.Fated w i c) e n
 
 -- Analysis leaves the nodes

@@ -9,8 +9,8 @@ ghost use Rattle.declare_steps.specs.Steps.{Spot, named, declrAfter};
 ghost use Rattle.walk_laws.specs.Did.{Did, Here, Headed, bareNode, settledNode};
 use declare_steps::After;
 use declare_steps::declr_after;
-use declare_steps::type_of;
 use ident_steps::Next;
+use inits::type_of;
 use words::arity_at;
 use words::kind_at;
 

@@ -14,22 +14,20 @@ use Rattle.tree.specs.Base.{pick}
 use Rattle.tree.specs.Tree.{Tree, Forest, nil, cons, kind, num, lengthF, count, Core, noCore, takeF, dropF, plant, firstT}
 use Rattle.tree.specs.Combine.{Res, stop, done, Nothing, M, andThen, iff, ret, _>>_, onRest, treeAt, forestAt, act, actF}
 use Rattle.definition.specs.Tree.{isCheap, headT}
-use Rattle.definition.specs.Scope.{VarInfo, findBinding, varInlinePrevented, isInlinePrevented, preventedO, preventInline, change, withValue}
+use Rattle.definition.specs.Scope.{VarInfo, findBinding, varInlinePrevented, preventedO, preventInline, change, withValue}
 use Rattle.definition.specs.Walk.{St, when, mark, grow, write, storeValue, storeO, assignLast}
-use Rattle.words.specs.Tab.{tab}
-use Rattle.words.specs.Layout.{tree, nodeOf, run}
+use Rattle.words.specs.Layout.{tree, nodeOf}
 use Rattle.words.proofs.Nodes.{tree-at}
-use Rattle.scopes.specs.State.{Becomes, stack, heads, binds, place, bindAt, valueOf}
+use Rattle.scopes.specs.State.{Becomes, stack}
 use Rattle.records.specs.Steps.{Grown}
 use Rattle.records.specs.declared.Step as recordsStep
-use Rattle.look.specs.Look.{nodeTree}
-use Rattle.look.proofs.Facts.{found-at, found-is}
 use Rattle.nodes.specs.Nodes.{Planted, treeFrom, forestFrom}
 use Rattle.nodes.proofs.Loops.{Open, open-past, forest-here, forest-past}
-use Rattle.nodes.proofs.Splice.{subtree-value, subtree-one}
 use Rattle.nodes.proofs.Words.{tree-whole, in-tree}
 use Rattle.state.specs.State.{rest, abs, Act}
-use Rattle.write_steps.specs.Answers.{numberOf, Kept}
+use Rattle.scope.specs.Handles.{treeO, ofBinding}
+use Rattle.scope.proofs.Numbers.{tree-in}
+use Rattle.write_steps.specs.Answers.{numberOf, cheapAt}
 use Rattle.write_steps.proofs.Steps.{Step, step-act, act-step, step-as, step-none, step-then, step-stop, step-tree, act-tree, act-count, mark-step, record-step}
 use Rattle.write_steps.proofs.Shapes.{head-of}
 use Rattle.write_steps.proofs.Writing.{num-here}
@@ -46,46 +44,40 @@ module _ {w : List ℕ} (g : Planted w) (j : ℕ) (l : j < getD w 0 0) where
   dear : (nodeOf w j .kind ≡ 22 → ⊥) → (nodeOf w j .kind ≡ 21 → ⊥) → isCheap t ≡ false
   dear a b = ap (λ (k : ℕ). eqb k 22 || eqb k 21) (kind-here w j l) ∙ rw (ne-eqb (nodeOf w j .kind) 22 a, ne-eqb (nodeOf w j .kind) 21 b) refl
 
-  pub kept-all : {r m : ℕ} → (nodeOf w j .kind ≡ 22) ⊎ (nodeOf w j .kind ≡ 21) → (r ≡ j + count (treeFrom (tree w) j)) × (j < r) × (r ≤ getD w 0 0) → m ≡ r - j → Kept w j m
+  pub kept-all : (nodeOf w j .kind ≡ 22) ⊎ (nodeOf w j .kind ≡ 21) → treeO (tree w) j ≡ cheapAt w j
   unfolding treeAt treeFrom
-  kept-all {r} {m} o h e =
-      let q : m ≡ count (treeFrom (tree w) j) = omega arith in
-      record {
-        fits = omega arith;
-        one = rw q (subtree-one g l);
-        value = ap (λ (k : ℕ). valueOf (run w 16 j k)) q ∙ subtree-value g l ∙ ap (λ (p : Bool). pick p (some t) none) (sym (cheap o));
-      }
+  kept-all o = tree-in w j l ∙ ap (λ (p : Bool). pick p (some t) none) (sym (cheap o))
 
-  pub kept-none : (nodeOf w j .kind ≡ 22 → ⊥) → (nodeOf w j .kind ≡ 21 → ⊥) → Kept w j 0
-  unfolding run tab
-  kept-none a b = record { fits = omega arith; one = refl; value = ap (λ (p : Bool). pick p (some t) none) (sym (dear a b)) }
+  pub kept-none : (nodeOf w j .kind ≡ 22 → ⊥) → (nodeOf w j .kind ≡ 21 → ⊥) → none ≡ cheapAt w j
+  kept-none a b = ap (λ (p : Bool). pick p (some t) none) (sym (dear a b))
 
 -- a value recorded for the binding of l
-module _ {w : List ℕ} (g : Planted w) (l r : Tree) (x k : ℕ) (q : num l ≡ x) (p : k ≡ place x (heads w) (binds w)) where
+module _ {w : List ℕ} (g : Planted w) (l r : Tree) (x : ℕ) (q : num l ≡ x) (o : Option VarInfo) (p : findBinding x (stack w) ≡ o) where
   abbrev to : M St Nothing
   to = grow (change (num l) (withValue (pick (isCheap r) (some r) none)))
 
   abbrev by : Option VarInfo → Res St Nothing
   by o = elim o [ none ↦ done (rest w) tt | some b ↦ iff (varInlinePrevented b) (ret tt) to (rest w) ]
 
-  binding-is : (o : Option VarInfo) → findBinding x (stack w) ≡ o → by o ≡ storeValue l r (rest w)
+  binding-is : by o ≡ storeValue l r (rest w)
   unfolding rest
-  binding-is o e = ap by (sym (ap (λ (a : ℕ). findBinding a (stack w)) q ∙ e))
+  binding-is = ap by (sym (ap (λ (a : ℕ). findBinding a (stack w)) q ∙ p))
 
-  pub store-none : k ≡ 0 → Act w w 0 (onRest (storeValue l r) (abs w))
-  store-none z = step-act (storeValue l r) (step-as (binding-is none (found-at w x 0 (sym z ∙ p))) (step-none g))
+  pub store-none : o ≡ none → Act w w 0 (onRest (storeValue l r) (abs w))
+  store-none z = step-act (storeValue l r) (step-as (ap by (sym z) ∙ binding-is) (step-none g))
 
-  module _ (z : k ≡ 0 → ⊥) where
-    test-is : (b : Bool) → varInlinePrevented (bindAt w (k - 1)) ≡ b → iff b (ret tt) to (rest w) ≡ storeValue l r (rest w)
-    test-is b e = ap (λ (c : Bool). iff c (ret tt) to (rest w)) (sym e) ∙ binding-is (some (bindAt w (k - 1))) (found-is w x k p z)
+  held-is : (o : Option VarInfo) → ofBinding varInlinePrevented o ≡ true → done (rest w) tt ≡ by o
+  held-is none e = refl
+  held-is (some b) e = ap (λ (c : Bool). iff c (ret tt) to (rest w)) (sym e)
 
-    pub store-held : varInlinePrevented (bindAt w (k - 1)) ≡ true → Act w w 0 (onRest (storeValue l r) (abs w))
-    store-held e = step-act (storeValue l r) (step-as (test-is true e) (step-none g))
+  pub store-held : ofBinding varInlinePrevented o ≡ true → Act w w 0 (onRest (storeValue l r) (abs w))
+  store-held e = step-act (storeValue l r) (step-as (held-is o e ∙ binding-is) (step-none g))
 
-    pub store-kept : {u : List ℕ} {v : Option Tree} (s : recordsStep.Step) → varInlinePrevented (bindAt w (k - 1)) ≡ false → v ≡ pick (isCheap r) (some r) none → Grown w u (change x (withValue v) (stack w)) s → Act w u (numberOf s) (onRest (storeValue l r) (abs w))
-    store-kept {u} {v} s e c b =
-        let to-is : grow (change x (withValue v)) (rest w) ≡ to (rest w) = ap (λ (a : ℕ). grow (change a (withValue v)) (rest w)) (sym q) ∙ ap (λ (o : Option Tree). grow (change (num l) (withValue o)) (rest w)) c in
-        step-act (storeValue l r) (step-as (to-is ∙ test-is false e) (record-step g (change x (withValue v)) s b))
+  pub store-kept : {u : List ℕ} {v : Option Tree} (s : recordsStep.Step) (b : VarInfo) → o ≡ some b → ofBinding varInlinePrevented o ≡ false → v ≡ pick (isCheap r) (some r) none → Grown w u (change x (withValue v) (stack w)) s → Act w u (numberOf s) (onRest (storeValue l r) (abs w))
+  store-kept {u} {v} s b z e c d =
+      let f : varInlinePrevented b ≡ false = sym (ap (ofBinding varInlinePrevented) z) ∙ e in
+      let to-is : grow (change x (withValue v)) (rest w) ≡ to (rest w) = ap (λ (a : ℕ). grow (change a (withValue v)) (rest w)) (sym q) ∙ ap (λ (o : Option Tree). grow (change (num l) (withValue o)) (rest w)) c in
+      step-act (storeValue l r) (step-as (to-is ∙ ap (λ (c : Bool). iff c (ret tt) to (rest w)) (sym f) ∙ ap by (sym z) ∙ binding-is) (record-step g (change x (withValue v)) s d))
 
 -- by target and values
 module _ (l : Tree) (rs : Forest) (s : St) where
@@ -173,15 +165,15 @@ module _ {w : List ℕ} (g : Planted w) (n i : ℕ) (o : n ≤ lengthF (plant (d
       unfolding forestFrom treeAt
       value-is = head-of (n - 1) (plant (drop (i + count (treeFrom (tree w) i)) (tree w))) m (behind .trees) ∙ ap (λ (k : ℕ). some (firstT (plant (drop k (tree w))))) (sym ej)
 
-      prevented-is : (p : Bool) → p ≡ isInlinePrevented (nodeTree w j) (stack w) → preventedO (headT rs) (rest w .stack) ≡ p
-      unfolding rest nodeTree treeAt
-      prevented-is p e = ap (λ (v : Option Tree). preventedO v (stack w)) value-is ∙ sym e
+      prevented-is : (p : Bool) → p ≡ preventedO (treeO (tree w) j) (stack w) → preventedO (headT rs) (rest w .stack) ≡ p
+      unfolding rest treeAt treeFrom
+      prevented-is p e = ap (λ (v : Option Tree). preventedO v (stack w)) (value-is ∙ sym (tree-in w j value-in)) ∙ sym e
 
-      pub last-prevented : {u : List ℕ} {x : ℕ} → true ≡ isInlinePrevented (nodeTree w j) (stack w) → x ≡ nodeOf w i .num → Becomes w u (preventInline x (stack w)) → Act w u 0 (actF assignLast n i (abs w))
+      pub last-prevented : {u : List ℕ} {x : ℕ} → true ≡ preventedO (treeO (tree w) j) (stack w) → x ≡ nodeOf w i .num → Becomes w u (preventInline x (stack w)) → Act w u 0 (actF assignLast n i (abs w))
       last-prevented {u} {x} e q b =
           to-last (step-as (ap (λ (a : ℕ). mark (preventInline a) (rest w)) (q ∙ sym (num-here w i target-in)) ∙ last-is l rs (rest w) true true (prevented-is true e) is-name) (mark-step g (preventInline x) b))
 
-      module _ {u : List ℕ} {r : ℕ} (e : false ≡ isInlinePrevented (nodeTree w j) (stack w)) (a : Act w u r (act (write false) i (abs w))) where
+      module _ {u : List ℕ} {r : ℕ} (e : false ≡ preventedO (treeO (tree w) j) (stack w)) (a : Act w u r (act (write false) i (abs w))) where
         first : Step w u r (write false l (rest w))
         first = act-step (write false l) a
 

@@ -3,37 +3,36 @@ use mathlib.Core.Path.{_≡_, sym, ap, _∙_}
 use mathlib.Core.List.{List}
 use mathlib.Core.Bool.{false}
 use mathlib.Core.Option.{Option, none, some}
-use Prim.Native.Nat.{ℕ, suc, _-_, _<_}
-use native.Mathlib.Omega.{arith}
-use lib.ListN.{getD}
+use Prim.Native.Nat.{ℕ, _-_, _≤_, _<_}
+use lib.ListN.{length, getD}
 use Rattle.tree.specs.Tree.{Tree}
 use Rattle.tree.specs.Combine.{Res, done, Nothing, treeAt, act}
 use Rattle.definition.specs.Scope.{VarInfo, findBindingFromCurrent}
 use Rattle.definition.specs.Walk.{St, write, assigning, patBy}
 use Rattle.words.specs.Layout.{nodeOf}
-use Rattle.scopes.specs.State.{stack, bindAt}
-use Rattle.look.specs.Look.{atPlace}
+use Rattle.scopes.specs.State.{stack}
+use Rattle.scopes.proofs.Split.{noBind}
 use Rattle.nodes.specs.Nodes.{Planted}
 use Rattle.state.specs.State.{rest, abs, Act}
+use Rattle.scope.specs.Handles.{bindingsOf, numbered}
+use Rattle.scope.proofs.Numbers.{number-some}
 use Rattle.write_steps.proofs.Steps.{step-act, act-step, step-as, step-none}
 use Rattle.write_steps.proofs.Writing.{num-here}
 
 -- in an assignment
-module _ (w : List ℕ) (i x k : ℕ) (l : i < getD w 0 0) (q : x ≡ nodeOf w i .num) (p : findBindingFromCurrent x (stack w) ≡ atPlace w k) where
+module _ (w : List ℕ) (i x k : ℕ) (l : i < getD w 0 0) (q : x ≡ nodeOf w i .num) (p : findBindingFromCurrent x (stack w) ≡ numbered (stack w) k) where
   abbrev t : Tree
   t = treeAt (abs w) i
 
   abbrev by : Option VarInfo → Res St Nothing
   by o = elim o [ none ↦ write false t (rest w) | some b ↦ done (rest w) tt ]
 
-  by-is : (o : Option VarInfo) → atPlace w k ≡ o → by o ≡ patBy assigning t (rest w)
+  by-is : (o : Option VarInfo) → numbered (stack w) k ≡ o → by o ≡ patBy assigning t (rest w)
   unfolding patBy rest
   by-is o e = ap by (sym (ap (λ (a : ℕ). findBindingFromCurrent a (stack w)) (num-here w i l ∙ sym q) ∙ p ∙ e))
 
-  pub bound-act : Planted w → (k ≡ 0 → ⊥) → Act w w 0 (act (patBy assigning) i (abs w))
-  bound-act g h =
-      let e : k ≡ suc (k - 1) = omega (arith, h) in
-      step-act (patBy assigning t) (step-as (by-is (some (bindAt w (k - 1))) (ap (atPlace w) e)) (step-none g))
+  pub bound-act : k ≤ length (bindingsOf (stack w)) → Planted w → (k ≡ 0 → ⊥) → Act w w 0 (act (patBy assigning) i (abs w))
+  bound-act m g h = step-act (patBy assigning t) (step-as (by-is (some (getD (bindingsOf (stack w)) (k - 1) noBind)) (number-some (stack w) k h m)) (step-none g))
 
   pub unbound-act : {u : List ℕ} {r : ℕ} → k ≡ 0 → Act w u r (act (write false) i (abs w)) → Act w u r (act (patBy assigning) i (abs w))
-  unbound-act z a = step-act (patBy assigning t) (step-as (by-is none (ap (atPlace w) z)) (act-step (write false t) a))
+  unbound-act z a = step-act (patBy assigning t) (step-as (by-is none (ap (numbered (stack w)) z)) (act-step (write false t) a))

@@ -8,17 +8,19 @@ ghost use Rattle.definition.specs.Walk.{storeValue, assignFirst, assignLast};
 ghost use Rattle.words.specs.Layout.{tree, nodeOf};
 ghost use Rattle.nodes.specs.Nodes.{Planted};
 ghost use Rattle.state.specs.State.{abs, Act};
-ghost use Rattle.write_steps.specs.Answers.{numberOf, Kept};
+ghost use Rattle.scope.specs.Handles.{valueAt};
+ghost use Rattle.write_steps.specs.Answers.{numberOf, cheapAt};
 use super::write_ident;
 use super::write_trees;
 use look::ident_at;
-use look::is_inline_prevented;
-use look::var_inline_prevented;
 use nodes::skip;
 use records::Step;
-use records::record_value;
-use scopes::find_binding;
-use scopes::prevent_inline;
+use scope::Value;
+use scope::find_binding;
+use scope::is_inline_prevented;
+use scope::prevent_inline;
+use scope::record_value;
+use scope::var_inline_prevented;
 use words::kind_at;
 
 // Document 01's number of a refusal, 0 where there is none.
@@ -53,19 +55,19 @@ pub fn assign_first(w: &mut [u32], f: u32, n: usize, i: usize) -> u32
     write_trees(w, n, i, true)
 }
 
-// How many nodes of the value at j are recorded: all, if it is a literal or an identifier, else none.
-fn kept_nodes(w: &[u32], j: usize) -> usize
+// The value at j as it is recorded: itself, if it is a literal or an identifier, else none.
+fn kept_value(w: &[u32], j: usize) -> Value
     requires { ⌜ (Planted (now w)) × (j < getD (now w) 0 0) ⌝ }
-    ensures { λ m. ⌜ Kept (now (w .entry)) j m ⌝ }
+    ensures { λ v. ⌜ valueAt (tree (now (w .entry))) v ≡ cheapAt (now (w .entry)) j ⌝ }
 {
     let k = kind_at(w, j);
     if k == 22 {
-        return skip(w, j) - j;
+        return Value::At(j);
     }
     if k == 21 {
-        return skip(w, j) - j;
+        return Value::At(j);
     }
-    0
+    Value::Nothing
 }
 
 // The value at j is recorded for the name at i, unless its binding is prevented.
@@ -74,15 +76,15 @@ fn store_value(w: &mut [u32], i: usize, j: usize) -> u32
     ensures { λ r. ⌜ Act (now (w .entry)) (now (w .exit)) r (onRest (storeValue (treeAt (abs (now (w .entry))) i) (treeAt (abs (now (w .entry))) j)) (abs (now (w .entry)))) ⌝ }
 {
     let x = ident_at(w, i);
-    let k = find_binding(w, x);
-    if k == 0 {
+    let b = find_binding(w, x);
+    if b == 0 {
         return 0;
     }
-    if var_inline_prevented(w, k - 1) {
+    if var_inline_prevented(w, b) {
         return 0;
     }
-    let m = kept_nodes(w, j);
-    let s = record_value(w, x, j, m);
+    let v = kept_value(w, j);
+    let s = record_value(w, x, v);
     number(s)
 }
 

@@ -20,13 +20,13 @@ pub mod assign;
 pub mod declared;
 
 use look::Step;
-use look::find_binding_from_current;
 use look::ident_at;
-use markers::mark::mark_this_sensitive;
-use markers::mark::store_inline_barrier;
 use nodes::skip;
-use scopes::prevent_inline;
-use usages::add_write;
+use scope::add_write;
+use scope::find_binding_from_current;
+use scope::mark_this_sensitive;
+use scope::prevent_inline;
+use scope::store_inline_barrier;
 use words::arity_at;
 use words::form_at;
 use words::kind_at;

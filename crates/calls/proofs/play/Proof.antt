@@ -3,14 +3,14 @@ use mathlib.Core.Path.{_≡_, refl, _∙_}
 use Prim.Native.Nat.{_+_, _-_, _≤_}
 use native.Mathlib.Omega.{arith}
 use lib.ListN.{length}
-use Rattle.calls.specs.Ready.{Ready}
+use Rattle.nodes.specs.Nodes.{Planted}
 use Rattle.calls.proofs.Keep as keep
 use borrow.Author.Needs.{needs}
 use Rattle.calls.proofs.play.Statement.{statement}
 use Rattle.calls.proofs.play.Tie as tie
 
 abbrev Inv-loop : tie.InvT-loop
-Inv-loop w₀ s from n₀ i₀ w n i = Ready w × (length w ≡ length w₀) × (from ≤ i) × (i ≤ length s + 4)
+Inv-loop w₀ s from n₀ i₀ w n i = Planted w × (length w ≡ length w₀) × (from ≤ i) × (i ≤ length s + 4)
 
 abbrev μ-loop : tie.MeasureT-loop
 μ-loop w₀ s from n₀ i₀ w n i = length s + 4 - i
@@ -75,7 +75,7 @@ same-length c =
 returns : tie.Need-returns Inv-loop μ-loop
 returns c =
     let at-loop = c .before .before .before .before in
-    (omega (arith, at-loop .loop .inv .2), at-loop .loop .inv .0 .planted .good .long)
+    (omega (arith, at-loop .loop .inv .2), at-loop .loop .inv .0 .good .long)
 
 pub play-spec : {M : Type 1} → statement M
 play-spec =

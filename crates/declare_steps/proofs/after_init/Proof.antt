@@ -10,10 +10,6 @@ use Rattle.tree.specs.Tree.{Core}
 use borrow.Author.Needs.{needs}
 use Rattle.declare_steps.proofs.after_init.Statement.{statement}
 use Rattle.declare_steps.proofs.after_init.Tie as tie
-use Rattle.declare_steps.proofs.after_init.Reads as reads
-use Rattle.declare_steps.proofs.after_init.Lts as lts
-use Rattle.declare_steps.proofs.cut_init.Reads as cut-init-reads
-use Rattle.declare_steps.proofs.take_init.Reads as take-init-reads
 
 take-init-requires : tie.Need-take-init-requires
 take-init-requires c κs =

@@ -3,8 +3,6 @@ use mathlib.Core.Path.{refl}
 use borrow.Author.Needs.{needs}
 use Rattle.declare_steps.proofs.answer.Statement.{statement}
 use Rattle.declare_steps.proofs.answer.Tie as tie
-use Rattle.declare_steps.proofs.answer.Reads as reads
-use Rattle.declare_steps.proofs.answer.Lts as lts
 
 enum-told : tie.Need-enum-told
 enum-told c = search needs

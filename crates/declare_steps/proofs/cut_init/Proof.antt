@@ -3,10 +3,6 @@ use Rattle.declare_steps.proofs.Ends as ends
 use borrow.Author.Needs.{needs}
 use Rattle.declare_steps.proofs.cut_init.Statement.{statement}
 use Rattle.declare_steps.proofs.cut_init.Tie as tie
-use Rattle.declare_steps.proofs.cut_init.Reads as reads
-use Rattle.declare_steps.proofs.cut_init.Lts as lts
-use Rattle.nodes.proofs.cut.Reads as cut-reads
-use Rattle.nodes.proofs.skip.Reads as skip-reads
 
 skip-requires : tie.Need-skip-requires
 skip-requires c κs =

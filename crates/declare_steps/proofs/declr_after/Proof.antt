@@ -9,10 +9,6 @@ use Rattle.declare_steps.specs.Steps.{declrAfter}
 use borrow.Author.Needs.{needs}
 use Rattle.declare_steps.proofs.declr_after.Statement.{statement}
 use Rattle.declare_steps.proofs.declr_after.Tie as tie
-use Rattle.declare_steps.proofs.declr_after.Reads as reads
-use Rattle.declare_steps.proofs.declr_after.Lts as lts
-use Rattle.declare_steps.proofs.after_bare.Reads as after-bare-reads
-use Rattle.declare_steps.proofs.after_init.Reads as after-init-reads
 
 after-bare-requires : tie.Need-after-bare-requires
 after-bare-requires c κs = search needs

@@ -11,9 +11,6 @@ use Rattle.tree.specs.Tree.{kind}
 use borrow.Author.Needs.{needs}
 use Rattle.declare_steps.proofs.is_cheap.Statement.{statement}
 use Rattle.declare_steps.proofs.is_cheap.Tie as tie
-use Rattle.declare_steps.proofs.is_cheap.Reads as reads
-use Rattle.declare_steps.proofs.is_cheap.Lts as lts
-use Rattle.words.proofs.kind_at.Reads as kind-at-reads
 
 kind-at-requires : tie.Need-kind-at-requires
 kind-at-requires c κs = search needs

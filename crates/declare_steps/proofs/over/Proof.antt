@@ -8,12 +8,6 @@ use Rattle.state.specs.State.{rest}
 use borrow.Author.Needs.{needs}
 use Rattle.declare_steps.proofs.over.Statement.{statement}
 use Rattle.declare_steps.proofs.over.Tie as tie
-use Rattle.declare_steps.proofs.over.Reads as reads
-use Rattle.declare_steps.proofs.over.Lts as lts
-use Rattle.declare_steps.proofs.answer.Reads as answer-reads
-use Rattle.declare_steps.proofs.over_none.Reads as over-none-reads
-use Rattle.declare_steps.proofs.over_some.Reads as over-some-reads
-use Rattle.nodes.proofs.skip.Reads as skip-reads
 
 over-none-requires : tie.Need-over-none-requires
 over-none-requires c κs =

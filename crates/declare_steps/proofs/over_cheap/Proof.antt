@@ -1,4 +1,9 @@
 -- Declared, and then marked if its value is prevented. Assumes nothing.
+use mathlib.Core.Option.{Option}
+use Rattle.definition.specs.Scope.{preventedO}
+use Rattle.scope.specs.Handles.{treeO}
+use Rattle.scope.proofs.Numbers as numbers
+use Rattle.declares.specs.declared.Init.the-variants.{Recorded}
 use mathlib.Core.Path.{sym, ap, _∙_}
 use mathlib.Core.List.{List}
 use Rattle.inits.proofs.Init as init
@@ -19,16 +24,11 @@ use Rattle.definition.specs.Scope.{Stack}
 use borrow.Author.Needs.{needs}
 use Rattle.declare_steps.proofs.over_cheap.Statement.{statement}
 use Rattle.declare_steps.proofs.over_cheap.Tie as tie
-use Rattle.declare_steps.proofs.over_cheap.Reads as reads
-use Rattle.declare_steps.proofs.over_cheap.Lts as lts
-use Rattle.declare_steps.proofs.declare_m.Reads as declare-m-reads
-use Rattle.declare_steps.proofs.prevent_if.Reads as prevent-if-reads
-use Rattle.look.proofs.is_inline_prevented.Reads as is-inline-prevented-reads
 
 declare-m-requires : tie.Need-declare-m-requires
 declare-m-requires c κs =
     let at-entry = c .before .before in
-    (at-entry .pre .0, at-entry .pre .1)
+    at-entry .pre .0
 
 enum-known-n : tie.Need-enum-known-n
 enum-known-n c = search needs
@@ -40,9 +40,8 @@ is-inline-prevented-requires : tie.Need-is-inline-prevented-requires
 is-inline-prevented-requires c κs =
     let at-enum-told = c .before in
     let at-declare-m = at-enum-told .before .before .before .before in
-    let at-entry = at-declare-m .before .before .before in
     let p = (rw (at-enum-told .enum-told .given .1) at (at-declare-m .declare-m .ensures)) in
-    (p .ok .planted .good, rw (acts.moves-count p) (at-entry .pre .1))
+    p .ok .planted .good
 
 prevent-if-requires : tie.Need-prevent-if-requires
 prevent-if-requires c κs =
@@ -61,7 +60,7 @@ returns c =
     let at-n = c .before in
     let at-declare-m = at-n .before .before .before .before in
     let at-entry = at-declare-m .before .before .before in
-    acts.moves-by (parts.cheap-then (at-entry .args .x) (typeOf (at-entry .args .kind)) (treeFrom (tree (at-entry .args .w .now)) (at-entry .args .e)) (rest (at-entry .args .w .now))) (acts.moves-stop (λ (u : Nothing) (s : St). when (isInlinePrevented (treeFrom (tree (at-entry .args .w .now)) (at-entry .args .e)) (s .stack)) (mark (preventInline (at-entry .args .x))) s) (rw (at-n .n .given .1) at (at-declare-m .declare-m .ensures)))
+    acts.moves-by (parts.cheap-then (at-entry .args .x) (typeOf (at-entry .args .kind)) (treeFrom (tree (at-entry .args .w .now)) (at-entry .args .e)) (rest (at-entry .args .w .now))) (acts.moves-stop (λ (u : Nothing) (s : St). when (isInlinePrevented (treeFrom (tree (at-entry .args .w .now)) (at-entry .args .e)) (s .stack)) (mark (preventInline (at-entry .args .x))) s) (rw (at-n .n .given .1) at (rw (sym (numbers.init-in (at-entry .args .w .now) (at-entry .args .e) Recorded (at-entry .pre .1))) at (at-declare-m .declare-m .ensures))))
 
 same-length-2 : tie.Need-same-length-2
 same-length-2 c =
@@ -76,8 +75,8 @@ returns-2 c =
     let at-enum-told = at-is-inline-prevented .before .before in
     let at-declare-m = at-enum-told .before .before .before .before in
     let at-entry = at-declare-m .before .before .before in
-    let p = (rw (at-enum-told .enum-told .given .1) at (at-declare-m .declare-m .ensures)) in
-    let e = at-is-inline-prevented .is-inline-prevented .ensures ∙ ap (λ (t : Tree). isInlinePrevented t (stack (at-declare-m .declare-m .last .0))) (init.node-from (at-declare-m .declare-m .last .0) (at-entry .args .e) ∙ ap (λ (ns : List Core). treeFrom ns (at-entry .args .e)) (p .nodes)) ∙ ap (λ (st : Stack). isInlinePrevented (treeFrom (tree (at-entry .args .w .now)) (at-entry .args .e)) st) (sym (acts.rest-stack (at-declare-m .declare-m .last .0))) in
+    let p = (rw (at-enum-told .enum-told .given .1) at (rw (sym (numbers.init-in (at-entry .args .w .now) (at-entry .args .e) Recorded (at-entry .pre .1))) at (at-declare-m .declare-m .ensures))) in
+    let e = at-is-inline-prevented .is-inline-prevented .ensures ∙ ap (λ (o : Option Tree). preventedO o (stack (at-declare-m .declare-m .last .0))) (ap (λ (ns : List Core). treeO ns (at-entry .args .e)) (p .nodes) ∙ numbers.tree-in (at-entry .args .w .now) (at-entry .args .e) (at-entry .pre .1)) ∙ ap (λ (st : Stack). isInlinePrevented (treeFrom (tree (at-entry .args .w .now)) (at-entry .args .e)) st) (sym (acts.rest-stack (at-declare-m .declare-m .last .0))) in
     acts.moves-by (parts.cheap-then (at-entry .args .x) (typeOf (at-entry .args .kind)) (treeFrom (tree (at-entry .args .w .now)) (at-entry .args .e)) (rest (at-entry .args .w .now))) (acts.moves-then (λ (u : Nothing) (s : St). when (isInlinePrevented (treeFrom (tree (at-entry .args .w .now)) (at-entry .args .e)) (s .stack)) (mark (preventInline (at-entry .args .x))) s) p (rw e at (at-prevent-if .prevent-if .ensures)))
 
 pub over-cheap-spec : {M : Type 1} → statement M

@@ -1,8 +1,11 @@
 -- A constant without a value is not declared. Assumes nothing.
+use Rattle.scope.proofs.Numbers as numbers
+use Rattle.words.specs.Layout.{tree}
+use Rattle.scope.specs.Handles.{treeO}
 use mathlib.Core.Path.{sym, ap, _∙_}
 use native.Mathlib.Omega.{arith}
 use lib.ListN.{getD}
-use Rattle.declare_steps.proofs.Init as codes
+use Rattle.inits.proofs.Codes as codes
 use Rattle.declare_steps.proofs.Acts as acts
 use Rattle.declare_steps.proofs.Parts as parts
 use Rattle.state.specs.State.{rest}
@@ -11,10 +14,6 @@ use Rattle.declares.specs.Kinds.{typeOf}
 use borrow.Author.Needs.{needs}
 use Rattle.declare_steps.proofs.over_none.Statement.{statement}
 use Rattle.declare_steps.proofs.over_none.Tie as tie
-use Rattle.declare_steps.proofs.over_none.Reads as reads
-use Rattle.declare_steps.proofs.over_none.Lts as lts
-use Rattle.declare_steps.proofs.declare_m.Reads as declare-m-reads
-use Rattle.declare_steps.proofs.type_of.Reads as type-of-reads
 
 slice-read-k : tie.Need-slice-read-k
 slice-read-k c = search needs
@@ -39,7 +38,7 @@ returns-2 c =
     let at-type-of = at-declare-m .before .before in
     let at-if1 = at-type-of .before in
     let at-entry = at-if1 .before .before .before in
-    acts.moves-by (parts.none-declared (at-entry .args .x) (rest (at-entry .args .w .now)) (typeOf (at-type-of .type-of .result)) (at-type-of .type-of .ensures ∙ sym (parts.rest-kind (at-entry .args .w .now))) (ap isConst (parts.rest-kind (at-entry .args .w .now)) ∙ codes.const-no (getD (at-entry .args .w .now) 8 0) (omega (arith, at-if1 .if1)))) (at-declare-m .declare-m .ensures)
+    acts.moves-by (parts.none-declared (at-entry .args .x) (rest (at-entry .args .w .now)) (typeOf (at-type-of .type-of .result)) (at-type-of .type-of .ensures ∙ sym (parts.rest-kind (at-entry .args .w .now))) (ap isConst (parts.rest-kind (at-entry .args .w .now)) ∙ codes.const-no (getD (at-entry .args .w .now) 8 0) (omega (arith, at-if1 .if1)))) (rw (numbers.init-none (treeO (tree (at-entry .args .w .now)) 0)) at (at-declare-m .declare-m .ensures))
 
 pub over-none-spec : {M : Type 1} → statement M
 over-none-spec =

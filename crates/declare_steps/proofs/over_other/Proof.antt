@@ -1,4 +1,6 @@
 -- Declared, and then marked if its value has a `this`. Assumes nothing.
+use Rattle.scope.proofs.Numbers as numbers
+use Rattle.declares.specs.declared.Init.the-variants.{Seen}
 use mathlib.Core.Path.{sym, ap, _∙_}
 use mathlib.Core.List.{List}
 use Rattle.declare_steps.proofs.Acts as acts
@@ -17,16 +19,11 @@ use Rattle.tree.specs.Combine.{_>>_}
 use borrow.Author.Needs.{needs}
 use Rattle.declare_steps.proofs.over_other.Statement.{statement}
 use Rattle.declare_steps.proofs.over_other.Tie as tie
-use Rattle.declare_steps.proofs.over_other.Reads as reads
-use Rattle.declare_steps.proofs.over_other.Lts as lts
-use Rattle.declare_steps.proofs.declare_m.Reads as declare-m-reads
-use Rattle.declare_steps.proofs.prevent_if.Reads as prevent-if-reads
-use Rattle.nodes.proofs.has_this.Reads as has-this-reads
 
 declare-m-requires : tie.Need-declare-m-requires
 declare-m-requires c κs =
     let at-entry = c .before .before in
-    (at-entry .pre .0, at-entry .pre .1)
+    at-entry .pre .0
 
 enum-known-n : tie.Need-enum-known-n
 enum-known-n c = search needs
@@ -59,7 +56,7 @@ returns c =
     let at-n = c .before in
     let at-declare-m = at-n .before .before .before .before in
     let at-entry = at-declare-m .before .before .before in
-    acts.moves-by (parts.other-then (at-entry .args .x) (typeOf (at-entry .args .kind)) (treeFrom (tree (at-entry .args .w .now)) (at-entry .args .e)) (rest (at-entry .args .w .now))) (acts.moves-stop (λ (u : Nothing). when (hasThis (treeFrom (tree (at-entry .args .w .now)) (at-entry .args .e))) (mark (preventInline (at-entry .args .x))) >> ret (hasThis (treeFrom (tree (at-entry .args .w .now)) (at-entry .args .e)))) (rw (at-n .n .given .1) at (at-declare-m .declare-m .ensures)))
+    acts.moves-by (parts.other-then (at-entry .args .x) (typeOf (at-entry .args .kind)) (treeFrom (tree (at-entry .args .w .now)) (at-entry .args .e)) (rest (at-entry .args .w .now))) (acts.moves-stop (λ (u : Nothing). when (hasThis (treeFrom (tree (at-entry .args .w .now)) (at-entry .args .e))) (mark (preventInline (at-entry .args .x))) >> ret (hasThis (treeFrom (tree (at-entry .args .w .now)) (at-entry .args .e)))) (rw (at-n .n .given .1) at (rw (sym (numbers.init-in (at-entry .args .w .now) (at-entry .args .e) Seen (at-entry .pre .1))) at (at-declare-m .declare-m .ensures))))
 
 same-length-2 : tie.Need-same-length-2
 same-length-2 c =
@@ -74,7 +71,7 @@ returns-2 c =
     let at-enum-told = at-has-this .before .before in
     let at-declare-m = at-enum-told .before .before .before .before in
     let at-entry = at-declare-m .before .before .before in
-    let p = (rw (at-enum-told .enum-told .given .1) at (at-declare-m .declare-m .ensures)) in
+    let p = (rw (at-enum-told .enum-told .given .1) at (rw (sym (numbers.init-in (at-entry .args .w .now) (at-entry .args .e) Seen (at-entry .pre .1))) at (at-declare-m .declare-m .ensures))) in
     let e = at-has-this .has-this .ensures ∙ ap (λ (ns : List Core). hasThis (treeFrom ns (at-entry .args .e))) (p .nodes) in
     rw (sym e) at (acts.moves-by (parts.other-then (at-entry .args .x) (typeOf (at-entry .args .kind)) (treeFrom (tree (at-entry .args .w .now)) (at-entry .args .e)) (rest (at-entry .args .w .now))) (acts.moves-then (λ (u : Nothing). when (hasThis (treeFrom (tree (at-entry .args .w .now)) (at-entry .args .e))) (mark (preventInline (at-entry .args .x))) >> ret (hasThis (treeFrom (tree (at-entry .args .w .now)) (at-entry .args .e)))) p (acts.moves-then (λ u. ret (hasThis (treeFrom (tree (at-entry .args .w .now)) (at-entry .args .e)))) (rw e at (at-prevent-if .prevent-if .ensures)) (acts.moves-self (at-prevent-if .prevent-if .ensures .ok .planted) (hasThis (treeFrom (tree (at-entry .args .w .now)) (at-entry .args .e)))))))
 

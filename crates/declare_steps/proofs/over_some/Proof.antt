@@ -3,7 +3,7 @@ use mathlib.Core.Path.{sym, ap, _∙_}
 use mathlib.Core.Bool.{false}
 use native.Mathlib.Omega.{arith}
 use lib.ListN.{getD}
-use Rattle.declare_steps.proofs.Init as codes
+use Rattle.inits.proofs.Codes as codes
 use Rattle.declare_steps.proofs.Acts as acts
 use Rattle.declare_steps.proofs.Parts as parts
 use Rattle.words.specs.Layout.{tree}
@@ -14,14 +14,6 @@ use Rattle.declares.specs.Kinds.{typeOf}
 use borrow.Author.Needs.{needs}
 use Rattle.declare_steps.proofs.over_some.Statement.{statement}
 use Rattle.declare_steps.proofs.over_some.Tie as tie
-use Rattle.declare_steps.proofs.over_some.Reads as reads
-use Rattle.declare_steps.proofs.over_some.Lts as lts
-use Rattle.declare_steps.proofs.answer.Reads as answer-reads
-use Rattle.declare_steps.proofs.is_cheap.Reads as is-cheap-reads
-use Rattle.declare_steps.proofs.over_cheap.Reads as over-cheap-reads
-use Rattle.declare_steps.proofs.over_const.Reads as over-const-reads
-use Rattle.declare_steps.proofs.over_other.Reads as over-other-reads
-use Rattle.declare_steps.proofs.type_of.Reads as type-of-reads
 
 slice-read-k : tie.Need-slice-read-k
 slice-read-k c = search needs

@@ -8,9 +8,6 @@ use Rattle.definition.specs.Walk.{when, mark}
 use borrow.Author.Needs.{needs}
 use Rattle.declare_steps.proofs.prevent_if.Statement.{statement}
 use Rattle.declare_steps.proofs.prevent_if.Tie as tie
-use Rattle.declare_steps.proofs.prevent_if.Reads as reads
-use Rattle.declare_steps.proofs.prevent_if.Lts as lts
-use Rattle.scopes.proofs.prevent_inline.Reads as prevent-inline-reads
 
 prevent-inline-requires : tie.Need-prevent-inline-requires
 prevent-inline-requires c κs = search needs

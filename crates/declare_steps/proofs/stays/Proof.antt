@@ -1,4 +1,5 @@
 -- Marked, or another `this`. Assumes nothing.
+use Rattle.scope.proofs.Numbers as numbers
 use mathlib.Core.Path.{sym, ap, _∙_}
 use mathlib.Core.Bool.{not}
 use mathlib.Core.Option.{some}
@@ -16,10 +17,6 @@ use Rattle.definition.specs.Scope.{findBinding, hasSameThis}
 use Rattle.definition.specs.Walk.{stays}
 use Rattle.declare_steps.proofs.stays.Statement.{statement}
 use Rattle.declare_steps.proofs.stays.Tie as tie
-use Rattle.declare_steps.proofs.stays.Reads as reads
-use Rattle.declare_steps.proofs.stays.Lts as lts
-use Rattle.look.proofs.has_same_this.Reads as has-same-this-reads
-use Rattle.look.proofs.ident_prevented.Reads as ident-prevented-reads
 
 ident-prevented-requires : tie.Need-ident-prevented-requires
 ident-prevented-requires c κs =
@@ -42,7 +39,7 @@ returns-2 c =
 has-same-this-requires : tie.Need-has-same-this-requires
 has-same-this-requires c κs =
     let at-entry = c .before .before .before .before in
-    (at-entry .pre .0 .good, parts.some-trees (at-entry .args .w .now) (at-entry .args .i) (omega (arith, at-entry .pre .1, c .if2)))
+    at-entry .pre .0 .good
 
 returns-3 : tie.Need-returns-3
 returns-3 c =
@@ -50,7 +47,7 @@ returns-3 c =
     let at-if1 = at-if2 .before in
     let at-ident-prevented = at-if1 .before in
     let at-entry = at-ident-prevented .before .before in
-    ap not (c .has-same-this .ensures ∙ ap (λ (t : Tree). hasSameThis (findBinding (at-entry .args .x) (stack (at-entry .args .w .now))) (some t)) (init.node-from (at-entry .args .w .now) (at-entry .args .i))) ∙ sym (ap (λ (ts : Forest). stays (named (at-entry .args .x)) ts (stack (at-entry .args .w .now))) (parts.forest-some (tree (at-entry .args .w .now)) (at-entry .args .n) (at-entry .args .i) (omega (arith, at-entry .pre .1, at-if2 .if2)) (omega (arith, at-entry .pre .1, at-if2 .if2))) ∙ parts.stays-some (at-entry .args .x) (stack (at-entry .args .w .now)) (treeFrom (tree (at-entry .args .w .now)) (at-entry .args .i)) _ (sym (at-ident-prevented .ident-prevented .ensures) ∙ at-if1 .if1 .left))
+    ap not (c .has-same-this .ensures ∙ ap (hasSameThis (findBinding (at-entry .args .x) (stack (at-entry .args .w .now)))) (numbers.tree-in (at-entry .args .w .now) (at-entry .args .i) (parts.some-trees (at-entry .args .w .now) (at-entry .args .i) (omega (arith, at-entry .pre .1, at-if2 .if2))))) ∙ sym (ap (λ (ts : Forest). stays (named (at-entry .args .x)) ts (stack (at-entry .args .w .now))) (parts.forest-some (tree (at-entry .args .w .now)) (at-entry .args .n) (at-entry .args .i) (omega (arith, at-entry .pre .1, at-if2 .if2)) (omega (arith, at-entry .pre .1, at-if2 .if2))) ∙ parts.stays-some (at-entry .args .x) (stack (at-entry .args .w .now)) (treeFrom (tree (at-entry .args .w .now)) (at-entry .args .i)) _ (sym (at-ident-prevented .ident-prevented .ensures) ∙ at-if1 .if1 .left))
 
 pub stays-spec : {M : Type 1} → statement M
 stays-spec =

@@ -1,4 +1,6 @@
 -- Declared again, or nothing. Assumes nothing.
+use Rattle.scope.proofs.Numbers as numbers
+use Rattle.declares.specs.declared.Init.the-variants.{Recorded}
 use mathlib.Core.Path.{refl, sym, _∙_}
 use Rattle.declare_steps.proofs.Acts as acts
 use Rattle.declare_steps.proofs.Parts as parts
@@ -8,10 +10,6 @@ use Rattle.state.specs.State.{rest}
 use Rattle.declares.specs.Kinds.{typeOf}
 use Rattle.declare_steps.proofs.take_ident.Statement.{statement}
 use Rattle.declare_steps.proofs.take_ident.Tie as tie
-use Rattle.declare_steps.proofs.take_ident.Reads as reads
-use Rattle.declare_steps.proofs.take_ident.Lts as lts
-use Rattle.declare_steps.proofs.declare_m.Reads as declare-m-reads
-use Rattle.inits.proofs.is_ident.Reads as is-ident-reads
 
 is-ident-requires : tie.Need-is-ident-requires
 is-ident-requires c κs =
@@ -21,7 +19,7 @@ is-ident-requires c κs =
 declare-m-requires : tie.Need-declare-m-requires
 declare-m-requires c κs =
     let at-entry = c .before .before .before .before .before in
-    (at-entry .pre .0, at-entry .pre .1)
+    at-entry .pre .0
 
 same-length : tie.Need-same-length
 same-length c =
@@ -34,7 +32,7 @@ returns c =
     let at-if1 = at-declare-m .before .before in
     let at-is-ident = at-if1 .before in
     let at-entry = at-is-ident .before .before .before in
-    acts.moves-by (parts.ident-yes (at-entry .args .x) (typeOf (at-entry .args .kind)) (treeFrom (tree (at-entry .args .w .now)) (at-entry .args .e)) (rest (at-entry .args .w .now)) (sym (at-is-ident .is-ident .ensures) ∙ at-if1 .if1 .taken)) (at-declare-m .declare-m .ensures)
+    acts.moves-by (parts.ident-yes (at-entry .args .x) (typeOf (at-entry .args .kind)) (treeFrom (tree (at-entry .args .w .now)) (at-entry .args .e)) (rest (at-entry .args .w .now)) (sym (at-is-ident .is-ident .ensures) ∙ at-if1 .if1 .taken)) (rw (sym (numbers.init-in (at-entry .args .w .now) (at-entry .args .e) Recorded (at-entry .pre .1))) at (at-declare-m .declare-m .ensures))
 
 same-length-2 : tie.Need-same-length-2
 same-length-2 c = refl

@@ -11,10 +11,6 @@ use Rattle.declare_steps.specs.Steps.{takeOrMark}
 use borrow.Author.Needs.{needs}
 use Rattle.declare_steps.proofs.take_init.Statement.{statement}
 use Rattle.declare_steps.proofs.take_init.Tie as tie
-use Rattle.declare_steps.proofs.take_init.Reads as reads
-use Rattle.declare_steps.proofs.take_init.Lts as lts
-use Rattle.declare_steps.proofs.take_ident.Reads as take-ident-reads
-use Rattle.declare_steps.proofs.take_or_mark.Reads as take-or-mark-reads
 
 take-ident-requires : tie.Need-take-ident-requires
 take-ident-requires c κs =

@@ -1,4 +1,7 @@
 -- Marked if the initialiser is prevented. Assumes nothing.
+use mathlib.Core.Option.{Option}
+use Rattle.definition.specs.Scope.{preventedO}
+use Rattle.scope.proofs.Numbers as numbers
 use mathlib.Core.Path.{sym, ap, _∙_}
 use mathlib.Core.Bool.{false}
 use Rattle.inits.proofs.Init as init
@@ -15,16 +18,11 @@ use Rattle.tree.specs.Combine.{ret}
 use Rattle.definition.specs.Scope.{Stack}
 use Rattle.declare_steps.proofs.take_or_mark.Statement.{statement}
 use Rattle.declare_steps.proofs.take_or_mark.Tie as tie
-use Rattle.declare_steps.proofs.take_or_mark.Reads as reads
-use Rattle.declare_steps.proofs.take_or_mark.Lts as lts
-use Rattle.declare_steps.proofs.prevent_if.Reads as prevent-if-reads
-use Rattle.declare_steps.proofs.take_value.Reads as take-value-reads
-use Rattle.look.proofs.is_inline_prevented.Reads as is-inline-prevented-reads
 
 is-inline-prevented-requires : tie.Need-is-inline-prevented-requires
 is-inline-prevented-requires c κs =
     let at-entry = c .before .before in
-    (at-entry .pre .0 .good, at-entry .pre .1)
+    at-entry .pre .0 .good
 
 prevent-if-requires : tie.Need-prevent-if-requires
 prevent-if-requires c κs =
@@ -42,7 +40,7 @@ returns c =
     let at-if1 = at-prevent-if .before .before in
     let at-is-inline-prevented = at-if1 .before in
     let at-entry = at-is-inline-prevented .before .before .before in
-    acts.moves-by (parts.marked (at-entry .args .x) (typeOf (at-entry .args .kind)) (treeFrom (tree (at-entry .args .w .now)) (at-entry .args .e)) (rest (at-entry .args .w .now)) (ap (λ (st : Stack). isInlinePrevented (treeFrom (tree (at-entry .args .w .now)) (at-entry .args .e)) st) (acts.rest-stack (at-entry .args .w .now)) ∙ ap (λ (t : Tree). isInlinePrevented t (stack (at-entry .args .w .now))) (sym (init.node-from (at-entry .args .w .now) (at-entry .args .e))) ∙ sym (at-is-inline-prevented .is-inline-prevented .ensures) ∙ at-if1 .if1 .taken)) (acts.moves-then (λ u. ret false) (at-prevent-if .prevent-if .ensures) (acts.moves-self (at-prevent-if .prevent-if .ensures .ok .planted) false))
+    acts.moves-by (parts.marked (at-entry .args .x) (typeOf (at-entry .args .kind)) (treeFrom (tree (at-entry .args .w .now)) (at-entry .args .e)) (rest (at-entry .args .w .now)) (ap (λ (st : Stack). isInlinePrevented (treeFrom (tree (at-entry .args .w .now)) (at-entry .args .e)) st) (acts.rest-stack (at-entry .args .w .now)) ∙ ap (λ (o : Option Tree). preventedO o (stack (at-entry .args .w .now))) (sym (numbers.tree-in (at-entry .args .w .now) (at-entry .args .e) (at-entry .pre .1))) ∙ sym (at-is-inline-prevented .is-inline-prevented .ensures) ∙ at-if1 .if1 .taken)) (acts.moves-then (λ u. ret false) (at-prevent-if .prevent-if .ensures) (acts.moves-self (at-prevent-if .prevent-if .ensures .ok .planted) false))
 
 take-value-requires : tie.Need-take-value-requires
 take-value-requires c κs =
@@ -60,7 +58,7 @@ returns-2 c =
     let at-if1 = at-take-value .before .before in
     let at-is-inline-prevented = at-if1 .before in
     let at-entry = at-is-inline-prevented .before .before .before in
-    acts.moves-by (parts.unmarked (at-entry .args .x) (typeOf (at-entry .args .kind)) (treeFrom (tree (at-entry .args .w .now)) (at-entry .args .e)) (rest (at-entry .args .w .now)) (ap (λ (st : Stack). isInlinePrevented (treeFrom (tree (at-entry .args .w .now)) (at-entry .args .e)) st) (acts.rest-stack (at-entry .args .w .now)) ∙ ap (λ (t : Tree). isInlinePrevented t (stack (at-entry .args .w .now))) (sym (init.node-from (at-entry .args .w .now) (at-entry .args .e))) ∙ sym (at-is-inline-prevented .is-inline-prevented .ensures) ∙ at-if1 .if1 .left)) (at-take-value .take-value .ensures)
+    acts.moves-by (parts.unmarked (at-entry .args .x) (typeOf (at-entry .args .kind)) (treeFrom (tree (at-entry .args .w .now)) (at-entry .args .e)) (rest (at-entry .args .w .now)) (ap (λ (st : Stack). isInlinePrevented (treeFrom (tree (at-entry .args .w .now)) (at-entry .args .e)) st) (acts.rest-stack (at-entry .args .w .now)) ∙ ap (λ (o : Option Tree). preventedO o (stack (at-entry .args .w .now))) (sym (numbers.tree-in (at-entry .args .w .now) (at-entry .args .e) (at-entry .pre .1))) ∙ sym (at-is-inline-prevented .is-inline-prevented .ensures) ∙ at-if1 .if1 .left)) (at-take-value .take-value .ensures)
 
 pub take-or-mark-spec : {M : Type 1} → statement M
 take-or-mark-spec =

@@ -1,4 +1,6 @@
 -- Declared with its value, or nothing. Assumes nothing.
+use Rattle.scope.proofs.Numbers as numbers
+use Rattle.declares.specs.declared.Init.the-variants.{Recorded}
 use mathlib.Core.Path.{refl, sym, ap, _∙_}
 use mathlib.Core.Bool.{true, false}
 use Rattle.declare_steps.proofs.Acts as acts
@@ -12,11 +14,6 @@ use Rattle.declare_steps.specs.Steps.{wants}
 use borrow.Author.Needs.{needs}
 use Rattle.declare_steps.proofs.take_value.Statement.{statement}
 use Rattle.declare_steps.proofs.take_value.Tie as tie
-use Rattle.declare_steps.proofs.take_value.Reads as reads
-use Rattle.declare_steps.proofs.take_value.Lts as lts
-use Rattle.declare_steps.proofs.answer.Reads as answer-reads
-use Rattle.declare_steps.proofs.declare_m.Reads as declare-m-reads
-use Rattle.declare_steps.proofs.wanted.Reads as wanted-reads
 
 wanted-requires : tie.Need-wanted-requires
 wanted-requires c κs =
@@ -26,7 +23,7 @@ wanted-requires c κs =
 declare-m-requires : tie.Need-declare-m-requires
 declare-m-requires c κs =
     let at-entry = c .before .before .before .before .before in
-    (at-entry .pre .0, at-entry .pre .1)
+    at-entry .pre .0
 
 answer-requires : tie.Need-answer-requires
 answer-requires c κs = search needs
@@ -42,7 +39,7 @@ returns c =
     let at-if1 = at-declare-m .before .before in
     let at-wanted = at-if1 .before in
     let at-entry = at-wanted .before .before .before in
-    acts.moves-by (parts.value-yes (at-entry .args .x) (typeOf (at-entry .args .kind)) (treeFrom (tree (at-entry .args .w .now)) (at-entry .args .e)) (rest (at-entry .args .w .now)) (ap (λ (st : Stack). wants (at-entry .args .x) (treeFrom (tree (at-entry .args .w .now)) (at-entry .args .e)) st) (acts.rest-stack (at-entry .args .w .now)) ∙ sym (at-wanted .wanted .ensures) ∙ at-if1 .if1 .taken)) (acts.moves-answer (at-declare-m .declare-m .result) true (c .answer .result) (at-declare-m .declare-m .ensures) (c .answer .ensures))
+    acts.moves-by (parts.value-yes (at-entry .args .x) (typeOf (at-entry .args .kind)) (treeFrom (tree (at-entry .args .w .now)) (at-entry .args .e)) (rest (at-entry .args .w .now)) (ap (λ (st : Stack). wants (at-entry .args .x) (treeFrom (tree (at-entry .args .w .now)) (at-entry .args .e)) st) (acts.rest-stack (at-entry .args .w .now)) ∙ sym (at-wanted .wanted .ensures) ∙ at-if1 .if1 .taken)) (acts.moves-answer (at-declare-m .declare-m .result) true (c .answer .result) (rw (sym (numbers.init-in (at-entry .args .w .now) (at-entry .args .e) Recorded (at-entry .pre .1))) at (at-declare-m .declare-m .ensures)) (c .answer .ensures))
 
 same-length-2 : tie.Need-same-length-2
 same-length-2 c = refl

@@ -11,11 +11,6 @@ use Rattle.look.specs.Answers.{countOf}
 use borrow.Author.Needs.{needs}
 use Rattle.declare_steps.proofs.wanted.Statement.{statement}
 use Rattle.declare_steps.proofs.wanted.Tie as tie
-use Rattle.declare_steps.proofs.wanted.Reads as reads
-use Rattle.declare_steps.proofs.wanted.Lts as lts
-use Rattle.declare_steps.proofs.is_cheap.Reads as is-cheap-reads
-use Rattle.look.proofs.ident_prevented.Reads as ident-prevented-reads
-use Rattle.look.proofs.read_cnt.Reads as read-cnt-reads
 
 is-cheap-requires : tie.Need-is-cheap-requires
 is-cheap-requires c κs =

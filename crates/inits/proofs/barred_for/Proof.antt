@@ -6,10 +6,6 @@ use Rattle.inits.specs.Inits.{barredHere}
 use borrow.Author.Needs.{needs}
 use Rattle.inits.proofs.barred_for.Statement.{statement}
 use Rattle.inits.proofs.barred_for.Tie as tie
-use Rattle.inits.proofs.barred_for.Reads as reads
-use Rattle.inits.proofs.barred_for.Lts as lts
-use Rattle.inits.proofs.barred_here.Reads as barred-here-reads
-use Rattle.inits.proofs.works_with.Reads as works-with-reads
 
 works-with-requires : tie.Need-works-with-requires
 works-with-requires c κs = search needs

@@ -7,11 +7,6 @@ use Rattle.declares.specs.Kinds.{typeOf}
 use borrow.Author.Needs.{needs}
 use Rattle.inits.proofs.declare_bare.Statement.{statement}
 use Rattle.inits.proofs.declare_bare.Tie as tie
-use Rattle.inits.proofs.declare_bare.Reads as reads
-use Rattle.inits.proofs.declare_bare.Lts as lts
-use Rattle.declares.proofs.declare_with.Reads as declare-with-reads
-use Rattle.look.proofs.in_loop.Reads as in-loop-reads
-use Rattle.look.proofs.should_prevent_inline_because_of_scope.Reads as should-prevent-inline-because-of-scope-reads
 
 should-prevent-inline-because-of-scope-requires :
     tie.Need-should-prevent-inline-because-of-scope-requires

@@ -11,12 +11,6 @@ use Rattle.nodes.proofs.Splice.{subtree-one}
 use borrow.Author.Needs.{needs}
 use Rattle.inits.proofs.declare_value.Statement.{statement}
 use Rattle.inits.proofs.declare_value.Tie as tie
-use Rattle.inits.proofs.declare_value.Reads as reads
-use Rattle.inits.proofs.declare_value.Lts as lts
-use Rattle.declares.proofs.declare_with.Reads as declare-with-reads
-use Rattle.inits.proofs.prevented_at.Reads as prevented-at-reads
-use Rattle.look.proofs.in_loop.Reads as in-loop-reads
-use Rattle.nodes.proofs.skip.Reads as skip-reads
 
 skip-requires : tie.Need-skip-requires
 skip-requires c κs = search needs

@@ -6,9 +6,6 @@ use Rattle.inits.proofs.Init as init
 use borrow.Author.Needs.{needs}
 use Rattle.inits.proofs.is_ident.Statement.{statement}
 use Rattle.inits.proofs.is_ident.Tie as tie
-use Rattle.inits.proofs.is_ident.Reads as reads
-use Rattle.inits.proofs.is_ident.Lts as lts
-use Rattle.words.proofs.kind_at.Reads as kind-at-reads
 
 kind-at-requires : tie.Need-kind-at-requires
 kind-at-requires c κs = search needs

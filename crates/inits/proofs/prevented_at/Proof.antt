@@ -10,10 +10,6 @@ use Rattle.definition.specs.Scope.{isInlinePrevented}
 use borrow.Author.Needs.{needs}
 use Rattle.inits.proofs.prevented_at.Statement.{statement}
 use Rattle.inits.proofs.prevented_at.Tie as tie
-use Rattle.inits.proofs.prevented_at.Reads as reads
-use Rattle.inits.proofs.prevented_at.Lts as lts
-use Rattle.look.proofs.is_inline_prevented.Reads as is-inline-prevented-reads
-use Rattle.look.proofs.should_prevent_inline_because_of_scope.Reads as should-prevent-inline-because-of-scope-reads
 
 should-prevent-inline-because-of-scope-requires :
     tie.Need-should-prevent-inline-because-of-scope-requires

@@ -9,8 +9,6 @@ use Rattle.declares.specs.declared.VarType.{VarType}
 use borrow.Author.Needs.{needs}
 use Rattle.inits.proofs.works_with.Statement.{statement}
 use Rattle.inits.proofs.works_with.Tie as tie
-use Rattle.inits.proofs.works_with.Reads as reads
-use Rattle.inits.proofs.works_with.Lts as lts
 
 enum-told : tie.Need-enum-told
 enum-told c = search needs

@@ -21,7 +21,7 @@ returns c =
     let at-find-binding-from-current = c .before in
     let at-ident-at = at-find-binding-from-current .before .before in
     let at-entry = at-ident-at .before .before .before in
-    bound-act (at-entry .args .w .now) (at-entry .args .i) (at-ident-at .ident-at .result) (at-find-binding-from-current .find-binding-from-current .result) (at-entry .pre .1) (at-ident-at .ident-at .ensures) (at-find-binding-from-current .find-binding-from-current .ensures .0) (at-entry .pre .0) (c .if1 .taken)
+    bound-act (at-entry .args .w .now) (at-entry .args .i) (at-ident-at .ident-at .result) (at-find-binding-from-current .find-binding-from-current .result) (at-entry .pre .1) (at-ident-at .ident-at .ensures) (at-find-binding-from-current .find-binding-from-current .ensures .0) (at-find-binding-from-current .find-binding-from-current .ensures .1) (at-entry .pre .0) (c .if1 .taken)
 
 write-ident-requires : tie.Need-write-ident-requires
 write-ident-requires c κs =

@@ -161,7 +161,7 @@ returns c =
     let at-grow = at-grow2 .before .before .before .before in
     let at-clear = at-grow .before .before .before .before in
     let at-entry = at-clear .before .before .before in
-    keep.begun-ready (at-grow11 .grow11 .ensures _ (at-grow10 .grow10 .ensures _ (at-grow9 .grow9 .ensures _ (at-grow8 .grow8 .ensures _ (at-grow7 .grow7 .ensures _ (at-grow6 .grow6 .ensures _ (at-grow5 .grow5 .ensures _ (at-grow4 .grow4 .ensures _ (at-grow3 .grow3 .ensures _ (at-grow2 .grow2 .ensures _ (at-grow .grow .ensures _ (keep.cleared (at-entry .pre) (at-clear .clear .ensures)))))))))))))
+    keep.begun-planted (at-grow11 .grow11 .ensures _ (at-grow10 .grow10 .ensures _ (at-grow9 .grow9 .ensures _ (at-grow8 .grow8 .ensures _ (at-grow7 .grow7 .ensures _ (at-grow6 .grow6 .ensures _ (at-grow5 .grow5 .ensures _ (at-grow4 .grow4 .ensures _ (at-grow3 .grow3 .ensures _ (at-grow2 .grow2 .ensures _ (at-grow .grow .ensures _ (keep.cleared (at-entry .pre) (at-clear .clear .ensures)))))))))))))
 
 pub plant-spec : {M : Type 1} → statement M
 plant-spec =

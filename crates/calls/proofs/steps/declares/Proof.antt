@@ -1,7 +1,5 @@
--- A step keeps the tree. Assumes nothing.
 use Rattle.calls.proofs.Keep as keep
 use borrow.Author.Needs.{needs}
-use native.Mathlib.Omega.{arith}
 use Rattle.calls.proofs.steps.declares.Statement.{statement}
 use Rattle.calls.proofs.steps.declares.Tie as tie
 
@@ -18,11 +16,7 @@ node-of-requires : tie.Need-node-of-requires
 node-of-requires c κs = search needs
 
 declare-requires : tie.Need-declare-requires
-declare-requires c κs =
-    let at-node-of = c .before in
-    let at-init-of = at-node-of .before in
-    let r = at-init-of .before .before .before .pre in
-    (r .planted, keep.sited (at-init-of .init-of .result) _ _ (omega (arith, at-node-of .node-of .ensures, r .nodes)))
+declare-requires c κs = search needs
 
 number-requires : tie.Need-number-requires
 number-requires c κs = search needs
@@ -39,4 +33,12 @@ returns c =
 pub declares-spec : {M : Type 1} → statement M
 declares-spec =
     tie.close
-    (tie.spec cast-var-kind var-kind-requires init-of-requires node-of-requires declare-requires number-requires same-length returns)
+    (tie.spec
+    cast-var-kind
+    var-kind-requires
+    init-of-requires
+    node-of-requires
+    declare-requires
+    number-requires
+    same-length
+    returns)

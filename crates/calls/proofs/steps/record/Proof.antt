@@ -1,11 +1,10 @@
--- A step keeps the tree. Assumes nothing.
 use Rattle.calls.proofs.Keep as keep
 use borrow.Author.Needs.{needs}
 use Rattle.calls.proofs.steps.record.Statement.{statement}
 use Rattle.calls.proofs.steps.record.Tie as tie
 
-any-value-requires : tie.Need-any-value-requires
-any-value-requires c κs = search needs
+value-of-requires : tie.Need-value-of-requires
+value-of-requires c κs = search needs
 
 record-value-requires : tie.Need-record-value-requires
 record-value-requires c κs = search needs
@@ -19,10 +18,10 @@ same-length c = search needs
 returns : tie.Need-returns
 returns c =
     let at-record-value = c .before .before .before in
-    let at-entry = at-record-value .before .before .before .before .before in
+    let at-entry = at-record-value .before .before .before .before in
     keep.limited _ _ _ _ _ (at-record-value .record-value .result) (at-entry .pre) (at-record-value .record-value .ensures)
 
 pub record-spec : {M : Type 1} → statement M
 record-spec =
     tie.close
-    (tie.spec any-value-requires record-value-requires number-requires same-length returns)
+    (tie.spec value-of-requires record-value-requires number-requires same-length returns)

@@ -1,36 +1,22 @@
--- Recorded, and then lifted. Assumes nothing.
-use mathlib.Core.Path.{_≡_, ap}
-use native.Mathlib.Omega.{arith}
-use Prim.Native.Nat.{_-_}
-use Rattle.ident_steps.proofs.Assigns as assigns
-use Rattle.nodes.proofs.Splice.{inner-in, subtree-value, subtree-one}
+use mathlib.Core.Path.{_≡_, refl, sym, ap, _∙_}
 use mathlib.Core.List.{List}
 use mathlib.Core.Option.{some}
-use Rattle.tree.specs.Tree.{Tree, Core, count}
-use Rattle.words.specs.Layout.{tree, run}
-use Rattle.scopes.specs.State.{valueOf}
+use Rattle.tree.specs.Tree.{Tree, Core}
+use Rattle.words.specs.Layout.{tree}
 use Rattle.nodes.specs.Nodes.{treeFrom}
 use Rattle.nodes.proofs.Apart.{becomes-planted}
+use Rattle.nodes.proofs.Splice.{inner-in}
+use Rattle.scope.specs.Handles.{treeO}
+use Rattle.scope.proofs.Numbers as numbers
+use Rattle.ident_steps.proofs.Assigns as assigns
 use borrow.Author.Needs.{needs}
 use Rattle.ident_steps.proofs.assign.first_assigned.Statement.{statement}
 use Rattle.ident_steps.proofs.assign.first_assigned.Tie as tie
 
-skip-requires : tie.Need-skip-requires
-skip-requires c κs =
-    let at-entry = c .before .before in
-    (at-entry .pre .0, inner-in (at-entry .pre .0) (at-entry .pre .1))
-
-sub-m : tie.Need-sub-m
-sub-m c = search needs
-
 first-value-requires : tie.Need-first-value-requires
 first-value-requires c κs =
-    let at-skip = c .before in
-    let at-entry = at-skip .before .before .before in
-    let w = at-entry .args .w .now in
-    let e : Tree = treeFrom (tree w) (at-entry .args .j) in
-    let m : at-skip .skip .result - at-entry .args .j ≡ count e = omega (arith, at-skip .skip .ensures .0) in
-    (at-entry .pre .0 .good, omega (arith, at-skip .skip .ensures .1, at-skip .skip .ensures .2), rw m (subtree-one (at-entry .pre .0) (inner-in (at-entry .pre .0) (at-entry .pre .1))))
+    let at-entry = c .before .before in
+    at-entry .pre .0
 
 enum-known-n : tie.Need-enum-known-n
 enum-known-n c = search needs
@@ -42,7 +28,7 @@ lift-value-requires : tie.Need-lift-value-requires
 lift-value-requires c κs =
     let at-enum-told = c .before in
     let at-first-value = at-enum-told .before .before .before .before in
-    let at-entry = at-first-value .before .before .before .before .before in
+    let at-entry = at-first-value .before .before .before in
     let g = rw (at-enum-told .enum-told .given .1) at (at-first-value .first-value .ensures) in
     (becomes-planted (at-entry .pre .0) (g .0), rw (g .0 .tree) (at-entry .pre .1), at-entry .pre .2)
 
@@ -53,13 +39,11 @@ returns : tie.Need-returns
 returns c =
     let at-n = c .before in
     let at-first-value = at-n .before .before .before .before in
-    let at-skip = at-first-value .before .before in
-    let at-entry = at-skip .before .before .before in
+    let at-entry = at-first-value .before .before .before in
     let w = at-entry .args .w .now in
     let e : Tree = treeFrom (tree w) (at-entry .args .j) in
-    let m : at-skip .skip .result - at-entry .args .j ≡ count e = omega (arith, at-skip .skip .ensures .0) in
-    let v = valueOf (run w 16 (at-entry .args .j) (at-skip .skip .result - at-entry .args .j)) in
-    let q : v ≡ some e = rw m (subtree-value (at-entry .pre .0) (inner-in (at-entry .pre .0) (at-entry .pre .1))) in
+    let v = treeO (tree w) (at-entry .args .j) in
+    let q : v ≡ some e = numbers.tree-in w (at-entry .args .j) (inner-in (at-entry .pre .0) (at-entry .pre .1)) in
     assigns.first-stop (at-entry .args .p) (at-entry .args .x) e (at-entry .args .i) (at-entry .pre .0) (at-first-value .first-value .kept .0) v q (rw (at-n .n .given .1) at (at-first-value .first-value .ensures))
 
 same-length-2 : tie.Need-same-length-2
@@ -70,13 +54,11 @@ returns-2 c =
     let at-lift-value = c .before .before in
     let at-enum-told = at-lift-value .before .before in
     let at-first-value = at-enum-told .before .before .before .before in
-    let at-skip = at-first-value .before .before in
-    let at-entry = at-skip .before .before .before in
+    let at-entry = at-first-value .before .before .before in
     let w = at-entry .args .w .now in
     let e : Tree = treeFrom (tree w) (at-entry .args .j) in
-    let m : at-skip .skip .result - at-entry .args .j ≡ count e = omega (arith, at-skip .skip .ensures .0) in
-    let v = valueOf (run w 16 (at-entry .args .j) (at-skip .skip .result - at-entry .args .j)) in
-    let q : v ≡ some e = rw m (subtree-value (at-entry .pre .0) (inner-in (at-entry .pre .0) (at-entry .pre .1))) in
+    let v = treeO (tree w) (at-entry .args .j) in
+    let q : v ≡ some e = numbers.tree-in w (at-entry .args .j) (inner-in (at-entry .pre .0) (at-entry .pre .1)) in
     let g = rw (at-enum-told .enum-told .given .1) at (at-first-value .first-value .ensures) in
     assigns.first-on (at-entry .args .p) (at-entry .args .x) e (at-entry .args .i) (at-entry .pre .0) (at-first-value .first-value .kept .0) v q g (ap (λ (xs : List Core). treeFrom xs (at-entry .args .j)) (g .0 .tree)) (at-lift-value .lift-value .ensures)
 
@@ -84,8 +66,6 @@ pub first-assigned-spec : {M : Type 1} → statement M
 first-assigned-spec =
     tie.close
     (tie.spec
-    skip-requires
-    sub-m
     first-value-requires
     enum-known-n
     enum-told

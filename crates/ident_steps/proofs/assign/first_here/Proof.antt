@@ -1,110 +1,78 @@
--- The binding in the current scope, field by field. Assumes nothing.
 use mathlib.Core.Path.{_≡_, refl, sym, ap, _∙_}
-use native.Mathlib.Omega.{arith}
-use Prim.Native.Nat.{_-_}
-use Rattle.ident_steps.proofs.Assigns as assigns
 use mathlib.Core.Bool.{not}
-use mathlib.Core.Option.{none, some}
-use Rattle.definition.specs.Scope.{findBindingFromCurrent, isInlinePrevented}
-use Rattle.scopes.specs.State.{stack, bindAt}
-use Rattle.look.specs.Look.{atPlace, nodeTree}
-use Rattle.look.proofs.Facts.{at-is}
+use mathlib.Core.Option.{Option}
+use Rattle.tree.specs.Tree.{Tree}
+use Rattle.definition.specs.Scope.{VarInfo, isInlinePrevented, preventedO}
+use Rattle.scopes.specs.State.{stack}
+use Rattle.look.specs.Look.{nodeTree}
+use Rattle.inits.proofs.Init.{node-from}
+use Rattle.scope.specs.Handles.{numbered}
+use Rattle.scope.proofs.Numbers as numbers
+use Rattle.ident_steps.specs.Steps.{firstTest}
+use Rattle.ident_steps.proofs.Assigns as assigns
 use borrow.Author.Needs.{needs}
 use Rattle.ident_steps.proofs.assign.first_here.Statement.{statement}
 use Rattle.ident_steps.proofs.assign.first_here.Tie as tie
 
 find-binding-from-current-requires : tie.Need-find-binding-from-current-requires
-find-binding-from-current-requires c κs =
-    let at-entry = c .before in
-    at-entry .pre .0
+find-binding-from-current-requires c κs = search needs
+
+is-undefined-requires : tie.Need-is-undefined-requires
+is-undefined-requires c κs = search needs
+
+var-inline-prevented-requires : tie.Need-var-inline-prevented-requires
+var-inline-prevented-requires c κs = search needs
 
 returns : tie.Need-returns
 returns c =
-    let at-find-binding-from-current = c .before in
+    let at-var-inline-prevented = c .before in
+    let at-if1 = at-var-inline-prevented .before in
+    let at-is-undefined = at-if1 .before in
+    let at-find-binding-from-current = at-is-undefined .before in
     let at-entry = at-find-binding-from-current .before .before in
     let w = at-entry .args .w .now in
-    let e : findBindingFromCurrent (at-entry .args .x) (stack w) ≡ none = at-find-binding-from-current .find-binding-from-current .ensures .0 ∙ ap (atPlace w) (c .if1 .taken) in
-    rw e refl
+    let o = numbered (stack w) (at-find-binding-from-current .find-binding-from-current .result) in
+    let q = isInlinePrevented (nodeTree w (at-entry .args .j)) (stack w) in
+    let e = ap (λ (o : Option VarInfo). firstTest o q) (at-find-binding-from-current .find-binding-from-current .ensures .0) ∙ assigns.first-is o q in
+    sym (e ∙ rw (sym (at-is-undefined .is-undefined .ensures) ∙ at-if1 .if1 .taken, sym (at-var-inline-prevented .var-inline-prevented .ensures) ∙ c .if2 .taken) refl)
 
-sub-is-undefined : tie.Need-sub-is-undefined
-sub-is-undefined c = search needs
-
-is-undefined-requires : tie.Need-is-undefined-requires
-is-undefined-requires c κs =
-    let at-find-binding-from-current = c .before in
-    let at-entry = at-find-binding-from-current .before .before in
-    (at-entry .pre .0, omega (arith, at-find-binding-from-current .find-binding-from-current .ensures .1, c .if1 .left))
-
-sub-var-inline-prevented : tie.Need-sub-var-inline-prevented
-sub-var-inline-prevented c = search needs
-
-var-inline-prevented-requires : tie.Need-var-inline-prevented-requires
-var-inline-prevented-requires c κs =
-    let at-if1 = c .before .before in
-    let at-find-binding-from-current = at-if1 .before in
-    let at-entry = at-find-binding-from-current .before .before in
-    (at-entry .pre .0, omega (arith, at-find-binding-from-current .find-binding-from-current .ensures .1, at-if1 .if1 .left))
+is-inline-prevented-requires : tie.Need-is-inline-prevented-requires
+is-inline-prevented-requires c κs = search needs
 
 returns-2 : tie.Need-returns-2
 returns-2 c =
-    let at-var-inline-prevented = c .before in
-    let at-if2 = at-var-inline-prevented .before in
-    let at-is-undefined = at-if2 .before in
-    let at-if1 = at-is-undefined .before in
-    let at-find-binding-from-current = at-if1 .before in
+    let at-if2 = c .before in
+    let at-var-inline-prevented = at-if2 .before in
+    let at-if1 = at-var-inline-prevented .before in
+    let at-is-undefined = at-if1 .before in
+    let at-find-binding-from-current = at-is-undefined .before in
     let at-entry = at-find-binding-from-current .before .before in
     let w = at-entry .args .w .now in
-    let r = at-find-binding-from-current .find-binding-from-current .result in
-    let b = bindAt w (r - 1) in
+    let o = numbered (stack w) (at-find-binding-from-current .find-binding-from-current .result) in
     let q = isInlinePrevented (nodeTree w (at-entry .args .j)) (stack w) in
-    let e : findBindingFromCurrent (at-entry .args .x) (stack w) ≡ some b = at-find-binding-from-current .find-binding-from-current .ensures .0 ∙ at-is w r (at-if1 .if1 .left) in
-    rw e (sym (assigns.first-held b q (sym (at-is-undefined .is-undefined .ensures) ∙ at-if2 .if2 .taken) (sym (at-var-inline-prevented .var-inline-prevented .ensures) ∙ c .if3 .taken)))
-
-is-inline-prevented-requires : tie.Need-is-inline-prevented-requires
-is-inline-prevented-requires c κs =
-    let at-entry = c .before .before .before .before .before .before .before in
-    (at-entry .pre .0, at-entry .pre .1)
+    let e = ap (λ (o : Option VarInfo). firstTest o q) (at-find-binding-from-current .find-binding-from-current .ensures .0) ∙ assigns.first-is o q in
+    let p = c .is-inline-prevented .ensures ∙ ap (λ (o : Option Tree). preventedO o (stack w)) (numbers.tree-in w (at-entry .args .j) (at-entry .pre .1)) ∙ ap (λ (t : Tree). isInlinePrevented t (stack w)) (sym (node-from w (at-entry .args .j))) in
+    ap not p ∙ sym (e ∙ rw (sym (at-is-undefined .is-undefined .ensures) ∙ at-if1 .if1 .taken, sym (at-var-inline-prevented .var-inline-prevented .ensures) ∙ at-if2 .if2 .left) refl)
 
 returns-3 : tie.Need-returns-3
 returns-3 c =
-    let at-if3 = c .before in
-    let at-var-inline-prevented = at-if3 .before in
-    let at-if2 = at-var-inline-prevented .before in
-    let at-is-undefined = at-if2 .before in
-    let at-if1 = at-is-undefined .before in
-    let at-find-binding-from-current = at-if1 .before in
-    let at-entry = at-find-binding-from-current .before .before in
-    let w = at-entry .args .w .now in
-    let r = at-find-binding-from-current .find-binding-from-current .result in
-    let b = bindAt w (r - 1) in
-    let q = isInlinePrevented (nodeTree w (at-entry .args .j)) (stack w) in
-    let e : findBindingFromCurrent (at-entry .args .x) (stack w) ≡ some b = at-find-binding-from-current .find-binding-from-current .ensures .0 ∙ at-is w r (at-if1 .if1 .left) in
-    rw e (ap not (c .is-inline-prevented .ensures) ∙ sym (assigns.first-by b q (sym (at-is-undefined .is-undefined .ensures) ∙ at-if2 .if2 .taken) (sym (at-var-inline-prevented .var-inline-prevented .ensures) ∙ at-if3 .if3 .left)))
-
-returns-4 : tie.Need-returns-4
-returns-4 c =
     let at-is-undefined = c .before in
-    let at-if1 = at-is-undefined .before in
-    let at-find-binding-from-current = at-if1 .before in
+    let at-find-binding-from-current = at-is-undefined .before in
     let at-entry = at-find-binding-from-current .before .before in
     let w = at-entry .args .w .now in
-    let r = at-find-binding-from-current .find-binding-from-current .result in
-    let b = bindAt w (r - 1) in
+    let o = numbered (stack w) (at-find-binding-from-current .find-binding-from-current .result) in
     let q = isInlinePrevented (nodeTree w (at-entry .args .j)) (stack w) in
-    let e : findBindingFromCurrent (at-entry .args .x) (stack w) ≡ some b = at-find-binding-from-current .find-binding-from-current .ensures .0 ∙ at-is w r (at-if1 .if1 .left) in
-    rw e (sym (assigns.first-not b q (sym (at-is-undefined .is-undefined .ensures) ∙ c .if2 .left)))
+    let e = ap (λ (o : Option VarInfo). firstTest o q) (at-find-binding-from-current .find-binding-from-current .ensures .0) ∙ assigns.first-is o q in
+    sym (e ∙ rw (sym (at-is-undefined .is-undefined .ensures) ∙ c .if1 .left) refl)
 
 pub first-here-spec : {M : Type 1} → statement M
 first-here-spec =
     tie.close
     (tie.spec
     find-binding-from-current-requires
-    returns
-    sub-is-undefined
     is-undefined-requires
-    sub-var-inline-prevented
     var-inline-prevented-requires
-    returns-2
+    returns
     is-inline-prevented-requires
-    returns-3
-    returns-4)
+    returns-2
+    returns-3)

@@ -58,13 +58,8 @@ skip-requires c κs =
 
 is-inline-prevented-requires : tie.Need-is-inline-prevented-requires
 is-inline-prevented-requires c κs =
-    let at-skip = c .before in
-    let at-if3 = at-skip .before .before in
-    let at-if2 = at-if3 .before in
-    let at-kind-at = at-if2 .before in
-    let at-if1 = at-kind-at .before .before in
-    let at-entry = at-if1 .before .before in
-    (at-entry .pre .0 .good, value-in (at-entry .pre .0) (at-entry .args .n) (at-entry .args .i) (at-entry .pre .1) (at-if1 .if1 .left) (sym (at-kind-at .kind-at .ensures) ∙ at-if2 .if2 .left) (at-if3 .if3 .left) (at-skip .skip .result) (at-skip .skip .ensures .0))
+    let at-entry = c .before .before .before .before .before .before .before .before .before in
+    at-entry .pre .0 .good
 
 ident-at-requires : tie.Need-ident-at-requires
 ident-at-requires c κs =

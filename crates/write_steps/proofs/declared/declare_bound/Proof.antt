@@ -1,8 +1,11 @@
 -- The node turned, the binding declared, the node turned back. Assumes nothing.
+use mathlib.Core.Path.{sym}
 use mathlib.Core.Logic.{inl}
 use native.Mathlib.Omega.{arith}
 use Rattle.declares.specs.Kinds.{typeOf}
 use Rattle.write_steps.proofs.Declares.{turned-in, bound-needs, bound-act}
+use Rattle.declares.specs.declared.Init.the-variants.{Recorded}
+use Rattle.scope.proofs.Numbers.{init-in}
 use borrow.Author.Needs.{needs}
 use Rattle.write_steps.proofs.declared.declare_bound.Statement.{statement}
 use Rattle.write_steps.proofs.declared.declare_bound.Tie as tie
@@ -20,8 +23,7 @@ turn-requires c κs =
 declare-requires : tie.Need-declare-requires
 declare-requires c κs =
     let at-turn = c .before .before .before in
-    let at-entry = at-turn .before .before .before .before .before in
-    (at-turn .turn .ensures .planted, turned-in (at-entry .pre .0) (at-entry .args .i) (at-entry .pre .1) (at-entry .pre .2) (at-turn .turn .ensures))
+    at-turn .turn .ensures .planted
 
 turn-requires-2 : tie.Need-turn-requires-2
 turn-requires-2 c κs =
@@ -29,7 +31,7 @@ turn-requires-2 c κs =
     let at-turn = at-declare .before .before .before .before in
     let at-ident-at = at-turn .before .before in
     let at-entry = at-ident-at .before .before .before in
-    bound-needs (at-entry .pre .0) (at-entry .args .i) (at-entry .pre .1) (at-entry .pre .2) (at-turn .turn .ensures) (at-declare .declare .last .0) (at-ident-at .ident-at .result) (typeOf (at-entry .args .kind)) (at-declare .declare .result) (at-ident-at .ident-at .ensures) (at-declare .declare .ensures)
+    bound-needs (at-entry .pre .0) (at-entry .args .i) (at-entry .pre .1) (at-entry .pre .2) (at-turn .turn .ensures) (at-declare .declare .last .0) (at-ident-at .ident-at .result) (typeOf (at-entry .args .kind)) (at-declare .declare .result) (at-ident-at .ident-at .ensures) (rw (sym (init-in (at-turn .turn .last .0) (at-entry .args .i) Recorded (turned-in (at-entry .pre .0) (at-entry .args .i) (at-entry .pre .1) (at-entry .pre .2) (at-turn .turn .ensures)))) at (at-declare .declare .ensures))
 
 number-requires : tie.Need-number-requires
 number-requires c κs = search needs
@@ -44,7 +46,7 @@ returns c =
     let at-turn = at-declare .before .before .before .before in
     let at-ident-at = at-turn .before .before in
     let at-entry = at-ident-at .before .before .before in
-    rw (c .number .ensures) (bound-act (at-entry .pre .0) (at-entry .args .i) (at-entry .pre .1) (at-entry .pre .2) (at-turn .turn .ensures) (at-declare .declare .last .0) (at-ident-at .ident-at .result) (typeOf (at-entry .args .kind)) (at-declare .declare .result) (at-ident-at .ident-at .ensures) (at-declare .declare .ensures) (at-turn2 .turn2 .ensures))
+    rw (c .number .ensures) (bound-act (at-entry .pre .0) (at-entry .args .i) (at-entry .pre .1) (at-entry .pre .2) (at-turn .turn .ensures) (at-declare .declare .last .0) (at-ident-at .ident-at .result) (typeOf (at-entry .args .kind)) (at-declare .declare .result) (at-ident-at .ident-at .ensures) (rw (sym (init-in (at-turn .turn .last .0) (at-entry .args .i) Recorded (turned-in (at-entry .pre .0) (at-entry .args .i) (at-entry .pre .1) (at-entry .pre .2) (at-turn .turn .ensures)))) at (at-declare .declare .ensures)) (at-turn2 .turn2 .ensures))
 
 pub declare-bound-spec : {M : Type 1} → statement M
 declare-bound-spec =

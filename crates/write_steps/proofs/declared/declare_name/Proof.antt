@@ -3,9 +3,11 @@ use mathlib.Core.Path.{_≡_, sym, _∙_}
 use mathlib.Core.Logic.{inl}
 use Prim.Native.Nat.{_+_}
 use native.Mathlib.Omega.{arith}
-use Rattle.words.specs.Layout.{nodeOf}
+use Rattle.words.specs.Layout.{nodeOf, tree}
 use Rattle.write_steps.proofs.Shapes.{no-child, child-here, child-in}
 use Rattle.write_steps.proofs.Declares.{declare-none, declare-other, declare-off, declare-on}
+use Rattle.scope.specs.Handles.{treeO}
+use Rattle.scope.proofs.Numbers.{init-none}
 use borrow.Author.Needs.{needs}
 use Rattle.write_steps.proofs.declared.declare_name.Statement.{statement}
 use Rattle.write_steps.proofs.declared.declare_name.Tie as tie
@@ -73,7 +75,7 @@ ident-at-requires c κs =
 declare-requires : tie.Need-declare-requires
 declare-requires c κs =
     let at-entry = c .before .before .before .before .before .before .before .before .before .before .before .before in
-    (at-entry .pre .0, tt)
+    at-entry .pre .0
 
 number-requires : tie.Need-number-requires
 number-requires c κs = search needs
@@ -91,7 +93,7 @@ returns-4 c =
     let at-if1 = at-kind-at .before .before in
     let at-arity-at = at-if1 .before in
     let at-entry = at-arity-at .before .before .before in
-    rw (c .number .ensures) (declare-on (at-entry .args .i) (at-entry .pre .0) (child-in (at-entry .pre .0) (at-entry .args .i) (at-entry .pre .1) (at-arity-at .arity-at .ensures) (at-if1 .if1 .left)) (child-here (at-entry .pre .0) (at-entry .args .i) (at-entry .pre .1) (at-arity-at .arity-at .ensures) (at-if1 .if1 .left)) (sym (at-kind-at .kind-at .ensures) ∙ at-if2 .if2 .left) (at-ident-at .ident-at .result) (at-declare .declare .result) (at-if3 .if3 .left) (at-ident-at .ident-at .ensures) (at-declare .declare .ensures))
+    rw (c .number .ensures) (declare-on (at-entry .args .i) (at-entry .pre .0) (child-in (at-entry .pre .0) (at-entry .args .i) (at-entry .pre .1) (at-arity-at .arity-at .ensures) (at-if1 .if1 .left)) (child-here (at-entry .pre .0) (at-entry .args .i) (at-entry .pre .1) (at-arity-at .arity-at .ensures) (at-if1 .if1 .left)) (sym (at-kind-at .kind-at .ensures) ∙ at-if2 .if2 .left) (at-ident-at .ident-at .result) (at-declare .declare .result) (at-if3 .if3 .left) (at-ident-at .ident-at .ensures) (rw (init-none (treeO (tree (at-entry .args .w .now)) 0)) at (at-declare .declare .ensures)))
 
 pub declare-name-spec : {M : Type 1} → statement M
 declare-name-spec =

@@ -1,0 +1,162 @@
+-- A binding by its number, and a tree by its node. Assumes nothing.
+use mathlib.Core.Path.{_≡_, refl, sym, ap, _∙_}
+use mathlib.Core.List.{List, [], _∷_, _++_}
+use mathlib.Core.Option.{Option, none, some}
+use Prim.Native.Nat.{ℕ, zero, suc, _+_, _-_, _≤_, _<_, min}
+use native.Mathlib.Omega.{arith}
+use borrow.Author.Tests.{lt-ltb, le-ltb, ne-eqb}
+use mathlib.Core.Bool.{Bool, true, false, not, _&&_}
+use lib.ListN.{length, getD, getElem?, take, drop, length-take, take-append-drop}
+use lib.Dec.{ltb, eqb}
+use Rattle.tree.specs.Base.{pick}
+use Rattle.tree.specs.Tree.{Tree, Core}
+use Rattle.definition.specs.Scope as def
+use Rattle.definition.specs.Scope.{VarInfo, Stack, isParam, hasSameThis}
+use Rattle.words.specs.Tab.{tab, length-tab, getD-tab, sum-part}
+use Rattle.words.specs.Layout.{tree, run}
+use Rattle.words.proofs.Nodes.{tree-length, run-length}
+use Rattle.definition.specs.Tree.{countO}
+use Rattle.tree.specs.Tree.{plant, firstT, count}
+use Rattle.scopes.specs.State.{Good, Head, Fits, split, heads, flags, binds, consts, stack, bindAt, off, lenAt, runAt, valueOf, runOf, varTypeOf}
+use Rattle.scopes.proofs.Split.{noBind}
+use Rattle.records.proofs.Count.{length-binds, fits-binds, nodes-bind}
+use Rattle.look.specs.Look.{atPlace}
+use Rattle.nodes.specs.Nodes.{Planted, treeFrom, valueFrom}
+use Rattle.nodes.proofs.Splice.{subtree-value, subtree-one}
+use Rattle.inits.proofs.Init.{run-none, none-one}
+use Rattle.declares.specs.declared.Init.{Init}
+use Rattle.declares.specs.declared.Init.the-variants.{NoInit, Recorded, Seen}
+use Rattle.inits.specs.Inits.{initFrom, Sited}
+use Rattle.scope.specs.Handles.{bindingsOf, numbered, treeO, initO, Held, Sits, Runs}
+
+no-elements : {A : Type 0} (xs : List A) → length xs ≡ 0 → xs ≡ []
+no-elements [] e = refl
+no-elements (x ∷ xs) e = absurd (omega arith)
+
+-- the bindings of the scopes that a list is cut into are that list
+bindings-split : (hs : List Head) (fl : List ℕ) (bs : List VarInfo) (cs : List (ℕ × Option Tree)) → Fits hs (length bs) → bindingsOf (split hs fl bs cs) ≡ bs
+bindings-split [] fl bs cs f = sym (no-elements bs f)
+bindings-split (h ∷ hs) fl bs cs f =
+    let e : length (take (h .start) bs) ≡ h .start = length-take (h .start) bs ∙ min-is (h .start) (length bs) (f .0) in
+    ap (λ (xs : List VarInfo). xs ++ drop (h .start) bs) (bindings-split hs (take (h .start) fl) (take (h .start) bs) (take (h .cstart) cs) (rw e (f .1))) ∙ take-append-drop (h .start) bs
+  where
+    min-is : (a b : ℕ) → a ≤ b → min a b ≡ a
+    min-is a b l = omega arith
+
+pub bindings-stack : (w : List ℕ) → Good w → bindingsOf (stack w) ≡ binds w
+unfolding stack
+bindings-stack w g = bindings-split (heads w) (flags w) (binds w) (consts w) (fits-binds w g)
+
+elem-in : {A : Type 0} (xs : List A) (k : ℕ) (d : A) → k < length xs → getElem? xs k ≡ some (getD xs k d)
+elem-in [] k d h = absurd (omega arith)
+elem-in (x ∷ xs) zero d h = refl
+elem-in (x ∷ xs) (suc k) d h = elem-in xs k d (omega arith)
+
+elem-out : {A : Type 0} (xs : List A) (k : ℕ) → length xs ≤ k → getElem? xs k ≡ none
+elem-out [] k h = refl
+elem-out (x ∷ xs) zero h = absurd (omega arith)
+elem-out (x ∷ xs) (suc k) h = elem-out xs k (omega arith)
+
+module _ (w : List ℕ) (g : Good w) where
+  at-binds : (k : ℕ) → k < getD w 1 0 → getD (binds w) k noBind ≡ bindAt w k
+  unfolding binds
+  at-binds k h = getD-tab (getD w 1 0) (λ j. bindAt w j) k noBind h
+
+  -- a number that a binding has
+  pub number-in : (b : ℕ) → 0 < b → b ≤ getD w 1 0 → numbered (stack w) b ≡ some (bindAt w (b - 1))
+  number-in zero a h = absurd (omega arith)
+  number-in (suc k) a h =
+      let e : suc k - 1 ≡ k = omega arith in
+      rw (e, bindings-stack w g) (elem-in (binds w) k noBind (omega (arith, length-binds w g)) ∙ ap some (at-binds k (omega arith)))
+
+  -- and one that none has
+  pub number-out : (b : ℕ) → getD w 1 0 < b → numbered (stack w) b ≡ none
+  number-out zero h = absurd (omega arith)
+  number-out (suc k) h = rw (bindings-stack w g) (elem-out (binds w) k (omega (arith, length-binds w g)))
+
+  pub number-most : (r : ℕ) → r ≤ getD w 1 0 → r ≤ length (bindingsOf (stack w))
+  number-most r h = rw (bindings-stack w g) (omega (arith, length-binds w g))
+
+  -- a place in the words is a number
+  pub number-place : (r : ℕ) → r ≤ getD w 1 0 → atPlace w r ≡ numbered (stack w) r
+  number-place zero h = refl
+  number-place (suc k) h = let e : suc k - 1 ≡ k = omega arith in sym (number-in (suc k) (omega arith) h ∙ ap (λ (j : ℕ). some (bindAt w j)) e)
+
+-- a number that is not 0, and not past the last
+pub number-some : (st : Stack) (b : ℕ) → (b ≡ 0 → ⊥) → b ≤ length (bindingsOf st) → numbered st b ≡ some (getD (bindingsOf st) (b - 1) noBind)
+number-some st zero z h = absurd (z refl)
+number-some st (suc k) z h = let e : suc k - 1 ≡ k = omega arith in rw e (elem-in (bindingsOf st) k noBind (omega arith))
+
+-- the tree at a node
+module _ (w : List ℕ) (i : ℕ) where
+  pub tree-in : i < getD w 0 0 → treeO (tree w) i ≡ some (treeFrom (tree w) i)
+  tree-in h = rw (lt-ltb i (length (tree w)) (omega (arith, tree-length w))) refl
+
+  pub tree-out : getD w 0 0 ≤ i → treeO (tree w) i ≡ none
+  tree-out h = rw (le-ltb i (length (tree w)) (omega (arith, tree-length w))) refl
+
+-- a value that has nodes, and one that has none
+pub value-some : (xs : List Core) → 0 < length xs → valueOf xs ≡ some (firstT (plant xs))
+value-some [] h = absurd (omega arith)
+value-some (x ∷ xs) h = refl
+
+value-none : (xs : List Core) → length xs ≡ 0 → valueOf xs ≡ none
+value-none [] e = refl
+value-none (x ∷ xs) e = absurd (omega arith)
+
+-- the value of binding k
+module _ (w : List ℕ) (g : Good w) (k : ℕ) (h : k < getD w 1 0) where
+  pub bound-none : lenAt w k ≡ 0 → bindAt w k .value ≡ none
+  bound-none z = value-none (runAt w k) (run-length w 2064 (off w k) (lenAt w k) ∙ z)
+
+  pub bound-count : countO (bindAt w k .value) ≡ lenAt w k
+  bound-count = nodes-bind w g k h
+
+  module _ (at m : ℕ) (p : at ≡ off w k) (q : m ≡ lenAt w k) (z : 0 < m) where
+    pub bound-value : bindAt w k .value ≡ some (valueFrom w 2064 at m)
+    bound-value = rw (p, q) (value-some (runAt w k) (omega (arith, run-length w 2064 (off w k) (lenAt w k))))
+
+    pub bound-held : Held w 2064 at m
+    bound-held = record { some = z; inside = omega (arith, sum-part (λ j. lenAt w j) k (getD w 1 0) h, g .vals, p, q); whole = rw (p, q) (g .whole k h) }
+
+  pub bound-sits : (at : ℕ) → at ≡ off w k → Sits w (bindAt w k .value) at
+  bound-sits at p = record { is = λ z. bound-value at (countO (bindAt w k .value)) p bound-count z; held = λ z. bound-held at (countO (bindAt w k .value)) p bound-count z }
+
+pub none-sits : (w : List ℕ) (at : ℕ) → Sits w none at
+none-sits w at = record { is = λ z. absurd (omega arith); held = λ z. absurd (omega arith) }
+
+-- the nodes of a value that is given
+pub runs-none : (w : List ℕ) → Runs w none 0 0
+runs-none w = record { inside = omega arith; one = none-one w; is = ap valueOf (run-none w) }
+
+pub runs-tree : {w : List ℕ} (g : Planted w) {i : ℕ} (h : i < getD w 0 0) (m : ℕ) → m ≡ count (treeFrom (tree w) i) → i + m ≤ getD w 0 0 → Runs w (treeO (tree w) i) i m
+runs-tree {w} g {i} h m e l = record { inside = l; one = rw e (subtree-one g h); is = ap (λ (n : ℕ). valueOf (run w 16 i n)) e ∙ subtree-value g h ∙ sym (tree-in w i h) }
+
+-- the word of a parameter's type
+pub param-code : (n : ℕ) → eqb n 0 ≡ isParam (varTypeOf n)
+param-code zero = refl
+param-code (suc zero) = ne-eqb 1 0 (λ e. omega arith)
+param-code (suc (suc zero)) = ne-eqb 2 0 (λ e. omega arith)
+param-code (suc (suc (suc n))) = ne-eqb (suc (suc (suc n))) 0 (λ e. omega arith)
+
+-- has_same_this without an init
+pub same-none : (o : Option VarInfo) → hasSameThis o none ≡ true
+same-none none = refl
+same-none (some b) = go (b .thisSensitive)
+  where
+    go : (a : Bool) → not (a && false) ≡ true
+    go true = refl
+    go false = refl
+
+-- an init whose tree is in the state
+pub sited-in : (v : Init) (i n : ℕ) → i < n → Sited v i n
+sited-in NoInit i n h = tt
+sited-in Recorded i n h = h
+sited-in Seen i n h = h
+
+pub init-in : (w : List ℕ) (i : ℕ) (v : Init) → i < getD w 0 0 → initFrom v (treeFrom (tree w) i) ≡ initO v (treeO (tree w) i)
+init-in w i v h = sym (ap (initO v) (tree-in w i h))
+
+pub init-none : (o : Option Tree) → initO NoInit o ≡ def.noInit
+init-none none = refl
+init-none (some t) = refl

@@ -1,0 +1,36 @@
+use mathlib.Core.Path.{refl}
+use native.Mathlib.Omega.{arith}
+use lib.ListN.{length}
+use borrow.Author.Tests.{le-leb, lt-leb}
+use Rattle.scopes.specs.State.{stack}
+use Rattle.records.proofs.Listed as listed
+use Rattle.records.proofs.Count as count
+use borrow.Author.Needs.{needs}
+use Rattle.scope.proofs.open_kind.Statement.{statement}
+use Rattle.scope.proofs.open_kind.Tie as tie
+
+slice-read-if1 : tie.Need-slice-read-if1
+slice-read-if1 c = search needs
+
+returns : tie.Need-returns
+returns c =
+    let at-entry = c .before .before .before in
+    let w = at-entry .args .w .now in
+    (refl, le-leb 32 (length (stack w)) (omega (arith, count.depth-is w, c .if1 .taken)), listed.still-self w (at-entry .pre))
+
+open-requires : tie.Need-open-requires
+open-requires c κs = search needs
+
+same-length : tie.Need-same-length
+same-length c = search needs
+
+returns-2 : tie.Need-returns-2
+returns-2 c =
+    let at-open = c .before .before in
+    let at-if1 = at-open .before .before in
+    let at-entry = at-if1 .before .before .before in
+    let w = at-entry .args .w .now in
+    (at-open .«open» .ensures, lt-leb 32 (length (stack w)) (omega (arith, count.depth-is w, at-if1 .if1 .left)))
+
+pub open-kind-spec : {M : Type 1} → statement M
+open-kind-spec = tie.close (tie.spec slice-read-if1 returns open-requires same-length returns-2)

@@ -1,0 +1,67 @@
+-- What a caller of scope.rs holds: a binding by its number, a tree by its first node, a recorded value by its place. Assumes nothing: these
+-- are definitions.
+use mathlib.Core.Path.{_≡_}
+use mathlib.Core.List.{List, [], _∷_, _++_}
+use mathlib.Core.Bool.{Bool, false}
+use mathlib.Core.Option.{Option, none, some}
+use Prim.Native.Nat.{ℕ, zero, suc, _+_, _≤_, _<_}
+use lib.Dec.{ltb}
+use lib.ListN.{length, getD, getElem?}
+use Rattle.tree.specs.Base.{pick}
+use Rattle.tree.specs.Tree.{Tree, Core}
+use Rattle.definition.specs.Scope as def
+use Rattle.definition.specs.Scope.{VarInfo, Stack, valueO}
+use Rattle.definition.specs.Tree.{countO}
+use Rattle.words.specs.Layout.{tree, run}
+use Rattle.scopes.specs.State.{stack, valueOf, runOf, Whole}
+use Rattle.nodes.specs.Nodes.{treeFrom, valueFrom}
+use Rattle.declares.specs.declared.Init.{Init}
+use Rattle.inits.specs.Inits.{initFrom}
+use Rattle.scope.specs.declared.Value.{Value}
+use Rattle.scope.specs.declared.Value.the-variants.{Nothing, At}
+
+-- all bindings, the root's first, in each scope the oldest first
+abbrev pub bindingsOf : Stack → List VarInfo
+bindingsOf [] = []
+bindingsOf (s ∷ st) = bindingsOf st ++ s .bindings
+
+-- the binding of a number: 1 + its place among them; 0 and a number past the last are no binding's
+abbrev pub numbered : Stack → ℕ → Option VarInfo
+numbered st zero = none
+numbered st (suc k) = getElem? (bindingsOf st) k
+
+-- a test of it
+abbrev pub ofBinding : (VarInfo → Bool) → Option VarInfo → Bool
+ofBinding f none = false
+ofBinding f (some b) = f b
+
+-- the tree that begins at a node, none past the last
+abbrev pub treeO : List Core → ℕ → Option Tree
+treeO xs i = pick (ltb i (length xs)) (some (treeFrom xs i)) none
+
+-- a value that is given: none, or the tree at a node
+abbrev pub valueAt : List Core → Value → Option Tree
+valueAt xs Nothing = none
+valueAt xs (At i) = treeO xs i
+
+-- an init that is given, which is none without a tree
+abbrev pub initO : Init → Option Tree → def.Init
+initO v none = def.noInit
+initO v (some t) = initFrom v t
+
+-- m nodes from `at` on of a store of values are the nodes of one tree
+pub record Held (w : List ℕ) (base at m : ℕ) : Type 0 where
+  pub some : 0 < m
+  pub inside : at + m ≤ 512
+  pub whole : Whole (run w base at m)
+
+-- the value of a binding, if it has one, is held from `at` on
+pub record Sits (w : List ℕ) (v : Option Tree) (at : ℕ) : Type 0 where
+  pub is : 0 < countO v → v ≡ some (valueFrom w 2064 at (countO v))
+  pub held : 0 < countO v → Held w 2064 at (countO v)
+
+-- the nodes of a value that is given
+pub record Runs (w : List ℕ) (v : Option Tree) (at m : ℕ) : Type 0 where
+  pub inside : at + m ≤ getD w 0 0
+  pub one : runOf (valueOf (run w 16 at m)) ≡ run w 16 at m
+  pub is : valueOf (run w 16 at m) ≡ v

@@ -1,0 +1,26 @@
+-- A step on the state of the pass that leaves the nodes alone. Assumes nothing: these are definitions.
+use mathlib.Core.Path.{_≡_}
+use mathlib.Core.List.{List}
+use Prim.Native.Nat.{ℕ}
+use Rattle.tree.specs.Tree.{Tree, node, nil}
+use Rattle.tree.specs.Combine.{Res, stop, done, Nothing}
+use Rattle.definition.specs.Walk.{St}
+use Rattle.words.specs.Layout.{tree}
+use Rattle.state.specs.State.{Ok}
+use Rattle.records.specs.declared.Step.{Step}
+use Rattle.records.specs.declared.Step.the-variants.{Done, Refused}
+
+-- the name of a declarator: only its number is looked at
+abbrev pub named : ℕ → Tree
+named x = node 20 0 x nil
+
+-- an answer
+abbrev pub doneOf : Step → St → Res St Nothing
+doneOf Done s = done s tt
+doneOf (Refused n) s = stop n
+
+-- m is what the definition does from the state of w, r the same by the step's answer
+pub record Moves {A : Type 0} (w u : List ℕ) (m r : Res St A) : Type 0 where
+  pub ok : Ok w u
+  pub nodes : tree u ≡ tree w
+  pub is : m ≡ r
