@@ -2,7 +2,6 @@
 ghost use Prim.Native.Nat.{_≤_, _<_};
 ghost use Rattle.nodes.specs.Nodes.{Planted};
 use look::bound_here;
-use look::idx_val;
 use look::in_loop;
 use records::Constant;
 use records::live;
@@ -13,6 +12,7 @@ use scope::find_binding_from_current;
 use scope::find_constant;
 use scope::has_same_this;
 use scope::ident_prevented;
+use scope::idx_val;
 use scope::is_inline_prevented;
 use scope::read_cnt;
 use scope::read_prevents_inlining;

@@ -3,7 +3,7 @@ ghost use mathlib.Core.Path.{_≡_};
 ghost use mathlib.Core.Bool.{true, false, _&&_, not};
 ghost use mathlib.Core.Option.{some};
 ghost use Prim.Native.Nat.{_+_, _-_, _≤_, _<_};
-ghost use lib.ListN.{getD, drop};
+ghost use lib.ListN.{drop};
 ghost use Rattle.tree.specs.Tree.{count, lengthF, plant};
 ghost use Rattle.tree.specs.Combine.{andThen, ret, done};
 ghost use Rattle.definition.specs.Tree.{isIdent, isCheap};
@@ -14,7 +14,7 @@ ghost use Rattle.scopes.specs.State.{Good, stack, varTypeOf};
 ghost use Rattle.records.specs.Steps.{Grown};
 ghost use Rattle.declares.specs.Kinds.{typeOf, aliasOf};
 ghost use Rattle.look.specs.Look.{idxHere};
-ghost use Rattle.nodes.specs.Nodes.{Planted, Child, Replants, cutAt, treeFrom, forestFrom};
+ghost use Rattle.nodes.specs.Nodes.{Planted, Child, Replants, cutAt, treeFrom, forestFrom, size};
 ghost use Rattle.state.specs.State.{rest, abs};
 ghost use Rattle.inits.specs.Inits.{initFrom, Sited, Valued, hasNone};
 ghost use Rattle.declare_steps.specs.Steps.{named, doneOf, toldOf, Moves, Did, afterOf, Spot, declrAfter, overNone, overConst, overCheap, overOther, wants, takeIdent, takeValue, takeOrMark, takeInit};
@@ -51,7 +51,7 @@ pub enum After {
 
 // A literal or an identifier.
 fn is_cheap(w: &[u32], i: usize) -> bool
-    requires { ⌜ (Planted (now w)) × (i < getD (now w) 0 0) ⌝ }
+    requires { ⌜ (Planted (now w)) × (i < size (now w)) ⌝ }
     ensures { λ r. ⌜ r ≡ isCheap (treeFrom (tree (now (w .entry))) i) ⌝ }
 {
     if kind_at(w, i) == 22 {
@@ -95,7 +95,7 @@ fn over_none(w: &mut [u32], x: u8) -> Step
 
 // A constant, recorded in the first run.
 fn over_const(w: &mut [u32], x: u8, e: usize) -> Step
-    requires { ⌜ (Planted (now w)) × (e < getD (now w) 0 0) ⌝ }
+    requires { ⌜ (Planted (now w)) × (e < size (now w)) ⌝ }
     ensures { λ r. ⌜ Moves (now (w .entry)) (now (w .exit)) (overConst x (treeFrom (tree (now (w .entry))) e) (rest (now (w .entry)))) (doneOf r (rest (now (w .exit)))) ⌝ }
 {
     if w[7] == 0 {
@@ -109,7 +109,7 @@ fn over_const(w: &mut [u32], x: u8, e: usize) -> Step
 
 // A literal or an identifier as initialiser.
 fn over_cheap(w: &mut [u32], x: u8, e: usize, kind: VarType) -> Step
-    requires { ⌜ (Planted (now w)) × (e < getD (now w) 0 0) ⌝ }
+    requires { ⌜ (Planted (now w)) × (e < size (now w)) ⌝ }
     ensures { λ r. ⌜ Moves (now (w .entry)) (now (w .exit)) (overCheap x (typeOf kind) (treeFrom (tree (now (w .entry))) e) (rest (now (w .entry)))) (doneOf r (rest (now (w .exit)))) ⌝ }
 {
     match declare_m(w, x, Init::Recorded, e, false, kind) {
@@ -124,7 +124,7 @@ fn over_cheap(w: &mut [u32], x: u8, e: usize, kind: VarType) -> Step
 
 // Another initialiser: one with a `this` is not walked again.
 fn over_other(w: &mut [u32], x: u8, e: usize, kind: VarType) -> Told
-    requires { ⌜ (Planted (now w)) × (e < getD (now w) 0 0) ⌝ }
+    requires { ⌜ (Planted (now w)) × (e < size (now w)) ⌝ }
     ensures { λ r. ⌜ Moves (now (w .entry)) (now (w .exit)) (overOther x (typeOf kind) (treeFrom (tree (now (w .entry))) e) (rest (now (w .entry)))) (toldOf r (rest (now (w .exit)))) ⌝ }
 {
     match declare_m(w, x, Init::Seen, e, false, kind) {
@@ -139,7 +139,7 @@ fn over_other(w: &mut [u32], x: u8, e: usize, kind: VarType) -> Told
 
 // A declarator in Analysis, with the initialiser at e.
 fn over_some(w: &mut [u32], x: u8, e: usize) -> Told
-    requires { ⌜ (Planted (now w)) × (e < getD (now w) 0 0) ⌝ }
+    requires { ⌜ (Planted (now w)) × (e < size (now w)) ⌝ }
     ensures { λ r. ⌜ Moves (now (w .entry)) (now (w .exit)) (declrAnalysis (named x) (some (treeFrom (tree (now (w .entry))) e)) (rest (now (w .entry)))) (toldOf r (rest (now (w .exit)))) ⌝ }
 {
     let k = w[8];
@@ -184,7 +184,7 @@ pub fn stays(w: &[u32], x: u8, n: usize, i: usize) -> bool
 
 // An identifier as initialiser: x is declared again.
 fn take_ident(w: &mut [u32], x: u8, e: usize, kind: VarType) -> Step
-    requires { ⌜ (Planted (now w)) × (e < getD (now w) 0 0) ⌝ }
+    requires { ⌜ (Planted (now w)) × (e < size (now w)) ⌝ }
     ensures { λ r. ⌜ Moves (now (w .entry)) (now (w .exit)) (takeIdent x (typeOf kind) (treeFrom (tree (now (w .entry))) e) (rest (now (w .entry)))) (doneOf r (rest (now (w .exit)))) ⌝ }
 {
     if is_ident(w, e) {
@@ -195,7 +195,7 @@ fn take_ident(w: &mut [u32], x: u8, e: usize, kind: VarType) -> Step
 
 // Is x, with its initialiser at e, read where the initialiser may go.
 fn wanted(w: &[u32], x: u8, e: usize) -> bool
-    requires { ⌜ (Planted (now w)) × (e < getD (now w) 0 0) ⌝ }
+    requires { ⌜ (Planted (now w)) × (e < size (now w)) ⌝ }
     ensures { λ r. ⌜ r ≡ wants x (treeFrom (tree (now (w .entry))) e) (stack (now (w .entry))) ⌝ }
 {
     if is_cheap(w, e) {
@@ -212,7 +212,7 @@ fn wanted(w: &[u32], x: u8, e: usize) -> bool
 
 // x gets its initialiser as its value, if it is wanted.
 fn take_value(w: &mut [u32], x: u8, e: usize, kind: VarType) -> Told
-    requires { ⌜ (Planted (now w)) × (e < getD (now w) 0 0) ⌝ }
+    requires { ⌜ (Planted (now w)) × (e < size (now w)) ⌝ }
     ensures { λ r. ⌜ Moves (now (w .entry)) (now (w .exit)) (takeValue x (typeOf kind) (treeFrom (tree (now (w .entry))) e) (rest (now (w .entry)))) (toldOf r (rest (now (w .exit)))) ⌝ }
 {
     if wanted(w, x, e) {
@@ -224,7 +224,7 @@ fn take_value(w: &mut [u32], x: u8, e: usize, kind: VarType) -> Told
 
 // A prevented initialiser prevents x.
 fn take_or_mark(w: &mut [u32], x: u8, e: usize, kind: VarType) -> Told
-    requires { ⌜ (Planted (now w)) × (e < getD (now w) 0 0) ⌝ }
+    requires { ⌜ (Planted (now w)) × (e < size (now w)) ⌝ }
     ensures { λ r. ⌜ Moves (now (w .entry)) (now (w .exit)) (takeOrMark x (typeOf kind) (treeFrom (tree (now (w .entry))) e) (rest (now (w .entry)))) (toldOf r (rest (now (w .exit)))) ⌝ }
 {
     if is_inline_prevented(w, e) {
@@ -236,7 +236,7 @@ fn take_or_mark(w: &mut [u32], x: u8, e: usize, kind: VarType) -> Told
 
 // Is the initialiser at e to be taken out.
 fn take_init(w: &mut [u32], x: u8, e: usize, kind: VarType) -> Told
-    requires { ⌜ (Planted (now w)) × (e < getD (now w) 0 0) ⌝ }
+    requires { ⌜ (Planted (now w)) × (e < size (now w)) ⌝ }
     ensures { λ r. ⌜ Moves (now (w .entry)) (now (w .exit)) (takeInit x (typeOf kind) (treeFrom (tree (now (w .entry))) e) (rest (now (w .entry)))) (toldOf r (rest (now (w .exit)))) ⌝ }
 {
     match take_ident(w, x, e, kind) {

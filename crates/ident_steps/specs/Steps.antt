@@ -17,7 +17,7 @@ use Rattle.nodes.specs.Nodes.{valueFrom}
 use Rattle.records.specs.declared.Constant.{Constant}
 use Rattle.records.specs.declared.Constant.the-variants as constant
 use Rattle.state.specs.State.{abs, rest, modeOf, Ok, Turns}
-use Rattle.scope.specs.Handles.{Held}
+use Rattle.scope.specs.Handles.{Held, ofBindings, ofConstants}
 use Rattle.ident_steps.specs.declared.Next.{Next}
 use Rattle.ident_steps.specs.declared.Next.the-variants.{At, Refused}
 use Rattle.ident_steps.specs.declared.Found.{Found}
@@ -68,11 +68,11 @@ constantAt st i = pick (st .rest .isFirstRun) (findConstant (nodeAt st i .num) (
 abbrev pub Fated : List ℕ → ℕ → Found → Type 0
 Fated w i found.Nothing = fateAt (abs w) i ≡ stays
 Fated w i found.Void = fateAt (abs w) i ≡ undefined
-Fated w i (found.Value at m) = (fateAt (abs w) i ≡ inlined (valueFrom w 2064 at m)) × Held w 2064 at m
+Fated w i (found.Value at m) = (fateAt (abs w) i ≡ inlined (valueFrom w ofBindings at m)) × Held w ofBindings at m
 
 abbrev pub Named : List ℕ → ℕ → Constant → Type 0
 Named w i constant.Unknown = constantAt (abs w) i ≡ none
-Named w i (constant.At at m) = (constantAt (abs w) i ≡ some (valueFrom w 3088 at m)) × Held w 3088 at m
+Named w i (constant.At at m) = (constantAt (abs w) i ≡ some (valueFrom w ofConstants at m)) × Held w ofConstants at m
 
 -- e, with rows 8 and 9, in the place of the tree at i; by a value with the mark of a change; by a constant
 abbrev pub swapF : ℕ → Tree → One St

@@ -1,13 +1,12 @@
 // `=` in Inlining: the first value of what was undefined.
 ghost use mathlib.Core.Path.{_≡_};
 ghost use Prim.Native.Nat.{_≤_, _<_};
-ghost use lib.ListN.{getD};
 ghost use Rattle.definition.specs.Scope.{findBindingFromCurrent, isInlinePrevented};
 ghost use Rattle.flat.specs.WalkF.{afterAssignF};
 ghost use Rattle.words.specs.Layout.{tree};
 ghost use Rattle.scopes.specs.State.{Good, stack};
 ghost use Rattle.look.specs.Look.{nodeTree};
-ghost use Rattle.nodes.specs.Nodes.{Planted, Child, treeFrom};
+ghost use Rattle.nodes.specs.Nodes.{Planted, Child, treeFrom, size};
 ghost use Rattle.state.specs.State.{abs};
 ghost use Rattle.ident_steps.specs.Steps.{Goes, firstTest, firstF};
 use super::Next;
@@ -26,7 +25,7 @@ use words::kind_at;
 
 // Is x bound here and undefined, and neither it nor the value at node j prevented.
 fn first_here(w: &[u32], x: u8, j: usize) -> bool
-    requires { ⌜ (Good (now w)) × (j < getD (now w) 0 0) ⌝ }
+    requires { ⌜ (Good (now w)) × (j < size (now w)) ⌝ }
     ensures { λ r. ⌜ r ≡ firstTest (findBindingFromCurrent x (stack (now (w .entry)))) (isInlinePrevented (nodeTree (now (w .entry)) j) (stack (now (w .entry)))) ⌝ }
 {
     let b = find_binding_from_current(w, x);
@@ -52,7 +51,7 @@ fn first_assigned(w: &mut [u32], i: usize, j: usize, p: u32, x: u8) -> Next
 
 // The assignment at node i, at depth p, after its parts.
 pub fn after_assign(w: &mut [u32], i: usize, p: u32) -> Next
-    requires { ⌜ (Planted (now w)) × (i < getD (now w) 0 0) × (p ≤ 201) ⌝ }
+    requires { ⌜ (Planted (now w)) × (i < size (now w)) × (p ≤ 201) ⌝ }
     ensures { λ r. ⌜ Goes (now (w .entry)) (now (w .exit)) r (afterAssignF p i (abs (now (w .entry)))) ⌝ }
 {
     if arity_at(w, i) < 2 {

@@ -10,9 +10,9 @@ ghost use Rattle.definition.specs.Scope.{findBinding};
 ghost use Rattle.definition.specs.Walk.{opening, deeper};
 ghost use Rattle.words.specs.Layout.{nodeOf, coreFrom, yes, tree};
 ghost use Rattle.scopes.specs.State.{Good, Becomes, stack, scopeKindOf};
-ghost use Rattle.nodes.specs.Nodes.{Planted, Child, treeFrom, valueFrom};
+ghost use Rattle.nodes.specs.Nodes.{Planted, Child, treeFrom, valueFrom, size};
 ghost use Rattle.state.specs.State.{abs, Act};
-ghost use Rattle.scope.specs.Handles.{Held};
+ghost use Rattle.scope.specs.Handles.{Held, ofBindings, ofConstants};
 ghost use Rattle.ident_steps.specs.Steps.{Goes, analysisF, costly, testStack, Fated, Named, Landed, swapF, valueF, constF, Restored};
 
 pub mod assign;
@@ -87,7 +87,7 @@ fn test_read(w: &mut [u32], x: u8)
 
 // The identifier at node i is read, in Analysis.
 pub fn ident_analysis(w: &mut [u32], i: usize)
-    requires { ⌜ (Planted (now w)) × (i < getD (now w) 0 0) × (nodeOf (now w) i .kind ≡ 21) ⌝ }
+    requires { ⌜ (Planted (now w)) × (i < size (now w)) × (nodeOf (now w) i .kind ≡ 21) ⌝ }
     ensures { λ _. ⌜ Act (now (w .entry)) (now (w .exit)) 0 (analysisF i (abs (now (w .entry)))) ⌝ }
 {
     let x = ident_at(w, i);
@@ -98,7 +98,7 @@ pub fn ident_analysis(w: &mut [u32], i: usize)
 
 // What becomes of the identifier at node i, in Inlining.
 pub fn fate(w: &[u32], i: usize) -> Found
-    requires { ⌜ (Planted (now w)) × (i < getD (now w) 0 0) × (nodeOf (now w) i .kind ≡ 21) ⌝ }
+    requires { ⌜ (Planted (now w)) × (i < size (now w)) × (nodeOf (now w) i .kind ≡ 21) ⌝ }
     ensures { λ r. ⌜ Fated (now (w .entry)) i r ⌝ }
 {
     let x = ident_at(w, i);
@@ -121,7 +121,7 @@ pub fn fate(w: &[u32], i: usize) -> Found
 
 // Is the value at a place of the bindings' store the identifier at node i.
 fn same_ident(w: &[u32], i: usize, at: usize) -> bool
-    requires { ⌜ (Planted (now w)) × (i < getD (now w) 0 0) × (at < 512) ⌝ }
+    requires { ⌜ (Planted (now w)) × (i < size (now w)) × (at < 512) ⌝ }
     ensures { λ r. ⌜ r ≡ (eqb (coreFrom (now (w .entry)) (2064 + at * 2) .kind) 21 && eqb (coreFrom (now (w .entry)) (2064 + at * 2) .num) (nodeOf (now (w .entry)) i .num)) ⌝ }
 {
     if w[2064 + at * 2] % 64 == 21 {
@@ -143,8 +143,8 @@ fn landed(w: &mut [u32], j: usize, changed: bool) -> Next
 
 // A recorded value takes the place of the identifier at node i, a change unless it is the same identifier.
 pub fn inline_value(w: &mut [u32], i: usize, p: u32, at: usize, m: usize) -> Next
-    requires { ⌜ (Planted (now w)) × (i < getD (now w) 0 0) × (p ≤ 201) × (Held (now w) 2064 at m) ⌝ }
-    ensures { λ r. ⌜ Goes (now (w .entry)) (now (w .exit)) r (valueF p (valueFrom (now (w .entry)) 2064 at m) i (abs (now (w .entry)))) ⌝ }
+    requires { ⌜ (Planted (now w)) × (i < size (now w)) × (p ≤ 201) × (Held (now w) ofBindings at m) ⌝ }
+    ensures { λ r. ⌜ Goes (now (w .entry)) (now (w .exit)) r (valueF p (valueFrom (now (w .entry)) ofBindings at m) i (abs (now (w .entry)))) ⌝ }
 {
     let same = same_ident(w, i, at);
     match replace_at(w, i, p, 2064, at, m) {
@@ -155,7 +155,7 @@ pub fn inline_value(w: &mut [u32], i: usize, p: u32, at: usize, m: usize) -> Nex
 
 // `void 0` takes the place of the identifier at node i: no change.
 pub fn inline_undefined(w: &mut [u32], i: usize, p: u32) -> Next
-    requires { ⌜ (Planted (now w)) × (i < getD (now w) 0 0) ⌝ }
+    requires { ⌜ (Planted (now w)) × (i < size (now w)) ⌝ }
     ensures { λ r. ⌜ Goes (now (w .entry)) (now (w .exit)) r (swapF p voidZero i (abs (now (w .entry)))) ⌝ }
 {
     match put_void(w, i, p) {
@@ -166,7 +166,7 @@ pub fn inline_undefined(w: &mut [u32], i: usize, p: u32) -> Next
 
 // The constant that the identifier at node i names, in the first run.
 pub fn constant(w: &[u32], i: usize) -> Constant
-    requires { ⌜ (Planted (now w)) × (i < getD (now w) 0 0) × (nodeOf (now w) i .kind ≡ 21) ⌝ }
+    requires { ⌜ (Planted (now w)) × (i < size (now w)) × (nodeOf (now w) i .kind ≡ 21) ⌝ }
     ensures { λ r. ⌜ Named (now (w .entry)) i r ⌝ }
 {
     if w[7] == 0 {
@@ -178,8 +178,8 @@ pub fn constant(w: &[u32], i: usize) -> Constant
 
 // The value of a constant takes the place of the identifier at node i.
 pub fn inline_constant(w: &mut [u32], i: usize, p: u32, at: usize, m: usize) -> Next
-    requires { ⌜ (Planted (now w)) × (i < getD (now w) 0 0) × (p ≤ 201) × (Held (now w) 3088 at m) ⌝ }
-    ensures { λ r. ⌜ Goes (now (w .entry)) (now (w .exit)) r (constF p (valueFrom (now (w .entry)) 3088 at m) i (abs (now (w .entry)))) ⌝ }
+    requires { ⌜ (Planted (now w)) × (i < size (now w)) × (p ≤ 201) × (Held (now w) ofConstants at m) ⌝ }
+    ensures { λ r. ⌜ Goes (now (w .entry)) (now (w .exit)) r (constF p (valueFrom (now (w .entry)) ofConstants at m) i (abs (now (w .entry)))) ⌝ }
 {
     match replace_at(w, i, p, 3088, at, m) {
         Step::Refused(n) => Next::Refused(n),

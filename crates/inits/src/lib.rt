@@ -2,7 +2,6 @@
 ghost use mathlib.Core.Path.{_≡_};
 ghost use mathlib.Core.Bool.{true, false, _||_, _&&_};
 ghost use Prim.Native.Nat.{_+_, _-_, _≤_, _<_};
-ghost use lib.ListN.{getD};
 ghost use Rattle.definition.specs.Tree.{isIdent};
 ghost use Rattle.definition.specs.Scope.{declare, noInit, aliasFrom, isInlinePrevented, shouldPreventInlineBecauseOfScope};
 ghost use Rattle.words.specs.Layout.{tree};
@@ -10,7 +9,7 @@ ghost use Rattle.scopes.specs.State.{Good, stack, varTypeOf};
 ghost use Rattle.records.specs.Steps.{Grown};
 ghost use Rattle.declares.specs.Kinds.{typeOf, aliasOf};
 ghost use Rattle.look.specs.Look.{idxHere};
-ghost use Rattle.nodes.specs.Nodes.{Planted, treeFrom};
+ghost use Rattle.nodes.specs.Nodes.{Planted, treeFrom, size};
 ghost use Rattle.inits.specs.Inits.{initFrom, Sited, Valued, hasNone, placeHere, barredHere, worksWith};
 use declares::Alias;
 use declares::Init;
@@ -88,7 +87,7 @@ pub fn barred_for(w: &[u32], x: u8, y: u8, kind: VarType, alias: Alias) -> bool
 
 // Is x prevented from the start, as the value of the tree at i.
 pub fn prevented_at(w: &[u32], x: u8, i: usize) -> bool
-    requires { ⌜ (Planted (now w)) × (i < getD (now w) 0 0) ⌝ }
+    requires { ⌜ (Planted (now w)) × (i < size (now w)) ⌝ }
     ensures { λ r. ⌜ r ≡ (shouldPreventInlineBecauseOfScope x (stack (now (w .entry))) || isInlinePrevented (treeFrom (tree (now (w .entry))) i) (stack (now (w .entry)))) ⌝ }
 {
     if should_prevent_inline_because_of_scope(w, x) {
@@ -129,7 +128,7 @@ pub fn declare_value(
     undefined: bool,
     kind: VarType,
 ) -> Step
-    requires { ⌜ (Planted (now w)) × (i < getD (now w) 0 0) × (Valued v) × (isIdent (treeFrom (tree (now w)) i) ≡ false) ⌝ }
+    requires { ⌜ (Planted (now w)) × (i < size (now w)) × (Valued v) × (isIdent (treeFrom (tree (now w)) i) ≡ false) ⌝ }
     ensures { λ r. ⌜ Grown (now (w .entry)) (now (w .exit)) (declare x (initFrom v (treeFrom (tree (now (w .entry))) i)) undefined (typeOf kind) (stack (now (w .entry)))) r ⌝ }
 {
     let m = skip(w, i) - i;
@@ -153,7 +152,7 @@ pub fn declare_value(
 
 // Is the tree at i an identifier.
 pub fn is_ident(w: &[u32], i: usize) -> bool
-    requires { ⌜ (Planted (now w)) × (i < getD (now w) 0 0) ⌝ }
+    requires { ⌜ (Planted (now w)) × (i < size (now w)) ⌝ }
     ensures { λ r. ⌜ r ≡ isIdent (treeFrom (tree (now (w .entry))) i) ⌝ }
 {
     kind_at(w, i) == 21
@@ -200,7 +199,7 @@ fn alias_for(w: &[u32], y: u8) -> Alias
 
 // declare with the identifier at i as its init.
 fn declare_ident(w: &mut [u32], x: u8, v: Init, i: usize, undefined: bool, kind: VarType) -> Step
-    requires { ⌜ (Planted (now w)) × (i < getD (now w) 0 0) × (Valued v) × (isIdent (treeFrom (tree (now w)) i) ≡ true) ⌝ }
+    requires { ⌜ (Planted (now w)) × (i < size (now w)) × (Valued v) × (isIdent (treeFrom (tree (now w)) i) ≡ true) ⌝ }
     ensures { λ r. ⌜ Grown (now (w .entry)) (now (w .exit)) (declare x (initFrom v (treeFrom (tree (now (w .entry))) i)) undefined (typeOf kind) (stack (now (w .entry)))) r ⌝ }
 {
     let m = skip(w, i) - i;
@@ -214,7 +213,7 @@ fn declare_ident(w: &mut [u32], x: u8, v: Init, i: usize, undefined: bool, kind:
 
 // declare: the init is nothing, or the tree at i.
 pub fn declare(w: &mut [u32], x: u8, v: Init, i: usize, undefined: bool, kind: VarType) -> Step
-    requires { ⌜ (Planted (now w)) × (Sited v i (getD (now w) 0 0)) ⌝ }
+    requires { ⌜ (Planted (now w)) × (Sited v i (size (now w))) ⌝ }
     ensures { λ r. ⌜ Grown (now (w .entry)) (now (w .exit)) (declare x (initFrom v (treeFrom (tree (now (w .entry))) i)) undefined (typeOf kind) (stack (now (w .entry)))) r ⌝ }
 {
     if no_value(v) {

@@ -16,6 +16,10 @@ use Rattle.nodes.specs.declared.Tall.the-variants.{Behind, Over}
 use Rattle.nodes.specs.declared.Step.{Step}
 use Rattle.nodes.specs.declared.Step.the-variants.{Done, Refused}
 
+-- how many nodes the tree has
+abbrev pub size : List ℕ → ℕ
+size w = getD w 0 0
+
 -- the tree whose nodes begin at i, and the first n trees from there on
 unfoldable pub treeFrom : List Core → ℕ → Tree
 treeFrom xs i = firstT (plant (drop i xs))

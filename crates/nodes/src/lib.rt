@@ -1,13 +1,13 @@
 // Operations on the tree's nodes as they stand in the working words. Each contract speaks of the list of nodes.
 ghost use mathlib.Core.Path.{_≡_};
 ghost use Prim.Native.Nat.{ℕ, _+_, _*_, _-_, _≤_, _<_};
-ghost use lib.ListN.{length, getD, drop};
+ghost use lib.ListN.{length, drop};
 ghost use mathlib.Core.List.{[], _∷_, _++_};
 ghost use Rattle.tree.specs.Tree.{count, core};
 ghost use Rattle.definition.specs.Tree.{hasThis, voidZero};
 ghost use Rattle.words.specs.Layout.{tree, run};
 ghost use Rattle.scopes.specs.State.{Whole};
-ghost use Rattle.nodes.specs.Nodes.{Planted, Trees, Child, treeFrom, valueFrom, putAt, cutAt, Measured, Swapped, Apart, NodePut, Slid, Replants};
+ghost use Rattle.nodes.specs.Nodes.{Planted, Trees, Child, treeFrom, valueFrom, putAt, cutAt, Measured, Swapped, Apart, NodePut, Slid, Replants, size};
 use words::arity_at;
 use words::kind_at;
 use words::put4;
@@ -27,8 +27,8 @@ pub enum Step {
 
 // The index behind the subtree at i.
 pub fn skip(w: &[u32], i: usize) -> usize
-    requires { ⌜ (Planted (now w)) × (i < getD (now w) 0 0) ⌝ }
-    ensures { λ r. ⌜ (r ≡ i + count (treeFrom (tree (now (w .entry))) i)) × (i < r) × (r ≤ getD (now (w .entry)) 0 0) ⌝ }
+    requires { ⌜ (Planted (now w)) × (i < size (now w)) ⌝ }
+    ensures { λ r. ⌜ (r ≡ i + count (treeFrom (tree (now (w .entry))) i)) × (i < r) × (r ≤ size (now (w .entry))) ⌝ }
 {
     let mut at = i;
     let mut trees: usize = 1;
@@ -41,7 +41,7 @@ pub fn skip(w: &[u32], i: usize) -> usize
 
 // Does the subtree at i have a `this` outside of the functions in it.
 pub fn has_this(w: &[u32], i: usize) -> bool
-    requires { ⌜ (Planted (now w)) × (i < getD (now w) 0 0) ⌝ }
+    requires { ⌜ (Planted (now w)) × (i < size (now w)) ⌝ }
     ensures { λ r. ⌜ r ≡ hasThis (treeFrom (tree (now (w .entry))) i) ⌝ }
 {
     let mut at = i;
@@ -98,7 +98,7 @@ pub fn put_node(w: &mut [u32], k: usize, kind: u32, form: u32, arity: u32, num: 
 
 // Appends a node.
 pub fn add_node(w: &mut [u32], kind: u32, form: u32, arity: u32, num: u32)
-    requires { ⌜ (16384 ≤ length (now w)) × (getD (now w) 0 0 < 1024) × (kind < 64) × (form < 32) × (arity < 65536) ⌝ }
+    requires { ⌜ (16384 ≤ length (now w)) × (size (now w) < 1024) × (kind < 64) × (form < 32) × (arity < 65536) ⌝ }
     ensures { λ _. ⌜ (tree (now (w .exit)) ≡ tree (now (w .entry)) ++ (core kind form arity num ∷ [])) × (Apart (now (w .entry)) (now (w .exit))) ⌝ }
 {
     let n = w[0] as usize;
@@ -108,7 +108,7 @@ pub fn add_node(w: &mut [u32], kind: u32, form: u32, arity: u32, num: u32)
 
 // The nodes behind the `old` from i on move, so that there is place for m.
 fn slide(w: &mut [u32], i: usize, old: usize, m: usize)
-    requires { ⌜ (16384 ≤ length (now w)) × (getD (now w) 0 0 ≤ 1024) × (i + old ≤ getD (now w) 0 0) × (getD (now w) 0 0 + m ≤ 1024 + old) ⌝ }
+    requires { ⌜ (16384 ≤ length (now w)) × (size (now w) ≤ 1024) × (i + old ≤ size (now w)) × (size (now w) + m ≤ 1024 + old) ⌝ }
     ensures { λ _. ⌜ Slid (now (w .entry)) (now (w .exit)) i old m ⌝ }
 {
     if old == m {
@@ -121,7 +121,7 @@ fn slide(w: &mut [u32], i: usize, old: usize, m: usize)
 
 // The subtree of `old` nodes at i gives way to the m nodes from `at` on of the store at word `base`.
 pub fn put_run(w: &mut [u32], i: usize, old: usize, base: usize, at: usize, m: usize)
-    requires { ⌜ (Planted (now w)) × (i < getD (now w) 0 0) × (old ≡ count (treeFrom (tree (now w)) i)) × (getD (now w) 0 0 + m ≤ 1024 + old) × (2064 ≤ base) × (base + (at + m) * 2 ≤ length (now w)) × (0 < m) × (Whole (run (now w) base at m)) ⌝ }
+    requires { ⌜ (Planted (now w)) × (i < size (now w)) × (old ≡ count (treeFrom (tree (now w)) i)) × (size (now w) + m ≤ 1024 + old) × (2064 ≤ base) × (base + (at + m) * 2 ≤ length (now w)) × (0 < m) × (Whole (run (now w) base at m)) ⌝ }
     ensures { λ _. ⌜ Replants (now (w .entry)) (now (w .exit)) (putAt (tree (now (w .entry))) i (valueFrom (now (w .entry)) base at m)) ⌝ }
 {
     slide(w, i, old, m);
@@ -130,7 +130,7 @@ pub fn put_run(w: &mut [u32], i: usize, old: usize, base: usize, at: usize, m: u
 
 // The subtree at i, at depth p, gives way to a recorded value, if rows 8 and 9 let it.
 pub fn replace_at(w: &mut [u32], i: usize, p: u32, base: usize, at: usize, m: usize) -> Step
-    requires { ⌜ (Planted (now w)) × (i < getD (now w) 0 0) × (p ≤ 201) × (2064 ≤ base) × (base + (at + m) * 2 ≤ length (now w)) × (0 < m) × (Whole (run (now w) base at m)) ⌝ }
+    requires { ⌜ (Planted (now w)) × (i < size (now w)) × (p ≤ 201) × (2064 ≤ base) × (base + (at + m) * 2 ≤ length (now w)) × (0 < m) × (Whole (run (now w) base at m)) ⌝ }
     ensures { λ r. ⌜ Swapped r (now (w .entry)) (now (w .exit)) p i (valueFrom (now (w .entry)) base at m) ⌝ }
 {
     let n = w[0] as usize;
@@ -148,7 +148,7 @@ pub fn replace_at(w: &mut [u32], i: usize, p: u32, base: usize, at: usize, m: us
 
 // The subtree at i, at depth p, gives way to `void 0`: kind 30 with one child, kind 22.
 pub fn put_void(w: &mut [u32], i: usize, p: u32) -> Step
-    requires { ⌜ (Planted (now w)) × (i < getD (now w) 0 0) ⌝ }
+    requires { ⌜ (Planted (now w)) × (i < size (now w)) ⌝ }
     ensures { λ r. ⌜ Swapped r (now (w .entry)) (now (w .exit)) p i voidZero ⌝ }
 {
     if 199 < p {

@@ -11,23 +11,24 @@ use lib.Dec.{ltb, eqb}
 use Rattle.tree.specs.Base.{pick}
 use Rattle.tree.specs.Tree.{Tree, Core}
 use Rattle.definition.specs.Scope as def
-use Rattle.definition.specs.Scope.{VarInfo, Stack, isParam, hasSameThis}
+use Rattle.definition.specs.Scope.{VarInfo, Stack, findIn, isParam, hasSameThis}
 use Rattle.words.specs.Tab.{tab, length-tab, getD-tab, sum-part}
 use Rattle.words.specs.Layout.{tree, run}
 use Rattle.words.proofs.Nodes.{tree-length, run-length}
 use Rattle.definition.specs.Tree.{countO}
 use Rattle.tree.specs.Tree.{plant, firstT, count}
-use Rattle.scopes.specs.State.{Good, Head, Fits, split, heads, flags, binds, consts, stack, bindAt, off, lenAt, runAt, valueOf, runOf, varTypeOf}
-use Rattle.scopes.proofs.Split.{noBind}
+use Rattle.scopes.specs.State.{Good, Head, Fits, split, heads, flags, binds, consts, stack, bindAt, indexIn, off, lenAt, runAt, valueOf, runOf, varTypeOf}
+use Rattle.scopes.proofs.Split.{noBind, tested}
 use Rattle.records.proofs.Count.{length-binds, fits-binds, nodes-bind}
-use Rattle.look.specs.Look.{atPlace}
+use Rattle.look.specs.Look.{atPlace, idxHere, idxAt, first}
+use Rattle.look.proofs.Facts.{placed, idx-find}
 use Rattle.nodes.specs.Nodes.{Planted, treeFrom, valueFrom}
 use Rattle.nodes.proofs.Splice.{subtree-value, subtree-one}
 use Rattle.inits.proofs.Init.{run-none, none-one}
 use Rattle.declares.specs.declared.Init.{Init}
 use Rattle.declares.specs.declared.Init.the-variants.{NoInit, Recorded, Seen}
 use Rattle.inits.specs.Inits.{initFrom, Sited}
-use Rattle.scope.specs.Handles.{bindingsOf, numbered, treeO, initO, Held, Sits, Runs}
+use Rattle.scope.specs.Handles.{bindingsOf, numbered, treeO, initO, withIndex, indexed, ofBindings, Held, Sits, Runs}
 
 no-elements : {A : Type 0} (xs : List A) → length xs ≡ 0 → xs ≡ []
 no-elements [] e = refl
@@ -113,10 +114,10 @@ module _ (w : List ℕ) (g : Good w) (k : ℕ) (h : k < getD w 1 0) where
   bound-count = nodes-bind w g k h
 
   module _ (at m : ℕ) (p : at ≡ off w k) (q : m ≡ lenAt w k) (z : 0 < m) where
-    pub bound-value : bindAt w k .value ≡ some (valueFrom w 2064 at m)
+    pub bound-value : bindAt w k .value ≡ some (valueFrom w ofBindings at m)
     bound-value = rw (p, q) (value-some (runAt w k) (omega (arith, run-length w 2064 (off w k) (lenAt w k))))
 
-    pub bound-held : Held w 2064 at m
+    pub bound-held : Held w ofBindings at m
     bound-held = record { some = z; inside = omega (arith, sum-part (λ j. lenAt w j) k (getD w 1 0) h, g .vals, p, q); whole = rw (p, q) (g .whole k h) }
 
   pub bound-sits : (at : ℕ) → at ≡ off w k → Sits w (bindAt w k .value) at
@@ -160,3 +161,43 @@ init-in w i v h = sym (ap (initO v) (tree-in w i h))
 pub init-none : (o : Option Tree) → initO NoInit o ≡ def.noInit
 init-none none = refl
 init-none (some t) = refl
+
+-- idx_val: the binding at its index
+abbrev indexO : Option (ℕ × VarInfo) → ℕ
+indexO none = 0
+indexO (some p) = p .0
+
+abbrev bindingO : Option (ℕ × VarInfo) → Option VarInfo
+bindingO none = none
+bindingO (some p) = some (p .1)
+
+module _ (x : ℕ) (c : VarInfo) (bs : List VarInfo) where
+  find-by : (p : Bool) → eqb (c .id) x ≡ p → findIn x (c ∷ bs) ≡ elim p [ true ↦ some c | false ↦ findIn x bs ]
+  find-by p e = ap (λ (q : Bool). elim q [ true ↦ some c | false ↦ findIn x bs ]) e
+
+  index-by : (p : Bool) → eqb (c .id) x ≡ p → indexIn x (c ∷ bs) ≡ elim p [ true ↦ 0 | false ↦ suc (indexIn x bs) ]
+  index-by p e = ap (λ (q : Bool). elim q [ true ↦ 0 | false ↦ suc (indexIn x bs) ]) e
+
+find-elem : (x : ℕ) (bs : List VarInfo) (b : VarInfo) → findIn x bs ≡ some b → getElem? bs (indexIn x bs) ≡ some b
+find-elem x [] b e = e
+find-elem x (c ∷ bs) b e = tested (eqb (c .id) x)
+    (λ t. rw (index-by x c bs true t) (sym (find-by x c bs true t) ∙ e))
+    (λ t. rw (index-by x c bs false t) (find-elem x bs b (sym (find-by x c bs false t) ∙ e)))
+
+placed-binding : (n : ℕ) (o : Option VarInfo) → bindingO (placed n o) ≡ o
+placed-binding n none = refl
+placed-binding n (some b) = refl
+
+placed-index : (n : ℕ) (o : Option VarInfo) (b : VarInfo) → o ≡ some b → indexO (placed n o) ≡ n
+placed-index n o b e = ap (λ (p : Option VarInfo). indexO (placed n p)) e
+
+pub index-is : (w : List ℕ) (st : Stack) (x r : ℕ) → idxHere x st ≡ idxAt w r → idxHere x st ≡ indexed st r
+index-is w [] x r e = refl
+index-is w (s ∷ st) x zero e = e
+index-is w (s ∷ st) x (suc j) e =
+    let b = bindAt w (first w (getD w 2 0 - 1) + j) in
+    let o = findIn x (s .bindings) in
+    let q : placed (0 + indexIn x (s .bindings)) o ≡ some (j, b) = sym (idx-find 0 x (s .bindings)) ∙ e in
+    let f : o ≡ some b = sym (placed-binding (0 + indexIn x (s .bindings)) o) ∙ ap bindingO q in
+    let i : indexIn x (s .bindings) ≡ j = omega (arith, sym (placed-index (0 + indexIn x (s .bindings)) o b f) ∙ ap indexO q) in
+    e ∙ sym (ap (withIndex j) (rw i at (find-elem x (s .bindings) b f)))

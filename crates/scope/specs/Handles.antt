@@ -49,7 +49,14 @@ abbrev pub initO : Init → Option Tree → def.Init
 initO v none = def.noInit
 initO v (some t) = initFrom v t
 
--- m nodes from `at` on of a store of values are the nodes of one tree
+-- the two stores of values: that of the bindings, and that of the constants, by their first words
+abbrev pub ofBindings : ℕ
+ofBindings = 2064
+
+abbrev pub ofConstants : ℕ
+ofConstants = 3088
+
+-- m nodes from `at` on of a store are the nodes of one tree
 pub record Held (w : List ℕ) (base at m : ℕ) : Type 0 where
   pub some : 0 < m
   pub inside : at + m ≤ 512
@@ -57,8 +64,18 @@ pub record Held (w : List ℕ) (base at m : ℕ) : Type 0 where
 
 -- the value of a binding, if it has one, is held from `at` on
 pub record Sits (w : List ℕ) (v : Option Tree) (at : ℕ) : Type 0 where
-  pub is : 0 < countO v → v ≡ some (valueFrom w 2064 at (countO v))
-  pub held : 0 < countO v → Held w 2064 at (countO v)
+  pub is : 0 < countO v → v ≡ some (valueFrom w ofBindings at (countO v))
+  pub held : 0 < countO v → Held w ofBindings at (countO v)
+
+-- a binding of the current scope with its index; 1 + the index, 0 for none
+abbrev pub withIndex : ℕ → Option VarInfo → Option (ℕ × VarInfo)
+withIndex j none = none
+withIndex j (some b) = some (j, b)
+
+abbrev pub indexed : Stack → ℕ → Option (ℕ × VarInfo)
+indexed [] r = none
+indexed (s ∷ st) zero = none
+indexed (s ∷ st) (suc j) = withIndex j (getElem? (s .bindings) j)
 
 -- the nodes of a value that is given
 pub record Runs (w : List ℕ) (v : Option Tree) (at m : ℕ) : Type 0 where

@@ -14,11 +14,11 @@ ghost use Rattle.words.specs.Layout.{tree};
 ghost use Rattle.scopes.specs.State.{Good, stack, scopeKindOf};
 ghost use Rattle.records.specs.Steps.{Limited, Grown};
 ghost use Rattle.declares.specs.Kinds.{typeOf};
-ghost use Rattle.look.specs.Look.{kindO};
-ghost use Rattle.nodes.specs.Nodes.{Planted, treeFrom};
+ghost use Rattle.look.specs.Look.{kindO, idxHere};
+ghost use Rattle.nodes.specs.Nodes.{Planted, treeFrom, size};
 ghost use Rattle.state.specs.State.{rest};
 ghost use Rattle.inits.specs.Inits.{initFrom, Sited, hasNone};
-ghost use Rattle.scope.specs.Handles.{bindingsOf, numbered, ofBinding, treeO, initO, valueAt, Sits, Runs};
+ghost use Rattle.scope.specs.Handles.{bindingsOf, numbered, indexed, ofBinding, treeO, initO, valueAt, Sits, Runs};
 ghost use Rattle.scope.specs.Steps.{named, doneOf, Moves};
 pub use bindings::Scope;
 pub use bindings::ScopeKind;
@@ -72,7 +72,7 @@ fn known(w: &[u32], b: usize) -> bool
 // Is i a node of the tree.
 fn in_tree(w: &[u32], i: usize) -> bool
     requires { ⌜ Good (now w) ⌝ }
-    ensures { λ r. ⌜ (r ≡ true → i < getD (now (w .entry)) 0 0) × (r ≡ false → treeO (tree (now (w .entry))) i ≡ none) ⌝ }
+    ensures { λ r. ⌜ (r ≡ true → i < size (now (w .entry))) × (r ≡ false → treeO (tree (now (w .entry))) i ≡ none) ⌝ }
 {
     i < w[0] as usize
 }
@@ -92,7 +92,7 @@ pub fn open_kind(w: &mut [u32], kind: u32) -> Step
 // The init of a declaration, none if its tree is not in the state.
 fn sited(w: &[u32], v: Init, i: usize) -> Init
     requires { ⌜ Good (now w) ⌝ }
-    ensures { λ r. ⌜ (Sited r i (getD (now (w .entry)) 0 0)) × (initFrom r (treeFrom (tree (now (w .entry))) i) ≡ initO v (treeO (tree (now (w .entry))) i)) ⌝ }
+    ensures { λ r. ⌜ (Sited r i (size (now (w .entry)))) × (initFrom r (treeFrom (tree (now (w .entry))) i) ≡ initO v (treeO (tree (now (w .entry))) i)) ⌝ }
 {
     if in_tree(w, i) {
         return v;
@@ -141,6 +141,14 @@ pub fn find_binding(w: &[u32], x: u8) -> usize
     ensures { λ r. ⌜ (findBinding x (stack (now (w .entry))) ≡ numbered (stack (now (w .entry))) r) × (r ≤ length (bindingsOf (stack (now (w .entry))))) ⌝ }
 {
     scopes::find_binding(w, x)
+}
+
+// 1 + the index of the binding of x in the current scope, 0 if there is none.
+pub fn idx_val(w: &[u32], x: u8) -> usize
+    requires { ⌜ Good (now w) ⌝ }
+    ensures { λ r. ⌜ idxHere x (stack (now (w .entry))) ≡ indexed (stack (now (w .entry))) r ⌝ }
+{
+    look::idx_val(w, x)
 }
 
 pub fn find_binding_from_current(w: &[u32], x: u8) -> usize

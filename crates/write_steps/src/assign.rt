@@ -1,12 +1,12 @@
 // What an assignment writes and records.
 ghost use mathlib.Core.Path.{_≡_};
-ghost use lib.ListN.{getD, drop};
+ghost use lib.ListN.{drop};
 ghost use Prim.Native.Nat.{_<_, _≤_};
 ghost use Rattle.tree.specs.Tree.{lengthF, plant};
 ghost use Rattle.tree.specs.Combine.{onRest, treeAt, actF};
 ghost use Rattle.definition.specs.Walk.{storeValue, assignFirst, assignLast};
 ghost use Rattle.words.specs.Layout.{tree, nodeOf};
-ghost use Rattle.nodes.specs.Nodes.{Planted};
+ghost use Rattle.nodes.specs.Nodes.{Planted, size};
 ghost use Rattle.state.specs.State.{abs, Act};
 ghost use Rattle.scope.specs.Handles.{valueAt};
 ghost use Rattle.write_steps.specs.Answers.{numberOf, cheapAt};
@@ -57,7 +57,7 @@ pub fn assign_first(w: &mut [u32], f: u32, n: usize, i: usize) -> u32
 
 // The value at j as it is recorded: itself, if it is a literal or an identifier, else none.
 fn kept_value(w: &[u32], j: usize) -> Value
-    requires { ⌜ (Planted (now w)) × (j < getD (now w) 0 0) ⌝ }
+    requires { ⌜ (Planted (now w)) × (j < size (now w)) ⌝ }
     ensures { λ v. ⌜ valueAt (tree (now (w .entry))) v ≡ cheapAt (now (w .entry)) j ⌝ }
 {
     let k = kind_at(w, j);
@@ -72,7 +72,7 @@ fn kept_value(w: &[u32], j: usize) -> Value
 
 // The value at j is recorded for the name at i, unless its binding is prevented.
 fn store_value(w: &mut [u32], i: usize, j: usize) -> u32
-    requires { ⌜ (Planted (now w)) × (i < getD (now w) 0 0) × (j < getD (now w) 0 0) × (nodeOf (now w) i .kind ≡ 20) ⌝ }
+    requires { ⌜ (Planted (now w)) × (i < size (now w)) × (j < size (now w)) × (nodeOf (now w) i .kind ≡ 20) ⌝ }
     ensures { λ r. ⌜ Act (now (w .entry)) (now (w .exit)) r (onRest (storeValue (treeAt (abs (now (w .entry))) i) (treeAt (abs (now (w .entry))) j)) (abs (now (w .entry)))) ⌝ }
 {
     let x = ident_at(w, i);

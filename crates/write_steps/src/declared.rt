@@ -11,7 +11,7 @@ ghost use Rattle.definition.specs.Scope.{recorded};
 ghost use Rattle.definition.specs.Walk.{when, isBind, asIdent, declareM, declareName, patBy};
 ghost use Rattle.words.specs.Layout.{tree, nodeOf};
 ghost use Rattle.declares.specs.Kinds.{typeOf};
-ghost use Rattle.nodes.specs.Nodes.{Planted, Replants};
+ghost use Rattle.nodes.specs.Nodes.{Planted, Replants, size};
 ghost use Rattle.state.specs.State.{abs, Act};
 ghost use Rattle.write_steps.specs.Answers.{reKind};
 use super::assign::number;
@@ -29,7 +29,7 @@ use words::num_at;
 
 // The name of the function at i, in Analysis.
 pub fn declare_name(w: &mut [u32], i: usize) -> u32
-    requires { ⌜ (Planted (now w)) × (i < getD (now w) 0 0) ⌝ }
+    requires { ⌜ (Planted (now w)) × (i < size (now w)) ⌝ }
     ensures { λ r. ⌜ Act (now (w .entry)) (now (w .exit)) r (act (λ t. declareName (headT (kids t))) i (abs (now (w .entry)))) ⌝ }
 {
     if arity_at(w, i) == 0 {
@@ -55,7 +55,7 @@ pub fn declare_name(w: &mut [u32], i: usize) -> u32
 
 // The name at i becomes a binding or an identifier.
 fn turn(w: &mut [u32], i: usize, k: u32)
-    requires { ⌜ (Planted (now w)) × (i < getD (now w) 0 0) × ((nodeOf (now w) i .kind ≡ 20) ⊎ (nodeOf (now w) i .kind ≡ 21)) × (k < 64) ⌝ }
+    requires { ⌜ (Planted (now w)) × (i < size (now w)) × ((nodeOf (now w) i .kind ≡ 20) ⊎ (nodeOf (now w) i .kind ≡ 21)) × (k < 64) ⌝ }
     ensures { λ _. ⌜ Replants (now (w .entry)) (now (w .exit)) (set (tree (now (w .entry))) i (reKind k (getD (tree (now (w .entry))) i noCore))) ⌝ }
 {
     let f = form_at(w, i);
@@ -66,7 +66,7 @@ fn turn(w: &mut [u32], i: usize, k: u32)
 
 // The binding at i is declared with its own identifier as its value: while it is recorded, the node is one.
 fn declare_bound(w: &mut [u32], i: usize, kind: VarType) -> u32
-    requires { ⌜ (Planted (now w)) × (i < getD (now w) 0 0) × (nodeOf (now w) i .kind ≡ 20) ⌝ }
+    requires { ⌜ (Planted (now w)) × (i < size (now w)) × (nodeOf (now w) i .kind ≡ 20) ⌝ }
     ensures { λ r. ⌜ Act (now (w .entry)) (now (w .exit)) r (act (λ t. declareM t (recorded (asIdent t)) false (typeOf kind)) i (abs (now (w .entry)))) ⌝ }
 {
     let x = ident_at(w, i);
@@ -78,7 +78,7 @@ fn declare_bound(w: &mut [u32], i: usize, kind: VarType) -> u32
 
 // visit_mut_pat, by the mode.
 pub fn pat_step(w: &mut [u32], i: usize) -> u32
-    requires { ⌜ (Planted (now w)) × (i < getD (now w) 0 0) ⌝ }
+    requires { ⌜ (Planted (now w)) × (i < size (now w)) ⌝ }
     ensures { λ r. ⌜ Act (now (w .entry)) (now (w .exit)) r (act (λ t s. when (isBind t) (patBy (s .patMode) t) s) i (abs (now (w .entry)))) ⌝ }
 {
     if kind_at(w, i) != 20 {

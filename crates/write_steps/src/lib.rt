@@ -4,7 +4,7 @@ ghost use mathlib.Core.Bool.{true, false, not, _&&_};
 ghost use mathlib.Core.Logic.{_⊎_};
 ghost use mathlib.Core.Option.{some};
 ghost use lib.Dec.{eqb};
-ghost use lib.ListN.{getD, drop};
+ghost use lib.ListN.{drop};
 ghost use Prim.Native.Nat.{_<_, _≤_};
 ghost use Rattle.tree.specs.Tree.{kids, lengthF, plant};
 ghost use Rattle.tree.specs.Combine.{onRest, act, actF};
@@ -13,7 +13,7 @@ ghost use Rattle.definition.specs.Scope.{preventInline, markThisSensitive, iden
 ghost use Rattle.definition.specs.Walk.{when, mark, write, writeTree, writeForest, writeName, butLast, assigning, patBy, storeInlineBarrierM};
 ghost use Rattle.words.specs.Layout.{tree, nodeOf, yes};
 ghost use Rattle.look.specs.Answers.{isName, refusal};
-ghost use Rattle.nodes.specs.Nodes.{Planted};
+ghost use Rattle.nodes.specs.Nodes.{Planted, size};
 ghost use Rattle.state.specs.State.{abs, Act};
 
 pub mod assign;
@@ -43,7 +43,7 @@ fn number(s: Step) -> u32
 
 // Is node i a binding or an identifier.
 fn is_name(w: &[u32], i: usize) -> bool
-    requires { ⌜ (Planted (now w)) × (i < getD (now w) 0 0) ⌝ }
+    requires { ⌜ (Planted (now w)) × (i < size (now w)) ⌝ }
     ensures { λ r. ⌜ r ≡ isName (nodeOf (now (w .entry)) i) ⌝ }
 {
     let k = kind_at(w, i);
@@ -55,7 +55,7 @@ fn is_name(w: &[u32], i: usize) -> bool
 
 // The name at node i is written, forced or not.
 pub fn write_ident(w: &mut [u32], i: usize, force: bool) -> u32
-    requires { ⌜ (Planted (now w)) × (i < getD (now w) 0 0) × ((nodeOf (now w) i .kind ≡ 20) ⊎ (nodeOf (now w) i .kind ≡ 21)) ⌝ }
+    requires { ⌜ (Planted (now w)) × (i < size (now w)) × ((nodeOf (now w) i .kind ≡ 20) ⊎ (nodeOf (now w) i .kind ≡ 21)) ⌝ }
     ensures { λ r. ⌜ Act (now (w .entry)) (now (w .exit)) r (act (write force) i (abs (now (w .entry)))) ⌝ }
 {
     let x = ident_at(w, i);
@@ -89,7 +89,7 @@ pub fn write_trees(w: &mut [u32], n: usize, i: usize, force: bool) -> u32
 
 // The names of the tree at i.
 pub fn write_tree(w: &mut [u32], i: usize, force: bool) -> u32
-    requires { ⌜ (Planted (now w)) × (i < getD (now w) 0 0) ⌝ }
+    requires { ⌜ (Planted (now w)) × (i < size (now w)) ⌝ }
     ensures { λ r. ⌜ Act (now (w .entry)) (now (w .exit)) r (act (writeTree force) i (abs (now (w .entry)))) ⌝ }
 {
     write_trees(w, 1, i, force)
@@ -108,7 +108,7 @@ pub fn write_but_last(w: &mut [u32], n: usize, i: usize, force: bool) -> u32
 
 // The names below node i, forced.
 pub fn write_kids(w: &mut [u32], i: usize) -> u32
-    requires { ⌜ (Planted (now w)) × (i < getD (now w) 0 0) ⌝ }
+    requires { ⌜ (Planted (now w)) × (i < size (now w)) ⌝ }
     ensures { λ r. ⌜ Act (now (w .entry)) (now (w .exit)) r (act (λ t. writeForest true (kids t)) i (abs (now (w .entry)))) ⌝ }
 {
     let n = arity_at(w, i) as usize;
@@ -117,7 +117,7 @@ pub fn write_kids(w: &mut [u32], i: usize) -> u32
 
 // The same but for its last child.
 pub fn write_kids_but_last(w: &mut [u32], i: usize) -> u32
-    requires { ⌜ (Planted (now w)) × (i < getD (now w) 0 0) ⌝ }
+    requires { ⌜ (Planted (now w)) × (i < size (now w)) ⌝ }
     ensures { λ r. ⌜ Act (now (w .entry)) (now (w .exit)) r (act (λ t. writeForest true (butLast (kids t))) i (abs (now (w .entry)))) ⌝ }
 {
     let n = arity_at(w, i) as usize;
@@ -137,7 +137,7 @@ pub fn write_args(w: &mut [u32], call: u32, n: usize, i: usize) -> u32
 
 // The name of the function expression at i is written, forced.
 pub fn write_name(w: &mut [u32], i: usize) -> u32
-    requires { ⌜ (Planted (now w)) × (i < getD (now w) 0 0) ⌝ }
+    requires { ⌜ (Planted (now w)) × (i < size (now w)) ⌝ }
     ensures { λ r. ⌜ Act (now (w .entry)) (now (w .exit)) r (act (λ t. writeName (headT (kids t))) i (abs (now (w .entry)))) ⌝ }
 {
     if arity_at(w, i) == 0 {
@@ -151,7 +151,7 @@ pub fn write_name(w: &mut [u32], i: usize) -> u32
 
 // What `this` is matters to the callee at i, if it is an identifier; in Analysis.
 pub fn mark_callee(w: &mut [u32], i: usize)
-    requires { ⌜ (Planted (now w)) × (i < getD (now w) 0 0) ⌝ }
+    requires { ⌜ (Planted (now w)) × (i < size (now w)) ⌝ }
     ensures { λ _. ⌜ Act (now (w .entry)) (now (w .exit)) 0 (act (λ c s. when (not (s .inlining)) (mark (markThisSensitive (identOf (some c)))) s) i (abs (now (w .entry)))) ⌝ }
 {
     if w[6] != 0 {
@@ -191,7 +191,7 @@ pub fn store_barrier(w: &mut [u32])
 
 // The binding at i, in an assignment's pattern: written, unless the current scope has it.
 pub fn write_unbound(w: &mut [u32], i: usize) -> u32
-    requires { ⌜ (Planted (now w)) × (i < getD (now w) 0 0) × (nodeOf (now w) i .kind ≡ 20) ⌝ }
+    requires { ⌜ (Planted (now w)) × (i < size (now w)) × (nodeOf (now w) i .kind ≡ 20) ⌝ }
     ensures { λ r. ⌜ Act (now (w .entry)) (now (w .exit)) r (act (patBy assigning) i (abs (now (w .entry)))) ⌝ }
 {
     let x = ident_at(w, i);
