@@ -1,24 +1,41 @@
 -- Demand 3 of the port. Assumes nothing.
-use mathlib.Core.Path.{_≡_, refl, ap, subst}
+use mathlib.Core.Path.{_≡_, refl, sym, ap, subst}
 use mathlib.Core.Bool.{Bool, true, false, _&&_}
 use mathlib.Core.List.{List}
 use Prim.Native.Nat.{ℕ, _*_}
 use lib.Dec.{leb}
 use lib.ListN.{length}
 use Rattle.format.specs.Script.{Script}
-use Rattle.format.specs.Read.{read}
-use Rattle.definition.specs.Entry.{Entry, refused, entryRead, entry}
-use Rattle.definition.specs.Script.{Answer, no!, yes!, passFile}
-use Rattle.definition.specs.Paired.{Alike, AlikeEntry}
+use Rattle.format.specs.Read.{Read, script, read}
+use Rattle.definition.specs.Entry.{Entry, refused, passed, written, entryRead, entry}
+use Rattle.definition.specs.Script.{Answer, no!, yes!, pass, passRead, passFile}
+use Rattle.definition.specs.Paired.{Alike, AlikeEntry, fileOf}
 use Rattle.laws.proofs.Demand.{demand3, demand3-entry}
 use Rattle.roots.specs.Listing as lists
 use Rattle.answers.specs.Roots as roots
-use Rattle.answers.specs.Demand.{Demand3Inline, AlikeListing, Demand3Roots}
+use Rattle.answers.specs.Demand.{Holds, Demand3Inline, AlikeListing, Demand3Roots}
 
 -- of the words only whether they are enough matters
 entry-words : (runs n m : ℕ) (bs : List ℕ) (room : ℕ) → leb 16384 n ≡ leb 16384 m → entry runs n bs room ≡ entry runs m bs room
 unfolding entry
 entry-words runs n m bs room e = ap {B = Entry} (λ (p : Bool). elim (leb 1 runs && leb runs 16 && p) [ false ↦ refused 1 | true ↦ entryRead runs room (read bs) ]) e
+
+-- a written result holds the nodes that it was written from
+holds : (s : Script) (room : ℕ) (x : Answer) → Holds s x (written room s x)
+holds s room (no! m) = tt
+holds s room (yes! k c xs rs) = go (leb (length (fileOf s xs)) room)
+  where
+    go : (p : Bool) → Holds s (yes! k c xs rs) (elim p [ true ↦ passed (length (fileOf s xs)) k c (fileOf s xs) rs | false ↦ refused 10 ])
+    go true = refl
+    go false = tt
+
+holds-entry : (runs words : ℕ) (bs : List ℕ) (room : ℕ) (s : Script) → read bs ≡ script s → Holds s (passFile runs bs) (entry runs words bs room)
+unfolding entry passFile
+holds-entry runs words bs room s q = go (leb 1 runs && leb runs 16 && leb 16384 words)
+  where
+    go : (p : Bool) → Holds s (passRead runs (read bs)) (elim p [ false ↦ refused 1 | true ↦ entryRead runs room (read bs) ])
+    go false = tt
+    go true = subst (λ (x : Read). Holds s (passRead runs x) (entryRead runs room x)) (sym q) (holds s room (pass runs s))
 
 pub demand3-inline : Demand3Inline
 demand3-inline as′ bs a b p q P runs r r′ w w′ x s s′ v v′ y e X Y = record {
@@ -29,6 +46,11 @@ demand3-inline as′ bs a b p q P runs r r′ w w′ x s s′ v v′ y e X Y = r
   one-result = X .result;
   two-result = Y .result;
   alike = subst (λ (z : Entry). AlikeEntry a b (entry runs (length w) as′ (length r)) z) (entry-words runs (length w) (length v) bs (length s) e) (demand3-entry as′ bs a b p q P runs (length w) (length r) (length s));
+  one-holds = holds-entry runs (length w) as′ (length r) a p;
+  two-holds = holds-entry runs (length v) bs (length s) b q;
+  origins = demand3 as′ bs a b p q P runs .0;
+  one-kept = demand3 as′ bs a b p q P runs .1;
+  two-kept = demand3 as′ bs a b p q P runs .2;
 }
 
 -- the root bindings

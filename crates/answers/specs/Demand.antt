@@ -6,20 +6,27 @@ use lib.Dec.{leb}
 use lib.ListN.{length}
 use Rattle.format.specs.Script.{Script}
 use Rattle.format.specs.Read.{script, read}
-use Rattle.definition.specs.Entry.{Entry}
-use Rattle.definition.specs.Paired.{Paired, AlikeRoots, AlikeEntry}
+use Rattle.definition.specs.Script.{Answer, no!, yes!, passFile}
+use Rattle.definition.specs.Entry.{Entry, refused, passed}
+use Rattle.definition.specs.Paired.{Paired, AlikeRoots, AlikeEntry, Alike, Kept, fileOf}
 use Rattle.answers.specs.declared.Inlined.{Inlined}
 use Rattle.answers.specs.declared.Roots.{Roots}
 use Rattle.answers.specs.Entry.{numbers, left, InlineIs}
-use Rattle.roots.specs.Listing.{Listing, refused, listed}
+use Rattle.roots.specs.Listing.{Listing, listed}
 use Rattle.answers.specs.Roots.{RootsIs}
 use Rattle.roots.specs.Listing as lists
 use Rattle.answers.specs.Roots as roots
 
+-- a result's file holds the nodes of the definition's result, so that a literal there has the origin of the definition's at the same number
+abbrev pub Holds : Script → Answer → Entry → Type 0
+Holds s x (refused m) = Unit {0}
+Holds s (no! m) (passed n l d out ss) = ⊥
+Holds s (yes! k c xs rs) (passed n l d out ss) = out ≡ fileOf s xs
+
 -- what a call answered and left in its result buffer are the numbers and bytes of two ends that are alike: refusals are the same, or results
 -- have the same runs and mark, equally many nodes, in pairs literals of one origin or nodes whose identifiers stand together in the scripts,
--- and each literal is that of its origin
-pub record AlikeEnds (a b : Script) (x y : Inlined) (r r′ s s′ : List ℕ) : Type 0 where
+-- and each literal is that of its origin; the origins are the definition's
+pub record AlikeEnds (as′ bs : List ℕ) (runs : ℕ) (a b : Script) (x y : Inlined) (r r′ s s′ : List ℕ) : Type 0 where
   pub one : Entry
   pub two : Entry
   pub one-answer : x ≡ numbers one
@@ -27,18 +34,23 @@ pub record AlikeEnds (a b : Script) (x y : Inlined) (r r′ s s′ : List ℕ) :
   pub one-result : r′ ≡ left r one
   pub two-result : s′ ≡ left s two
   pub alike : AlikeEntry a b one two
+  pub one-holds : Holds a (passFile runs as′) one
+  pub two-holds : Holds b (passFile runs bs) two
+  pub origins : Alike a b (passFile runs as′) (passFile runs bs)
+  pub one-kept : Kept a (passFile runs as′)
+  pub two-kept : Kept b (passFile runs bs)
 
 -- for every pair of files of paired scripts, every run limit, and all buffers, as long as both have words enough or neither has
 abbrev pub Demand3Inline : Type 0
 Demand3Inline = (as′ bs : List ℕ) (a b : Script) → read as′ ≡ script a → read bs ≡ script b → Paired a b
     → (runs : ℕ) (r r′ w w′ : List ℕ) (x : Inlined) (s s′ v v′ : List ℕ) (y : Inlined) → leb 16384 (length w) ≡ leb 16384 (length v)
-    → InlineIs as′ r r′ w w′ runs x → InlineIs bs s s′ v v′ runs y → AlikeEnds a b x y r r′ s s′
+    → InlineIs as′ r r′ w w′ runs x → InlineIs bs s s′ v v′ runs y → AlikeEnds as′ bs runs a b x y r r′ s s′
 
 -- the root bindings pair by identifier, in one order, with equal marks; one list may fit its buffer where the other does not
 abbrev pub AlikeListing : Script → Script → Listing → Listing → Type 0
-AlikeListing a b (refused n) (refused m) = n ≡ m
-AlikeListing a b (refused n) (listed ss) = n ≡ 10
-AlikeListing a b (listed rs) (refused m) = m ≡ 10
+AlikeListing a b (lists.refused n) (lists.refused m) = n ≡ m
+AlikeListing a b (lists.refused n) (listed ss) = n ≡ 10
+AlikeListing a b (listed rs) (lists.refused m) = m ≡ 10
 AlikeListing a b (listed rs) (listed ss) = AlikeRoots a b rs ss
 
 pub record AlikeLists (a b : Script) (x y : Roots) (r r′ s s′ : List ℕ) : Type 0 where

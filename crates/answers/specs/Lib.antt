@@ -1,4 +1,5 @@
 pub mod Demand
 pub mod Entry
+pub mod Long
 pub mod Roots
 pub mod Rows

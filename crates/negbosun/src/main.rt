@@ -10,7 +10,8 @@ use pass::negbosun_inline;
 use pass::negbosun_roots;
 
 // Room for the largest readable file, 32 + 16 * 1,024 + 4 * 256 + 4,096 bytes, and one byte more. A longer input is refused as the
-// whole of it would be: rows 2 and 3 look at the header alone, and a length above what row 3 leaves is row 4's, cut or not.
+// whole of it would be (crates/answers/specs/Long.antt, CutAlike): rows 2 and 3 look at the header alone, and a length above what row 3
+// leaves is row 4's, cut or not.
 fn room() -> [u8; 21537]
     ensures { λ r. ⌜ 21537 ≡ length r ⌝ }
 {
