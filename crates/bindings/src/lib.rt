@@ -19,6 +19,7 @@ use scopes::append_record;
 use scopes::drop_scope;
 use scopes::open;
 use words::flag_at;
+use words::layout;
 
 pub enum ScopeKind {
     // If / Switch
@@ -60,14 +61,14 @@ fn hoist_var(w: &mut [u32], j: usize)
     requires { ⌜ (Good (now w)) × (0 < getD (now w) 2 0) × (getD (now w) 1 0 ≤ j) × (j < 256) × (getD (now w) (4112 + j * 10) 0 < 256) × (getD (now w) (4112 + j * 10 + 1) 0 ≡ 1) ⌝ }
     ensures { λ _. ⌜ (Becomes (now (w .entry)) (now (w .exit)) (hoistOne (recordAt (now (w .entry)) j) (stack (now (w .entry))))) × (Agree (4112 + j * 10 + 10) 6672 (now (w .entry)) (now (w .exit))) × (getD (now (w .exit)) 1 0 ≤ j + 1) ⌝ }
 {
-    let x = w[4112 + j * 10] as u8;
-    let alias = w[4112 + j * 10 + 2];
-    let reads = w[4112 + j * 10 + 3];
-    let sensitive = w[4112 + j * 10 + 6];
-    let d = w[2] as usize - 1;
-    let used = flag_at(w, 7312 + d * 256, x);
-    let prevented = either(used, w[4112 + j * 10 + 4]);
-    let n = w[1] as usize;
+    let x = w[layout::BINDINGS + j * 10] as u8;
+    let alias = w[layout::BINDINGS + j * 10 + layout::ALIAS];
+    let reads = w[layout::BINDINGS + j * 10 + layout::READS];
+    let sensitive = w[layout::BINDINGS + j * 10 + layout::SENSITIVE];
+    let d = w[layout::SCOPE_COUNT] as usize - 1;
+    let used = flag_at(w, layout::UNRESOLVED + d * 256, x);
+    let prevented = either(used, w[layout::BINDINGS + j * 10 + layout::PREVENTED]);
+    let n = w[layout::BINDING_COUNT] as usize;
     let r = own_binding(w, x);
     if r < n {
         set_run(w, r, 0, 0);
@@ -82,7 +83,7 @@ fn hoist_one(w: &mut [u32], j: usize)
     requires { ⌜ (Good (now w)) × (0 < getD (now w) 2 0) × (getD (now w) 1 0 ≤ j) × (j < 256) × (getD (now w) (4112 + j * 10) 0 < 256) ⌝ }
     ensures { λ _. ⌜ (Becomes (now (w .entry)) (now (w .exit)) (hoistOne (recordAt (now (w .entry)) j) (stack (now (w .entry))))) × (Agree (4112 + j * 10 + 10) 6672 (now (w .entry)) (now (w .exit))) × (getD (now (w .exit)) 1 0 ≤ j + 1) ⌝ }
 {
-    if w[4112 + j * 10 + 1] == 1 {
+    if w[layout::BINDINGS + j * 10 + layout::KIND] == 1 {
         hoist_var(w, j);
     }
 }
@@ -104,9 +105,9 @@ fn drop_all(w: &mut [u32])
     requires { ⌜ Good (now w) ⌝ }
     ensures { λ _. ⌜ Becomes (now (w .entry)) (now (w .exit)) [] ⌝ }
 {
-    w[1] = 0;
-    w[2] = 0;
-    w[3] = 0;
+    w[layout::BINDING_COUNT] = 0;
+    w[layout::SCOPE_COUNT] = 0;
+    w[layout::CONSTANT_COUNT] = 0;
 }
 
 // The end of the innermost scope: what was unresolved in it is unresolved above, and its `var` bindings go up unless it is a function's.
@@ -114,14 +115,14 @@ pub fn close(w: &mut [u32])
     requires { ⌜ Good (now w) ⌝ }
     ensures { λ _. ⌜ Becomes (now (w .entry)) (now (w .exit)) (close (stack (now (w .entry)))) ⌝ }
 {
-    let d = w[2] as usize;
+    let d = w[layout::SCOPE_COUNT] as usize;
     if d < 2 {
         drop_all(w);
         return;
     }
-    let kind = w[7184 + (d - 1) * 4];
-    let a = w[7184 + (d - 1) * 4 + 1] as usize;
-    let e = w[1] as usize;
+    let kind = w[layout::SCOPES + (d - 1) * 4];
+    let a = w[layout::SCOPES + (d - 1) * 4 + layout::FIRST_BINDING] as usize;
+    let e = w[layout::BINDING_COUNT] as usize;
     drop_scope(w);
     if kind < 3 {
         hoist_all(w, a, e);
@@ -145,7 +146,7 @@ pub fn open_scope(w: &mut [u32], scope: Scope) -> Step
     requires { ⌜ Good (now w) ⌝ }
     ensures { λ r. ⌜ Limited 8 (leb 32 (length (stack (now (w .entry))))) (now (w .entry)) (now (w .exit)) (newScope (kindOf (scope .kind)) ∷ stack (now (w .entry))) r ⌝ }
 {
-    if 32 <= w[2] {
+    if 32 <= w[layout::SCOPE_COUNT] {
         return Step::Refused(8);
     }
     let kind = scope.kind;

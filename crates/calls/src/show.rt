@@ -21,6 +21,7 @@ use scope::should_prevent_inline_because_of_scope;
 use scope::var_inline_prevented;
 use scope::write_prevents_inline;
 use std::num::wrapping_add_u32;
+use words::layout;
 
 fn letter(c: u8) {
     let s = [b' ', c];
@@ -59,15 +60,15 @@ fn word(w: &[u32], i: usize) -> u32 {
 
 // A word of binding k, of constant k, of scope k, of node k of the store at a word.
 fn of_binding(w: &[u32], k: u32, f: u32) -> u32 {
-    word(w, 4112 + k as usize * 10 + f as usize)
+    word(w, layout::BINDINGS + k as usize * 10 + f as usize)
 }
 
 fn of_const(w: &[u32], k: u32, f: u32) -> u32 {
-    word(w, 6672 + k as usize * 2 + f as usize)
+    word(w, layout::CONSTANTS + k as usize * 2 + f as usize)
 }
 
 fn of_scope(w: &[u32], k: u32, f: u32) -> u32 {
-    word(w, 7184 + k as usize * 4 + f as usize)
+    word(w, layout::SCOPES + k as usize * 4 + f as usize)
 }
 
 fn of_node(w: &[u32], base: u32, k: u32, f: u32) -> u32 {
@@ -99,7 +100,7 @@ fn show_binding(w: &[u32], k: u32, at: u32) -> u32 {
     put_bool(of_binding(w, k, 7) != 0);
     put_bool(of_binding(w, k, 9) != 0);
     let n = of_binding(w, k, 8);
-    show_value(w, 2064, at, n);
+    show_value(w, layout::VALUES as u32, at, n);
     wrapping_add_u32(at, n)
 }
 
@@ -120,7 +121,7 @@ fn show_consts(w: &[u32], a: u32, e: u32, at: u32) -> u32 {
         letter(b'c');
         put_word(of_const(w, k, 0));
         let n = of_const(w, k, 1);
-        show_value(w, 3088, p, n);
+        show_value(w, layout::CONSTANT_VALUES as u32, p, n);
         p = wrapping_add_u32(p, n);
         k += 1;
     }
@@ -132,7 +133,7 @@ fn show_unresolved(w: &[u32], k: u32) {
     letter(b'u');
     let mut x: usize = 0;
     while x < 4 {
-        put_bool(word(w, 7312 + k as usize * 256) >> x as u32 & 1 != 0);
+        put_bool(word(w, layout::UNRESOLVED + k as usize * 256) >> x as u32 & 1 != 0);
         x += 1;
     }
 }

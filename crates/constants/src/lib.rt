@@ -15,14 +15,15 @@ use records::const_offset;
 use records::first_at;
 use records::passes;
 use records::splice;
+use words::layout;
 
 // Is there a constant of x.
 pub fn has_constant(w: &[u32], x: u8) -> bool
     requires { ⌜ Good (now w) ⌝ }
     ensures { λ r. ⌜ r ≡ hasConstant x (stack (now (w .entry))) ⌝ }
 {
-    let c = w[3] as usize;
-    if first_at(w, 6672, 2, 0, c, x) < c {
+    let c = w[layout::CONSTANT_COUNT] as usize;
+    if first_at(w, layout::CONSTANTS, 2, 0, c, x) < c {
         return true;
     }
     false
@@ -33,14 +34,14 @@ pub fn find_constant(w: &[u32], x: u8) -> Constant
     requires { ⌜ Good (now w) ⌝ }
     ensures { λ r. ⌜ Found (now (w .entry)) x r ⌝ }
 {
-    let mut k = w[2] as usize;
-    let mut e = w[3] as usize;
+    let mut k = w[layout::SCOPE_COUNT] as usize;
+    let mut e = w[layout::CONSTANT_COUNT] as usize;
     while 0 < k {
         k -= 1;
-        let a = w[7184 + k * 4 + 2] as usize;
-        let r = first_at(w, 6672, 2, a, e, x);
+        let a = w[layout::SCOPES + k * 4 + layout::FIRST_CONSTANT] as usize;
+        let r = first_at(w, layout::CONSTANTS, 2, a, e, x);
         if r < e {
-            let m = w[6672 + r * 2 + 1] as usize;
+            let m = w[layout::CONSTANTS + r * 2 + layout::CONSTANT_LENGTH] as usize;
             if 0 < m {
                 return Constant::At(const_offset(w, r), m);
             }
@@ -55,10 +56,10 @@ fn own_const(w: &[u32], x: u8) -> usize
     requires { ⌜ (Good (now w)) × (0 < getD (now w) 2 0) ⌝ }
     ensures { λ r. ⌜ Own (now (w .entry)) x r ⌝ }
 {
-    let d = w[2] as usize - 1;
-    let a = w[7184 + d * 4 + 2] as usize;
-    let c = w[3] as usize;
-    first_at(w, 6672, 2, a, c, x)
+    let d = w[layout::SCOPE_COUNT] as usize - 1;
+    let a = w[layout::SCOPES + d * 4 + layout::FIRST_CONSTANT] as usize;
+    let c = w[layout::CONSTANT_COUNT] as usize;
+    first_at(w, layout::CONSTANTS, 2, a, c, x)
 }
 
 // Constant k gets as its value the m nodes of the tree from node i on.
@@ -66,12 +67,12 @@ fn set_const(w: &mut [u32], k: usize, i: usize, m: usize)
     requires { ⌜ (Good (now w)) × (k < getD (now w) 3 0) × (i + m ≤ getD (now w) 0 0) × (m + coff (now w) (getD (now w) 3 0) ≤ 512 + getD (now w) (6672 + k * 2 + 1) 0) × (runOf (valueOf (run (now w) 16 i m)) ≡ run (now w) 16 i m) ⌝ }
     ensures { λ _. ⌜ Listed (now (w .entry)) (now (w .exit)) (binds (now (w .entry))) (set (consts (now (w .entry))) k (getD (now (w .entry)) (6672 + k * 2) 0, valueOf (run (now (w .entry)) 16 i m))) ⌝ }
 {
-    let n = w[3] as usize;
+    let n = w[layout::CONSTANT_COUNT] as usize;
     let at = const_offset(w, k);
     let end = const_offset(w, n);
-    let old = w[6672 + k * 2 + 1] as usize;
-    splice(w, 3088, at, old, end, i, m);
-    w[6672 + k * 2 + 1] = m as u32;
+    let old = w[layout::CONSTANTS + k * 2 + layout::CONSTANT_LENGTH] as usize;
+    splice(w, layout::CONSTANT_VALUES, at, old, end, i, m);
+    w[layout::CONSTANTS + k * 2 + layout::CONSTANT_LENGTH] = m as u32;
 }
 
 // Appends a constant without a value to the innermost scope.
@@ -79,10 +80,10 @@ fn push_const(w: &mut [u32], x: u8)
     requires { ⌜ (Good (now w)) × (getD (now w) 3 0 < 256) × (0 < getD (now w) 2 0) ⌝ }
     ensures { λ _. ⌜ Listed (now (w .entry)) (now (w .exit)) (binds (now (w .entry))) (consts (now (w .entry)) ++ ((x, none) ∷ [])) ⌝ }
 {
-    let c = w[3] as usize;
-    w[6672 + c * 2] = x as u32;
-    w[6672 + c * 2 + 1] = 0;
-    w[3] = (c + 1) as u32;
+    let c = w[layout::CONSTANT_COUNT] as usize;
+    w[layout::CONSTANTS + c * 2] = x as u32;
+    w[layout::CONSTANTS + c * 2 + layout::CONSTANT_LENGTH] = 0;
+    w[layout::CONSTANT_COUNT] = (c + 1) as u32;
 }
 
 // Constant k gets the m nodes of the tree from node i on as its value, none if m is 0.
@@ -90,7 +91,7 @@ fn replace_const(w: &mut [u32], k: usize, i: usize, m: usize) -> Step
     requires { ⌜ (Good (now w)) × (k < getD (now w) 3 0) × (i + m ≤ getD (now w) 0 0) × (runOf (valueOf (run (now w) 16 i m)) ≡ run (now w) 16 i m) ⌝ }
     ensures { λ r. ⌜ Grown (now (w .entry)) (now (w .exit)) (split (heads (now (w .entry))) (flags (now (w .entry))) (binds (now (w .entry))) (set (consts (now (w .entry))) k (getD (now (w .entry)) (6672 + k * 2) 0, valueOf (run (now (w .entry)) 16 i m)))) r ⌝ }
 {
-    let old = w[6672 + k * 2 + 1] as usize;
+    let old = w[layout::CONSTANTS + k * 2 + layout::CONSTANT_LENGTH] as usize;
     if passes(w, old, m, 0) {
         return Step::Refused(9);
     }
@@ -103,7 +104,7 @@ fn append_const(w: &mut [u32], x: u8, i: usize, m: usize) -> Step
     requires { ⌜ (Good (now w)) × (0 < getD (now w) 2 0) × (i + m ≤ getD (now w) 0 0) × (runOf (valueOf (run (now w) 16 i m)) ≡ run (now w) 16 i m) ⌝ }
     ensures { λ r. ⌜ Grown (now (w .entry)) (now (w .exit)) (split (heads (now (w .entry))) (flags (now (w .entry))) (binds (now (w .entry))) (consts (now (w .entry)) ++ ((x, valueOf (run (now (w .entry)) 16 i m)) ∷ []))) r ⌝ }
 {
-    let c = w[3] as usize;
+    let c = w[layout::CONSTANT_COUNT] as usize;
     if passes(w, 0, m, 1) {
         return Step::Refused(9);
     }
@@ -117,11 +118,11 @@ pub fn add_const(w: &mut [u32], x: u8, i: usize, m: usize) -> Step
     requires { ⌜ (Good (now w)) × (i + m ≤ getD (now w) 0 0) × (runOf (valueOf (run (now w) 16 i m)) ≡ run (now w) 16 i m) ⌝ }
     ensures { λ r. ⌜ Grown (now (w .entry)) (now (w .exit)) (addConst x (valueOf (run (now (w .entry)) 16 i m)) (stack (now (w .entry)))) r ⌝ }
 {
-    let d = w[2] as usize;
+    let d = w[layout::SCOPE_COUNT] as usize;
     if d == 0 {
         return Step::Done;
     }
-    let c = w[3] as usize;
+    let c = w[layout::CONSTANT_COUNT] as usize;
     let r = own_const(w, x);
     if r < c {
         return replace_const(w, r, i, m);

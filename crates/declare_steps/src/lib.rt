@@ -36,6 +36,7 @@ use scope::is_inline_prevented;
 use scope::prevent_inline;
 use scope::read_cnt;
 use words::kind_at;
+use words::layout;
 
 // A step that also tells whether something holds.
 pub enum Told {
@@ -85,7 +86,7 @@ fn over_none(w: &mut [u32], x: u8) -> Step
     requires { ⌜ Planted (now w) ⌝ }
     ensures { λ r. ⌜ Moves (now (w .entry)) (now (w .exit)) (overNone x (rest (now (w .entry)))) (doneOf r (rest (now (w .exit)))) ⌝ }
 {
-    let k = w[8];
+    let k = w[layout::VAR_DECL_KIND];
     if 3 <= k {
         return Step::Done;
     }
@@ -98,7 +99,7 @@ fn over_const(w: &mut [u32], x: u8, e: usize) -> Step
     requires { ⌜ (Planted (now w)) × (e < size (now w)) ⌝ }
     ensures { λ r. ⌜ Moves (now (w .entry)) (now (w .exit)) (overConst x (treeFrom (tree (now (w .entry))) e) (rest (now (w .entry)))) (doneOf r (rest (now (w .exit)))) ⌝ }
 {
-    if w[7] == 0 {
+    if w[layout::IS_FIRST_RUN] == 0 {
         return Step::Done;
     }
     if is_cheap(w, e) {
@@ -142,7 +143,7 @@ fn over_some(w: &mut [u32], x: u8, e: usize) -> Told
     requires { ⌜ (Planted (now w)) × (e < size (now w)) ⌝ }
     ensures { λ r. ⌜ Moves (now (w .entry)) (now (w .exit)) (declrAnalysis (named x) (some (treeFrom (tree (now (w .entry))) e)) (rest (now (w .entry)))) (toldOf r (rest (now (w .exit)))) ⌝ }
 {
-    let k = w[8];
+    let k = w[layout::VAR_DECL_KIND];
     if 3 <= k {
         let r = over_const(w, x, e);
         return answer(r, false);

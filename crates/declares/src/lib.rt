@@ -21,6 +21,7 @@ use rewrites::rewrite;
 use scopes::append_record;
 use scopes::find_binding;
 use scopes::prevent_inline;
+use words::layout;
 
 pub enum VarDeclKind {
     Var,
@@ -56,13 +57,13 @@ pub fn define(w: &mut [u32], x: u8)
         return;
     }
     let k = k1 - 1;
-    let p = 4112 + k * 10;
-    let kind = w[p + 1];
-    let alias = w[p + 2];
-    let reads = w[p + 3];
-    let prevented = w[p + 4];
-    let sensitive = w[p + 6];
-    let hoisted = w[p + 7];
+    let p = layout::BINDINGS + k * 10;
+    let kind = w[p + layout::KIND];
+    let alias = w[p + layout::ALIAS];
+    let reads = w[p + layout::READS];
+    let prevented = w[p + layout::PREVENTED];
+    let sensitive = w[p + layout::SENSITIVE];
+    let hoisted = w[p + layout::HOISTED];
     rewrite(w, k, kind, alias, reads, prevented, 0, sensitive, hoisted);
 }
 
@@ -92,7 +93,7 @@ fn declare_new(
     if passes(w, 0, m, 1) {
         return Step::Refused(9);
     }
-    let n = w[1] as usize;
+    let n = w[layout::BINDING_COUNT] as usize;
     append_record(w, x, kind, alias, 0, prevented, undef, 0, 0);
     set_run(w, n, i, m);
     Step::Done
@@ -164,10 +165,10 @@ fn put_declared(
     requires { ⌜ (Good (now w)) × (i + m ≤ getD (now w) 0 0) × (runOf (valueOf (run (now w) 16 i m)) ≡ run (now w) 16 i m) ⌝ }
     ensures { λ r. ⌜ Grown (now (w .entry)) (now (w .exit)) (putDeclared x (λ old. pick seen old (valueOf (run (now (w .entry)) 16 i m))) (yes prevented) (yes undef) (varTypeOf kind) (aliasAt alias) (stack (now (w .entry)))) r ⌝ }
 {
-    if w[2] == 0 {
+    if w[layout::SCOPE_COUNT] == 0 {
         return Step::Done;
     }
-    let n = w[1] as usize;
+    let n = w[layout::BINDING_COUNT] as usize;
     let r = own_binding(w, x);
     if r < n {
         if seen {

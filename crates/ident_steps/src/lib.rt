@@ -42,6 +42,7 @@ use state::set_inlining;
 use state::set_pat_mode;
 use state::set_var_decl_kind;
 use words::form_at;
+use words::layout;
 
 // Where the next tree begins, or the number of a refusal.
 pub enum Next {
@@ -77,7 +78,7 @@ fn test_read(w: &mut [u32], x: u8)
     requires { ⌜ Good (now w) ⌝ }
     ensures { λ _. ⌜ Becomes (now (w .entry)) (now (w .exit)) (testStack (yes (getD (now (w .entry)) 10 0)) x (stack (now (w .entry)))) ⌝ }
 {
-    if w[10] == 0 {
+    if w[layout::IN_TEST] == 0 {
         return;
     }
     if costly(w, x) {
@@ -124,8 +125,8 @@ fn same_ident(w: &[u32], i: usize, at: usize) -> bool
     requires { ⌜ (Planted (now w)) × (i < size (now w)) × (at < 512) ⌝ }
     ensures { λ r. ⌜ r ≡ (eqb (coreFrom (now (w .entry)) (2064 + at * 2) .kind) 21 && eqb (coreFrom (now (w .entry)) (2064 + at * 2) .num) (nodeOf (now (w .entry)) i .num)) ⌝ }
 {
-    if w[2064 + at * 2] % 64 == 21 {
-        return w[2064 + at * 2 + 1] == w[16 + i * 2 + 1];
+    if w[layout::VALUES + at * 2] % 64 == 21 {
+        return w[layout::VALUES + at * 2 + 1] == w[layout::NODES + i * 2 + 1];
     }
     false
 }
@@ -147,7 +148,7 @@ pub fn inline_value(w: &mut [u32], i: usize, p: u32, at: usize, m: usize) -> Nex
     ensures { λ r. ⌜ Goes (now (w .entry)) (now (w .exit)) r (valueF p (valueFrom (now (w .entry)) ofBindings at m) i (abs (now (w .entry)))) ⌝ }
 {
     let same = same_ident(w, i, at);
-    match replace_at(w, i, p, 2064, at, m) {
+    match replace_at(w, i, p, layout::VALUES, at, m) {
         Step::Refused(n) => Next::Refused(n),
         Step::Done => landed(w, i + m, !same),
     }
@@ -169,7 +170,7 @@ pub fn constant(w: &[u32], i: usize) -> Constant
     requires { ⌜ (Planted (now w)) × (i < size (now w)) × (nodeOf (now w) i .kind ≡ 21) ⌝ }
     ensures { λ r. ⌜ Named (now (w .entry)) i r ⌝ }
 {
-    if w[7] == 0 {
+    if w[layout::IS_FIRST_RUN] == 0 {
         return Constant::Unknown;
     }
     let x = ident_at(w, i);
@@ -181,7 +182,7 @@ pub fn inline_constant(w: &mut [u32], i: usize, p: u32, at: usize, m: usize) -> 
     requires { ⌜ (Planted (now w)) × (i < size (now w)) × (p ≤ 201) × (Held (now w) ofConstants at m) ⌝ }
     ensures { λ r. ⌜ Goes (now (w .entry)) (now (w .exit)) r (constF p (valueFrom (now (w .entry)) ofConstants at m) i (abs (now (w .entry)))) ⌝ }
 {
-    match replace_at(w, i, p, 3088, at, m) {
+    match replace_at(w, i, p, layout::CONSTANT_VALUES, at, m) {
         Step::Refused(n) => Next::Refused(n),
         Step::Done => landed(w, i + m, true),
     }
@@ -230,7 +231,7 @@ pub fn deeper(w: &mut [u32]) -> u32
     requires { ⌜ Planted (now w) ⌝ }
     ensures { λ r. ⌜ Act (now (w .entry)) (now (w .exit)) r (onRest deeper (abs (now (w .entry)))) ⌝ }
 {
-    let n = w[11];
+    let n = w[layout::CONDS];
     if 12 <= n {
         return 8;
     }

@@ -27,6 +27,7 @@ use look::var_type;
 use nodes::skip;
 use records::Step;
 use words::kind_at;
+use words::layout;
 
 // Where x is among the bindings of the current scope, or would be.
 fn place_here(w: &[u32], x: u8) -> usize
@@ -37,12 +38,12 @@ fn place_here(w: &[u32], x: u8) -> usize
     if 0 < r {
         return r - 1;
     }
-    let d = w[2] as usize;
+    let d = w[layout::SCOPE_COUNT] as usize;
     if d == 0 {
         return 0;
     }
-    let a = w[7184 + (d - 1) * 4 + 1] as usize;
-    w[1] as usize - a
+    let a = w[layout::SCOPES + (d - 1) * 4 + layout::FIRST_BINDING] as usize;
+    w[layout::BINDING_COUNT] as usize - a
 }
 
 // Is there a barrier between x and the binding of y.

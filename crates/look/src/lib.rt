@@ -19,6 +19,7 @@ use scopes::offset;
 use words::arity_at;
 use words::flag_at;
 use words::kind_at;
+use words::layout;
 use words::num_at;
 
 // read_cnt: how often a binding was read, if there is one.
@@ -44,10 +45,10 @@ pub fn first_of(w: &[u32], k: usize) -> usize
     requires { ⌜ (Good (now w)) × (k ≤ getD (now w) 2 0) ⌝ }
     ensures { λ r. ⌜ r ≡ first (now (w .entry)) k ⌝ }
 {
-    if k < w[2] as usize {
-        return w[7184 + k * 4 + 1] as usize;
+    if k < w[layout::SCOPE_COUNT] as usize {
+        return w[layout::SCOPES + k * 4 + layout::FIRST_BINDING] as usize;
     }
-    w[1] as usize
+    w[layout::BINDING_COUNT] as usize
 }
 
 // The same of its constants.
@@ -55,10 +56,10 @@ fn cfirst_of(w: &[u32], k: usize) -> usize
     requires { ⌜ (Good (now w)) × (k ≤ getD (now w) 2 0) ⌝ }
     ensures { λ r. ⌜ r ≡ cfirst (now (w .entry)) k ⌝ }
 {
-    if k < w[2] as usize {
-        return w[7184 + k * 4 + 2] as usize;
+    if k < w[layout::SCOPE_COUNT] as usize {
+        return w[layout::SCOPES + k * 4 + layout::FIRST_CONSTANT] as usize;
     }
-    w[3] as usize
+    w[layout::CONSTANT_COUNT] as usize
 }
 
 // The place of the first constant of x from a up to e, e if there is none.
@@ -68,7 +69,7 @@ fn find_const(w: &[u32], a: usize, e: usize, x: u8) -> usize
 {
     let mut k = a;
     while k < e {
-        if w[6672 + k * 2] == x as u32 {
+        if w[layout::CONSTANTS + k * 2] == x as u32 {
             return k;
         }
         k += 1;
@@ -106,7 +107,7 @@ pub fn find_binding_from_current(w: &[u32], x: u8) -> usize
     requires { ⌜ Good (now w) ⌝ }
     ensures { λ r. ⌜ (findBindingFromCurrent x (stack (now (w .entry))) ≡ atPlace (now (w .entry)) r) × (r ≤ getD (now (w .entry)) 1 0) ⌝ }
 {
-    let d = w[2] as usize;
+    let d = w[layout::SCOPE_COUNT] as usize;
     if d == 0 {
         return 0;
     }
@@ -118,7 +119,7 @@ pub fn has_constant(w: &[u32], x: u8) -> bool
     requires { ⌜ Good (now w) ⌝ }
     ensures { λ r. ⌜ r ≡ hasConstant x (stack (now (w .entry))) ⌝ }
 {
-    let mut k = w[2] as usize;
+    let mut k = w[layout::SCOPE_COUNT] as usize;
     while 0 < k {
         k -= 1;
         if const_in(w, k, x) {
@@ -133,13 +134,13 @@ pub fn write_prevents_inline(w: &[u32], x: u8) -> bool
     requires { ⌜ Good (now w) ⌝ }
     ensures { λ r. ⌜ r ≡ writePreventsInline x (stack (now (w .entry))) ⌝ }
 {
-    let mut k = w[2] as usize;
+    let mut k = w[layout::SCOPE_COUNT] as usize;
     while 0 < k {
         k -= 1;
         if found_in(w, k, x) != 0 {
             return false;
         }
-        if w[7184 + k * 4] != 2 {
+        if w[layout::SCOPES + k * 4] != 2 {
             return true;
         }
     }
@@ -151,13 +152,13 @@ pub fn in_loop(w: &[u32]) -> bool
     requires { ⌜ Good (now w) ⌝ }
     ensures { λ r. ⌜ r ≡ inLoop (stack (now (w .entry))) ⌝ }
 {
-    let mut k = w[2] as usize;
+    let mut k = w[layout::SCOPE_COUNT] as usize;
     while 0 < k {
         k -= 1;
-        if 3 <= w[7184 + k * 4] {
+        if 3 <= w[layout::SCOPES + k * 4] {
             return false;
         }
-        if w[7184 + k * 4] == 1 {
+        if w[layout::SCOPES + k * 4] == 1 {
             return true;
         }
     }
@@ -169,7 +170,7 @@ pub fn idx_val(w: &[u32], x: u8) -> usize
     requires { ⌜ Good (now w) ⌝ }
     ensures { λ r. ⌜ idxHere x (stack (now (w .entry))) ≡ idxAt (now (w .entry)) r ⌝ }
 {
-    let d = w[2] as usize;
+    let d = w[layout::SCOPE_COUNT] as usize;
     if d == 0 {
         return 0;
     }
@@ -186,12 +187,12 @@ pub fn bound_here(w: &[u32]) -> usize
     requires { ⌜ Good (now w) ⌝ }
     ensures { λ r. ⌜ r ≡ boundHere (stack (now (w .entry))) ⌝ }
 {
-    let d = w[2] as usize;
+    let d = w[layout::SCOPE_COUNT] as usize;
     if d == 0 {
         return 0;
     }
     let a = first_of(w, d - 1);
-    w[1] as usize - a
+    w[layout::BINDING_COUNT] as usize - a
 }
 
 // Is binding k prevented: its own mark.
@@ -199,28 +200,28 @@ pub fn inline_prevented(w: &[u32], k: usize) -> bool
     requires { ⌜ (Good (now w)) × (k < getD (now w) 1 0) ⌝ }
     ensures { λ r. ⌜ r ≡ bindAt (now (w .entry)) k .inlinePrevented ⌝ }
 {
-    w[4112 + k * 10 + 4] != 0
+    w[layout::BINDINGS + k * 10 + layout::PREVENTED] != 0
 }
 
 pub fn is_undefined(w: &[u32], k: usize) -> bool
     requires { ⌜ (Good (now w)) × (k < getD (now w) 1 0) ⌝ }
     ensures { λ r. ⌜ r ≡ bindAt (now (w .entry)) k .isUndefined ⌝ }
 {
-    w[4112 + k * 10 + 5] != 0
+    w[layout::BINDINGS + k * 10 + layout::UNDEFINED] != 0
 }
 
 pub fn this_sensitive(w: &[u32], k: usize) -> bool
     requires { ⌜ (Good (now w)) × (k < getD (now w) 1 0) ⌝ }
     ensures { λ r. ⌜ r ≡ bindAt (now (w .entry)) k .thisSensitive ⌝ }
 {
-    w[4112 + k * 10 + 6] != 0
+    w[layout::BINDINGS + k * 10 + layout::SENSITIVE] != 0
 }
 
 pub fn hoisted(w: &[u32], k: usize) -> bool
     requires { ⌜ (Good (now w)) × (k < getD (now w) 1 0) ⌝ }
     ensures { λ r. ⌜ r ≡ bindAt (now (w .entry)) k .hoisted ⌝ }
 {
-    w[4112 + k * 10 + 7] != 0
+    w[layout::BINDINGS + k * 10 + layout::HOISTED] != 0
 }
 
 // The number of binding k's VarType.
@@ -228,7 +229,7 @@ pub fn var_type(w: &[u32], k: usize) -> u32
     requires { ⌜ (Good (now w)) × (k < getD (now w) 1 0) ⌝ }
     ensures { λ r. ⌜ varTypeOf r ≡ bindAt (now (w .entry)) k .kind ⌝ }
 {
-    w[4112 + k * 10 + 1]
+    w[layout::BINDINGS + k * 10 + layout::KIND]
 }
 
 // The kind of binding k's value, 0 if it has none.
@@ -236,11 +237,11 @@ pub fn value_kind(w: &[u32], k: usize) -> u32
     requires { ⌜ (Good (now w)) × (k < getD (now w) 1 0) ⌝ }
     ensures { λ r. ⌜ r ≡ kindO (bindAt (now (w .entry)) k .value) ⌝ }
 {
-    if w[4112 + k * 10 + 8] == 0 {
+    if w[layout::BINDINGS + k * 10 + layout::LENGTH] == 0 {
         return 0;
     }
     let at = offset(w, k);
-    w[2064 + at * 2] % 64
+    w[layout::VALUES + at * 2] % 64
 }
 
 // How many nodes it has; they stand from offset(w, k) on.
@@ -248,7 +249,7 @@ pub fn value_len(w: &[u32], k: usize) -> usize
     requires { ⌜ (Good (now w)) × (k < getD (now w) 1 0) ⌝ }
     ensures { λ r. ⌜ (r ≡ lenAt (now (w .entry)) k) × (off (now (w .entry)) k + r ≤ 512) ⌝ }
 {
-    w[4112 + k * 10 + 8] as usize
+    w[layout::BINDINGS + k * 10 + layout::LENGTH] as usize
 }
 
 // VarInfo::is_inline_prevented: the mark, or a member where `this` matters.
@@ -278,7 +279,7 @@ pub fn read_cnt(w: &[u32], x: u8) -> Count
     if k == 0 {
         return Count::Nothing;
     }
-    Count::Reads(w[4112 + (k - 1) * 10 + 3])
+    Count::Reads(w[layout::BINDINGS + (k - 1) * 10 + layout::READS])
 }
 
 // Outwards, is a function, a loop or a condition met before the binding: of a `var` that is not hoisted.
@@ -304,7 +305,7 @@ fn bound_outwards(w: &[u32], x: u8) -> bool
     requires { ⌜ Good (now w) ⌝ }
     ensures { λ r. ⌜ r ≡ scopeFor true x (stack (now (w .entry))) .0 ⌝ }
 {
-    let mut k = w[2] as usize;
+    let mut k = w[layout::SCOPE_COUNT] as usize;
     while 0 < k {
         k -= 1;
         if found_in(w, k, x) != 0 {
@@ -323,7 +324,7 @@ pub fn scope_for(w: &[u32], x: u8) -> ScopeFor
     ensures { λ r. ⌜ (r .bound ≡ scopeFor true x (stack (now (w .entry))) .0) × (r .current ≡ scopeFor true x (stack (now (w .entry))) .1) ⌝ }
 {
     let bound = bound_outwards(w, x);
-    let d = w[2] as usize;
+    let d = w[layout::SCOPE_COUNT] as usize;
     if d <= 1 {
         return ScopeFor {
             bound: bound,
@@ -365,7 +366,7 @@ fn held_below(w: &[u32], d: usize, x: u8) -> bool
     let mut k = d;
     while 0 < k {
         k -= 1;
-        if flag_at(w, 7312 + k * 256, x) != 0 {
+        if flag_at(w, layout::UNRESOLVED + k * 256, x) != 0 {
             return true;
         }
         let r = found_in(w, k, x);
@@ -381,11 +382,11 @@ pub fn should_prevent_inline_because_of_scope(w: &[u32], x: u8) -> bool
     requires { ⌜ Good (now w) ⌝ }
     ensures { λ r. ⌜ r ≡ shouldPreventInlineBecauseOfScope x (stack (now (w .entry))) ⌝ }
 {
-    let d = w[2] as usize;
+    let d = w[layout::SCOPE_COUNT] as usize;
     if d == 0 {
         return false;
     }
-    if flag_at(w, 7312 + (d - 1) * 256, x) != 0 {
+    if flag_at(w, layout::UNRESOLVED + (d - 1) * 256, x) != 0 {
         return true;
     }
     held_below(w, d - 1, x)
@@ -419,7 +420,7 @@ fn object_prevented(w: &[u32], i: usize) -> bool
     if arity_at(w, i) == 0 {
         return false;
     }
-    if w[0] as usize <= i + 1 {
+    if w[layout::NODE_COUNT] as usize <= i + 1 {
         return false;
     }
     if kind_at(w, i + 1) != 21 {
@@ -488,19 +489,19 @@ fn bar(w: &[u32], j: usize) -> bool
     requires { ⌜ Good (now w) ⌝ }
     ensures { λ r. ⌜ r ≡ barsHere (stack (now (w .entry))) j ⌝ }
 {
-    let d = w[2] as usize;
+    let d = w[layout::SCOPE_COUNT] as usize;
     if d == 0 {
         return false;
     }
     if j == 0 {
-        return w[7184 + (d - 1) * 4 + 3] != 0;
+        return w[layout::SCOPES + (d - 1) * 4 + layout::FIRST_BARRIER] != 0;
     }
     let a = first_of(w, d - 1);
-    let n = w[1] as usize;
+    let n = w[layout::BINDING_COUNT] as usize;
     if n - a < j {
         return false;
     }
-    w[4112 + (a + j - 1) * 10 + 9] != 0
+    w[layout::BINDINGS + (a + j - 1) * 10 + layout::BARRIER] != 0
 }
 
 // Is there one before one of the m bindings from a on.

@@ -11,6 +11,7 @@ ghost use Rattle.look.specs.Look.{fnStart, paramsFrom};
 ghost use Rattle.look.specs.Touched.{BarStored};
 use look::first_of;
 use scopes::find_binding;
+use words::layout;
 use words::set_flag;
 
 // What `this` is matters to the innermost binding of x.
@@ -22,7 +23,7 @@ pub fn mark_this_sensitive(w: &mut [u32], x: u8)
     if k == 0 {
         return;
     }
-    w[4112 + (k - 1) * 10 + 6] = 1;
+    w[layout::BINDINGS + (k - 1) * 10 + layout::SENSITIVE] = 1;
 }
 
 // The innermost binding of x is no longer undefined.
@@ -34,7 +35,7 @@ pub fn set_defined(w: &mut [u32], x: u8)
     if k == 0 {
         return;
     }
-    w[4112 + (k - 1) * 10 + 5] = 0;
+    w[layout::BINDINGS + (k - 1) * 10 + layout::UNDEFINED] = 0;
 }
 
 // A count of reads and one more.
@@ -62,11 +63,11 @@ pub fn add_unresolved(w: &mut [u32], x: u8)
     requires { ⌜ Good (now w) ⌝ }
     ensures { λ _. ⌜ Becomes (now (w .entry)) (now (w .exit)) (addUnresolved x (stack (now (w .entry)))) ⌝ }
 {
-    let d = w[2] as usize;
+    let d = w[layout::SCOPE_COUNT] as usize;
     if d == 0 {
         return;
     }
-    set_flag(w, 7312 + (d - 1) * 256, x);
+    set_flag(w, layout::UNRESOLVED + (d - 1) * 256, x);
 }
 
 // A read of x is counted at its innermost binding, which is prevented if it is hoisted; without a binding x is unresolved.
@@ -80,10 +81,13 @@ pub fn count_read(w: &mut [u32], x: u8)
         return;
     }
     let k = k1 - 1;
-    let n = one_more(w[4112 + k * 10 + 3]);
-    let p = either(w[4112 + k * 10 + 7], w[4112 + k * 10 + 4]);
-    w[4112 + k * 10 + 3] = n;
-    w[4112 + k * 10 + 4] = p;
+    let n = one_more(w[layout::BINDINGS + k * 10 + layout::READS]);
+    let p = either(
+        w[layout::BINDINGS + k * 10 + layout::HOISTED],
+        w[layout::BINDINGS + k * 10 + layout::PREVENTED],
+    );
+    w[layout::BINDINGS + k * 10 + layout::READS] = n;
+    w[layout::BINDINGS + k * 10 + layout::PREVENTED] = p;
 }
 
 // Where the bindings of the nearest function begin, outwards.
@@ -91,11 +95,11 @@ fn fn_start(w: &[u32]) -> usize
     requires { ⌜ Good (now w) ⌝ }
     ensures { λ r. ⌜ r ≡ fnStart (heads (now (w .entry))) ⌝ }
 {
-    let mut k = w[2] as usize;
+    let mut k = w[layout::SCOPE_COUNT] as usize;
     while 0 < k {
         k -= 1;
-        if 3 <= w[7184 + k * 4] {
-            return w[7184 + k * 4 + 1] as usize;
+        if 3 <= w[layout::SCOPES + k * 4] {
+            return w[layout::SCOPES + k * 4 + layout::FIRST_BINDING] as usize;
         }
     }
     0
@@ -106,11 +110,11 @@ fn prevent_params(w: &mut [u32], lo: usize)
     requires { ⌜ (Good (now w)) × (lo ≤ getD (now w) 1 0) ⌝ }
     ensures { λ _. ⌜ Becomes (now (w .entry)) (now (w .exit)) (split (heads (now (w .entry))) (flags (now (w .entry))) (paramsFrom lo (binds (now (w .entry)))) (consts (now (w .entry)))) ⌝ }
 {
-    let n = w[1] as usize;
+    let n = w[layout::BINDING_COUNT] as usize;
     let mut k = lo;
     while k < n {
-        if w[4112 + k * 10 + 1] == 0 {
-            w[4112 + k * 10 + 4] = 1;
+        if w[layout::BINDINGS + k * 10 + layout::KIND] == 0 {
+            w[layout::BINDINGS + k * 10 + layout::PREVENTED] = 1;
         }
         k += 1;
     }
@@ -133,9 +137,9 @@ fn store_bar(w: &mut [u32], k: usize)
     let a = first_of(w, k);
     let e = first_of(w, k + 1);
     if a < e {
-        w[4112 + (e - 1) * 10 + 9] = 1;
+        w[layout::BINDINGS + (e - 1) * 10 + layout::BARRIER] = 1;
     } else {
-        w[7184 + k * 4 + 3] = 1;
+        w[layout::SCOPES + k * 4 + layout::FIRST_BARRIER] = 1;
     }
 }
 
@@ -144,7 +148,7 @@ pub fn store_inline_barrier(w: &mut [u32])
     requires { ⌜ Good (now w) ⌝ }
     ensures { λ _. ⌜ Becomes (now (w .entry)) (now (w .exit)) (storeInlineBarrier (stack (now (w .entry)))) ⌝ }
 {
-    let d = w[2] as usize;
+    let d = w[layout::SCOPE_COUNT] as usize;
     let mut k: usize = 0;
     while k < d {
         store_bar(w, k);

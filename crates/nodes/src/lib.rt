@@ -10,6 +10,7 @@ ghost use Rattle.scopes.specs.State.{Whole};
 ghost use Rattle.nodes.specs.Nodes.{Planted, Trees, Child, treeFrom, valueFrom, putAt, cutAt, Measured, Swapped, Apart, NodePut, Slid, Replants, size};
 use words::arity_at;
 use words::kind_at;
+use words::layout;
 use words::put4;
 use words::shift;
 
@@ -92,8 +93,8 @@ pub fn put_node(w: &mut [u32], k: usize, kind: u32, form: u32, arity: u32, num: 
     requires { ⌜ (16384 ≤ length (now w)) × (k < 1024) × (kind < 64) × (form < 32) × (arity < 65536) ⌝ }
     ensures { λ _. ⌜ NodePut (now (w .entry)) (now (w .exit)) k (core kind form arity num) ⌝ }
 {
-    w[16 + k * 2] = kind + 64 * (form + 32 * arity);
-    w[16 + k * 2 + 1] = num;
+    w[layout::NODES + k * 2] = kind + 64 * (form + 32 * arity);
+    w[layout::NODES + k * 2 + 1] = num;
 }
 
 // Appends a node.
@@ -101,9 +102,9 @@ pub fn add_node(w: &mut [u32], kind: u32, form: u32, arity: u32, num: u32)
     requires { ⌜ (16384 ≤ length (now w)) × (size (now w) < 1024) × (kind < 64) × (form < 32) × (arity < 65536) ⌝ }
     ensures { λ _. ⌜ (tree (now (w .exit)) ≡ tree (now (w .entry)) ++ (core kind form arity num ∷ [])) × (Apart (now (w .entry)) (now (w .exit))) ⌝ }
 {
-    let n = w[0] as usize;
+    let n = w[layout::NODE_COUNT] as usize;
     put_node(w, n, kind, form, arity, num);
-    w[0] = (n + 1) as u32;
+    w[layout::NODE_COUNT] = (n + 1) as u32;
 }
 
 // The nodes behind the `old` from i on move, so that there is place for m.
@@ -114,9 +115,14 @@ fn slide(w: &mut [u32], i: usize, old: usize, m: usize)
     if old == m {
         return;
     }
-    let n = w[0] as usize;
-    shift(w, 16 + (i + old) * 2, 16 + (i + m) * 2, (n - i - old) * 2);
-    w[0] = (n + m - old) as u32;
+    let n = w[layout::NODE_COUNT] as usize;
+    shift(
+        w,
+        layout::NODES + (i + old) * 2,
+        layout::NODES + (i + m) * 2,
+        (n - i - old) * 2,
+    );
+    w[layout::NODE_COUNT] = (n + m - old) as u32;
 }
 
 // The subtree of `old` nodes at i gives way to the m nodes from `at` on of the store at word `base`.
@@ -125,7 +131,7 @@ pub fn put_run(w: &mut [u32], i: usize, old: usize, base: usize, at: usize, m: u
     ensures { λ _. ⌜ Replants (now (w .entry)) (now (w .exit)) (putAt (tree (now (w .entry))) i (valueFrom (now (w .entry)) base at m)) ⌝ }
 {
     slide(w, i, old, m);
-    shift(w, base + at * 2, 16 + i * 2, m * 2);
+    shift(w, base + at * 2, layout::NODES + i * 2, m * 2);
 }
 
 // The subtree at i, at depth p, gives way to a recorded value, if rows 8 and 9 let it.
@@ -133,7 +139,7 @@ pub fn replace_at(w: &mut [u32], i: usize, p: u32, base: usize, at: usize, m: us
     requires { ⌜ (Planted (now w)) × (i < size (now w)) × (p ≤ 201) × (2064 ≤ base) × (base + (at + m) * 2 ≤ length (now w)) × (0 < m) × (Whole (run (now w) base at m)) ⌝ }
     ensures { λ r. ⌜ Swapped r (now (w .entry)) (now (w .exit)) p i (valueFrom (now (w .entry)) base at m) ⌝ }
 {
-    let n = w[0] as usize;
+    let n = w[layout::NODE_COUNT] as usize;
     let r = within_height(w, base, at, at + m, 201 - p);
     let Tall::Behind(_) = r else {
         return Step::Refused(8);
@@ -154,13 +160,13 @@ pub fn put_void(w: &mut [u32], i: usize, p: u32) -> Step
     if 199 < p {
         return Step::Refused(8);
     }
-    let n = w[0] as usize;
+    let n = w[layout::NODE_COUNT] as usize;
     let old = skip(w, i) - i;
     if 1024 + old < n + 2 {
         return Step::Refused(9);
     }
     slide(w, i, old, 2);
-    put4(w, 16 + i * 2, 2078, 0, 22, 0);
+    put4(w, layout::NODES + i * 2, 2078, 0, 22, 0);
     Step::Done
 }
 
@@ -169,7 +175,7 @@ fn lift(w: &mut [u32], i: usize, old: usize, j: usize, m: usize)
     requires { ⌜ (Planted (now w)) × (Child (tree (now w)) i 1 j) × (old ≡ count (treeFrom (tree (now w)) i)) × (m ≡ count (treeFrom (tree (now w)) j)) ⌝ }
     ensures { λ _. ⌜ Replants (now (w .entry)) (now (w .exit)) (putAt (tree (now (w .entry))) i (treeFrom (tree (now (w .entry))) j)) ⌝ }
 {
-    shift(w, 16 + j * 2, 16 + i * 2, m * 2);
+    shift(w, layout::NODES + j * 2, layout::NODES + i * 2, m * 2);
     slide(w, i, old, m);
 }
 
@@ -178,7 +184,7 @@ pub fn unwrap(w: &mut [u32], i: usize, j: usize, p: u32) -> Step
     requires { ⌜ (Planted (now w)) × (Child (tree (now w)) i 1 j) × (p ≤ 201) ⌝ }
     ensures { λ r. ⌜ Swapped r (now (w .entry)) (now (w .exit)) p i (treeFrom (tree (now (w .entry))) j) ⌝ }
 {
-    let n = w[0] as usize;
+    let n = w[layout::NODE_COUNT] as usize;
     let r = within_height(w, 16, j, n, 201 - p);
     let Tall::Behind(e) = r else {
         return Step::Refused(8);
@@ -195,5 +201,5 @@ pub fn cut(w: &mut [u32], q: usize, i: usize)
 {
     let old = skip(w, i) - i;
     slide(w, i, old, 0);
-    w[16 + q * 2] -= 2048;
+    w[layout::NODES + q * 2] -= 2048;
 }

@@ -12,6 +12,7 @@ ghost use Rattle.scopes.specs.State.{Good, stack, binds, consts, bindAt, off, c
 ghost use Rattle.records.specs.Steps.{Spliced, Listed, Grown};
 use scopes::find_binding;
 use scopes::offset;
+use words::layout;
 use words::shift;
 
 // What a step that may pass a limit answers: the number of its refusal.
@@ -66,7 +67,7 @@ pub fn splice(w: &mut [u32], base: usize, at: usize, old: usize, end: usize, i: 
         base + (at + m) * 2,
         (end - at - old) * 2,
     );
-    shift(w, 16 + i * 2, base + at * 2, m * 2);
+    shift(w, layout::NODES + i * 2, base + at * 2, m * 2);
 }
 
 // How many nodes the values before constant k have.
@@ -82,8 +83,8 @@ pub fn recorded_nodes(w: &[u32]) -> usize
     requires { ⌜ Good (now w) ⌝ }
     ensures { λ r. ⌜ (r ≡ recordedNodes (stack (now (w .entry)))) × (r ≤ 1024) ⌝ }
 {
-    let n = w[1] as usize;
-    let c = w[3] as usize;
+    let n = w[layout::BINDING_COUNT] as usize;
+    let c = w[layout::CONSTANT_COUNT] as usize;
     offset(w, n) + const_offset(w, c)
 }
 
@@ -92,7 +93,7 @@ pub fn live(w: &[u32]) -> usize
     requires { ⌜ Good (now w) ⌝ }
     ensures { λ r. ⌜ (r ≡ live (stack (now (w .entry)))) × (r ≤ 512) ⌝ }
 {
-    w[1] as usize + w[3] as usize
+    w[layout::BINDING_COUNT] as usize + w[layout::CONSTANT_COUNT] as usize
 }
 
 // Is row 9 passed once old nodes give way to m, and there are `more` records more.
@@ -111,12 +112,12 @@ pub fn set_run(w: &mut [u32], k: usize, i: usize, m: usize)
     requires { ⌜ (Good (now w)) × (k < getD (now w) 1 0) × (i + m ≤ getD (now w) 0 0) × (m + off (now w) (getD (now w) 1 0) ≤ 512 + getD (now w) (4112 + k * 10 + 8) 0) × (runOf (valueOf (run (now w) 16 i m)) ≡ run (now w) 16 i m) ⌝ }
     ensures { λ _. ⌜ (Listed (now (w .entry)) (now (w .exit)) (set (binds (now (w .entry))) k (withValue (valueOf (run (now (w .entry)) 16 i m)) (bindAt (now (w .entry)) k))) (consts (now (w .entry)))) × (Agree (4112 + k * 10 + 10) 6672 (now (w .entry)) (now (w .exit))) ⌝ }
 {
-    let n = w[1] as usize;
+    let n = w[layout::BINDING_COUNT] as usize;
     let at = offset(w, k);
     let end = offset(w, n);
-    let old = w[4112 + k * 10 + 8] as usize;
-    splice(w, 2064, at, old, end, i, m);
-    w[4112 + k * 10 + 8] = m as u32;
+    let old = w[layout::BINDINGS + k * 10 + layout::LENGTH] as usize;
+    splice(w, layout::VALUES, at, old, end, i, m);
+    w[layout::BINDINGS + k * 10 + layout::LENGTH] = m as u32;
 }
 
 // The innermost binding of x gets the m nodes of the tree from node i on as its value, none if m is 0.
@@ -132,7 +133,7 @@ pub fn record_value(w: &mut [u32], x: u8, i: usize, m: usize) -> Step
         return Step::Done;
     }
     let k = k1 - 1;
-    let old = w[4112 + k * 10 + 8] as usize;
+    let old = w[layout::BINDINGS + k * 10 + layout::LENGTH] as usize;
     if passes(w, old, m, 0) {
         return Step::Refused(9);
     }

@@ -11,6 +11,7 @@ use records::Step;
 use records::first_at;
 use records::passes;
 use records::set_run;
+use words::layout;
 use words::put5;
 
 // Overwrites the words of binding k but its name and its value.
@@ -28,9 +29,17 @@ pub fn rewrite(
     requires { ⌜ (Good (now w)) × (k < getD (now w) 1 0) ⌝ }
     ensures { λ _. ⌜ (Listed (now (w .entry)) (now (w .exit)) (set (binds (now (w .entry))) k (refill kind alias reads prevented undef sensitive hoisted (bindAt (now (w .entry)) k))) (consts (now (w .entry)))) × (Agree (4112 + k * 10 + 10) 6672 (now (w .entry)) (now (w .exit))) ⌝ }
 {
-    put5(w, 4112 + k * 10 + 1, kind, alias, reads, prevented, undef);
-    w[4112 + k * 10 + 6] = sensitive;
-    w[4112 + k * 10 + 7] = hoisted;
+    put5(
+        w,
+        layout::BINDINGS + k * 10 + layout::KIND,
+        kind,
+        alias,
+        reads,
+        prevented,
+        undef,
+    );
+    w[layout::BINDINGS + k * 10 + layout::SENSITIVE] = sensitive;
+    w[layout::BINDINGS + k * 10 + layout::HOISTED] = hoisted;
 }
 
 // The binding of x in the innermost scope, by its place among all; their count if there is none.
@@ -38,10 +47,10 @@ pub fn own_binding(w: &[u32], x: u8) -> usize
     requires { ⌜ (Good (now w)) × (0 < getD (now w) 2 0) ⌝ }
     ensures { λ r. ⌜ Own (now (w .entry)) x r ⌝ }
 {
-    let d = w[2] as usize - 1;
-    let a = w[7184 + d * 4 + 1] as usize;
-    let n = w[1] as usize;
-    first_at(w, 4112, 10, a, n, x)
+    let d = w[layout::SCOPE_COUNT] as usize - 1;
+    let a = w[layout::SCOPES + d * 4 + layout::FIRST_BINDING] as usize;
+    let n = w[layout::BINDING_COUNT] as usize;
+    first_at(w, layout::BINDINGS, 10, a, n, x)
 }
 
 // Binding k is declared again, with its value as it is.
@@ -49,11 +58,11 @@ fn remark(w: &mut [u32], k: usize, prevented: u32, undef: u32)
     requires { ⌜ (Good (now w)) × (k < getD (now w) 1 0) ⌝ }
     ensures { λ _. ⌜ Listed (now (w .entry)) (now (w .exit)) (set (binds (now (w .entry))) k (redeclare (yes prevented) (yes undef) (bindAt (now (w .entry)) k .value) (bindAt (now (w .entry)) k))) (consts (now (w .entry))) ⌝ }
 {
-    let p = 4112 + k * 10;
-    let kind = w[p + 1];
-    let alias = w[p + 2];
-    let sensitive = w[p + 6];
-    let hoisted = w[p + 7];
+    let p = layout::BINDINGS + k * 10;
+    let kind = w[p + layout::KIND];
+    let alias = w[p + layout::ALIAS];
+    let sensitive = w[p + layout::SENSITIVE];
+    let hoisted = w[p + layout::HOISTED];
     rewrite(w, k, kind, alias, 0, prevented, undef, sensitive, hoisted);
 }
 
@@ -62,7 +71,7 @@ pub fn redeclare_as(w: &mut [u32], k: usize, i: usize, m: usize, prevented: u32,
     requires { ⌜ (Good (now w)) × (k < getD (now w) 1 0) × (i + m ≤ getD (now w) 0 0) × (runOf (valueOf (run (now w) 16 i m)) ≡ run (now w) 16 i m) ⌝ }
     ensures { λ r. ⌜ Grown (now (w .entry)) (now (w .exit)) (putAt (now (w .entry)) k (redeclare (yes prevented) (yes undef) (valueOf (run (now (w .entry)) 16 i m)) (bindAt (now (w .entry)) k))) r ⌝ }
 {
-    let old = w[4112 + k * 10 + 8] as usize;
+    let old = w[layout::BINDINGS + k * 10 + layout::LENGTH] as usize;
     if passes(w, old, m, 0) {
         return Step::Refused(9);
     }

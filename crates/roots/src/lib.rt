@@ -13,6 +13,7 @@ ghost use Rattle.scopes.specs.State.{Good, stack};
 ghost use Rattle.roots.specs.Listing.{Known, marksTo, rootAt, rootWords, rootList, rootsIn, inRoom, WroteRoots};
 use format::Raw;
 use parts::fields::raw_at;
+use words::layout;
 use writer::Written;
 
 // How many bindings the root has: those before the second scope's.
@@ -20,10 +21,10 @@ fn root_count(w: &[u32]) -> usize
     requires { ⌜ Good (now w) ⌝ }
     ensures { λ r. ⌜ (rootMarks (stack (now (w .entry))) ≡ marksTo (now (w .entry)) r) × (r ≤ 256) ⌝ }
 {
-    if w[2] <= 1 {
-        return w[1] as usize;
+    if w[layout::SCOPE_COUNT] <= 1 {
+        return w[layout::BINDING_COUNT] as usize;
     }
-    w[7189] as usize
+    w[layout::INNER_FIRST] as usize
 }
 
 // Identifier i, by the first node that has it; the number 0 where there is none.
@@ -31,7 +32,7 @@ fn ident(file: &[u8], words: &[u32], i: usize) -> Raw
     requires { ⌜ Known (now file) (now words) ⌝ }
     ensures { λ r. ⌜ r ≡ getD (idsOf (now (file .entry)) (now (words .entry))) i zeroNode ⌝ }
 {
-    if words[4] as usize <= i {
+    if words[layout::IDENT_COUNT] as usize <= i {
         return Raw {
             kind: 24,
             form: 0,
@@ -40,7 +41,7 @@ fn ident(file: &[u8], words: &[u32], i: usize) -> Raw
             bits: 0,
         };
     }
-    let m = words[15504 + i] as usize;
+    let m = words[layout::IDENTS + i] as usize;
     raw_at(file, 32 + 16 * (m - 1))
 }
 
@@ -70,9 +71,9 @@ fn put_roots(file: &[u8], words: &[u32], roots: &mut [u32], n: usize)
 {
     let mut k: usize = 0;
     while k < n {
-        let i = words[4112 + k * 10] as usize;
+        let i = words[layout::BINDINGS + k * 10] as usize;
         let x = ident(file, words, i);
-        let mark = words[4112 + k * 10 + 4];
+        let mark = words[layout::BINDINGS + k * 10 + layout::PREVENTED];
         put_root(roots, 4 * k, x, mark);
         k += 1;
     }

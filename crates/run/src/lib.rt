@@ -12,6 +12,7 @@ use state::set_changed;
 use state::set_inlining;
 use state::set_is_first_run;
 use walk::program;
+use words::layout;
 
 // Runs done and the last one's mark, or a refusal's number.
 pub enum Ran {
@@ -55,7 +56,7 @@ pub fn runs(w: &mut [u32], n: u32) -> Ran
             return Ran::Refused(m);
         }
         k += 1;
-        if w[5] == 0 {
+        if w[layout::CHANGED] == 0 {
             return Ran::Done {
                 runs: k,
                 changed: false,

@@ -5,6 +5,7 @@ ghost use Rattle.run.specs.Start.{Loaded, Fields, Started};
 use bindings::Scope;
 use bindings::ScopeKind;
 use bindings::open_scope;
+use words::layout;
 use words::put5;
 use words::wipe;
 
@@ -13,9 +14,9 @@ fn set_fields(w: &mut [u32])
     requires { ⌜ 16384 ≤ length (now w) ⌝ }
     ensures { λ _. ⌜ Fields (now (w .entry)) (now (w .exit)) ⌝ }
 {
-    wipe(w, 1, 3);
-    put5(w, 5, 0, 0, 1, 1, 3);
-    wipe(w, 10, 2);
+    wipe(w, layout::BINDING_COUNT, 3);
+    put5(w, layout::CHANGED, 0, 0, 1, 1, 3);
+    wipe(w, layout::IN_TEST, 2);
 }
 
 // The fields, and an empty root scope.

@@ -45,6 +45,7 @@ use records::Step;
 pub use scopes::prevent_inline;
 pub use usages::add_read;
 pub use usages::add_write;
+use words::layout;
 
 // A value that is recorded: none, or the tree that begins at a node.
 pub enum Value {
@@ -66,7 +67,7 @@ fn known(w: &[u32], b: usize) -> bool
     if b == 0 {
         return false;
     }
-    b <= w[1] as usize
+    b <= w[layout::BINDING_COUNT] as usize
 }
 
 // Is i a node of the tree.
@@ -74,7 +75,7 @@ fn in_tree(w: &[u32], i: usize) -> bool
     requires { ⌜ Good (now w) ⌝ }
     ensures { λ r. ⌜ (r ≡ true → i < size (now (w .entry))) × (r ≡ false → treeO (tree (now (w .entry))) i ≡ none) ⌝ }
 {
-    i < w[0] as usize
+    i < w[layout::NODE_COUNT] as usize
 }
 
 // with_child, at its beginning: a scope of the kind that a word stands for.
@@ -82,7 +83,7 @@ pub fn open_kind(w: &mut [u32], kind: u32) -> Step
     requires { ⌜ Good (now w) ⌝ }
     ensures { λ r. ⌜ Limited 8 (leb 32 (length (stack (now (w .entry))))) (now (w .entry)) (now (w .exit)) (newScope (scopeKindOf kind) ∷ stack (now (w .entry))) r ⌝ }
 {
-    if 32 <= w[2] {
+    if 32 <= w[layout::SCOPE_COUNT] {
         return Step::Refused(8);
     }
     scopes::open(w, kind);
@@ -114,14 +115,14 @@ fn undefined_now(w: &[u32], v: Init, is_change: bool) -> bool
     requires { ⌜ Good (now w) ⌝ }
     ensures { λ r. ⌜ r ≡ (isVar (rest (now (w .entry)) .varDeclKind) && not «is_change» && hasNone v && rest (now (w .entry)) .inlining) ⌝ }
 {
-    if w[8] != 1 {
+    if w[layout::VAR_DECL_KIND] != 1 {
         return false;
     }
     if is_change {
         return false;
     }
     if no_value(v) {
-        return w[6] != 0;
+        return w[layout::INLINING] != 0;
     }
     false
 }

@@ -11,6 +11,7 @@ ghost use Rattle.marks.specs.Mark.{marked};
 ghost use Rattle.scopes.specs.State.{Good, Becomes, stack, heads, binds, place, off, bindAt, nameOf, hitAt, Window, varTypeOf, aliasAt, scopeKindOf, bareOf, dropInner};
 use marks::Binding;
 use marks::all_marked;
+use words::layout;
 use words::merge;
 use words::put4;
 use words::put5;
@@ -23,7 +24,7 @@ pub fn find_in(w: &[u32], a: usize, e: usize, x: u8) -> usize
 {
     let mut k = a;
     while k < e {
-        if w[4112 + k * 10] == x as u32 {
+        if w[layout::BINDINGS + k * 10] == x as u32 {
             return k;
         }
         k += 1;
@@ -36,11 +37,11 @@ pub fn find_binding(w: &[u32], x: u8) -> usize
     requires { ⌜ Good (now w) ⌝ }
     ensures { λ r. ⌜ (r ≡ place x (heads (now (w .entry))) (binds (now (w .entry)))) × (r ≤ getD (now (w .entry)) 1 0) ⌝ }
 {
-    let mut k = w[2] as usize;
-    let mut e = w[1] as usize;
+    let mut k = w[layout::SCOPE_COUNT] as usize;
+    let mut e = w[layout::BINDING_COUNT] as usize;
     while 0 < k {
         k -= 1;
-        let a = w[7184 + k * 4 + 1] as usize;
+        let a = w[layout::SCOPES + k * 4 + layout::FIRST_BINDING] as usize;
         let r = find_in(w, a, e, x);
         if r < e {
             return r + 1;
@@ -59,7 +60,7 @@ pub fn prevent_found(w: &mut [u32], x: u8)
     if k == 0 {
         return;
     }
-    w[4112 + (k - 1) * 10 + 4] = 1;
+    w[layout::BINDINGS + (k - 1) * 10 + layout::PREVENTED] = 1;
 }
 
 // The identifier that the value of binding k is, 256 if it is none; the value begins at node at of the store.
@@ -67,11 +68,11 @@ fn named(w: &[u32], k: usize, at: usize) -> u32
     requires { ⌜ (Good (now w)) × (k < getD (now w) 1 0) × (at ≡ off (now w) k) × (at + getD (now w) (4112 + k * 10 + 8) 0 ≤ 512) ⌝ }
     ensures { λ r. ⌜ r ≡ nameOf (bindAt (now (w .entry)) k .value) ⌝ }
 {
-    if w[4112 + k * 10 + 8] == 0 {
+    if w[layout::BINDINGS + k * 10 + layout::LENGTH] == 0 {
         return 256;
     }
-    if w[2064 + at * 2] % 64 == 21 {
-        return w[2064 + at * 2 + 1];
+    if w[layout::VALUES + at * 2] % 64 == 21 {
+        return w[layout::VALUES + at * 2 + 1];
     }
     256
 }
@@ -81,10 +82,10 @@ fn to_mark(w: &[u32], k: usize, at: usize, x: u8) -> bool
     requires { ⌜ (Good (now w)) × (k < getD (now w) 1 0) × (at ≡ off (now w) k) ⌝ }
     ensures { λ r. ⌜ r ≡ (not (bindAt (now (w .entry)) k .inlinePrevented) && hitAt (now (w .entry)) k x) ⌝ }
 {
-    if w[4112 + k * 10 + 4] != 0 {
+    if w[layout::BINDINGS + k * 10 + layout::PREVENTED] != 0 {
         return false;
     }
-    if w[4112 + k * 10] == x as u32 {
+    if w[layout::BINDINGS + k * 10] == x as u32 {
         return true;
     }
     let v = named(w, k, at);
@@ -106,7 +107,7 @@ fn records(w: &[u32], k: usize, at: usize) -> [Binding; 8]
     requires { ⌜ (Good (now w)) × (k < getD (now w) 1 0) × (at ≡ off (now w) k) ⌝ }
     ensures { λ r. ⌜ (length r ≡ 8) × (Window (λ b. b) (now (w .entry)) k r) ⌝ }
 {
-    let n = w[1] as usize;
+    let n = w[layout::BINDING_COUNT] as usize;
     let e = window(n - k);
     let mut bs = [Binding {
         id: 256,
@@ -117,12 +118,12 @@ fn records(w: &[u32], k: usize, at: usize) -> [Binding; 8]
     let mut o = at;
     while i < e {
         let j = k + i;
-        let m = w[4112 + j * 10 + 8] as usize;
+        let m = w[layout::BINDINGS + j * 10 + layout::LENGTH] as usize;
         let v = named(w, j, o);
         bs[i] = Binding {
-            id: w[4112 + j * 10],
+            id: w[layout::BINDINGS + j * 10],
             value: v,
-            prevented: w[4112 + j * 10 + 4] != 0,
+            prevented: w[layout::BINDINGS + j * 10 + layout::PREVENTED] != 0,
         };
         o += m;
         i += 1;
@@ -145,7 +146,7 @@ fn mark_from(w: &mut [u32], k: usize, at: usize, x: u8)
     requires { ⌜ (Good (now w)) × (k < getD (now w) 1 0) × (at ≡ off (now w) k) × ((j : ℕ) → j < k → bindAt (now w) j ≡ preventOne x (bindAt (now w) j)) ⌝ }
     ensures { λ _. ⌜ Becomes (now (w .entry)) (now (w .exit)) (preventInline x (stack (now (w .entry)))) ⌝ }
 {
-    let n = w[1] as usize;
+    let n = w[layout::BINDING_COUNT] as usize;
     let mut bs = marks_of(w, k, at, x);
     let mut i: usize = 0;
     let mut j = k;
@@ -159,11 +160,11 @@ fn mark_from(w: &mut [u32], k: usize, at: usize, x: u8)
         }
         if i < 8 {
             if bs[i].prevented {
-                w[4112 + j * 10 + 4] = 1;
+                w[layout::BINDINGS + j * 10 + layout::PREVENTED] = 1;
             }
             i += 1;
         }
-        o += w[4112 + j * 10 + 8] as usize;
+        o += w[layout::BINDINGS + j * 10 + layout::LENGTH] as usize;
         j += 1;
     }
 }
@@ -173,11 +174,11 @@ pub fn prevent_inline(w: &mut [u32], x: u8)
     requires { ⌜ Good (now w) ⌝ }
     ensures { λ _. ⌜ Becomes (now (w .entry)) (now (w .exit)) (preventInline x (stack (now (w .entry)))) ⌝ }
 {
-    let n = w[1] as usize;
+    let n = w[layout::BINDING_COUNT] as usize;
     let mut k: usize = 0;
     let mut at: usize = 0;
     while k < n {
-        let m = w[4112 + k * 10 + 8] as usize;
+        let m = w[layout::BINDINGS + k * 10 + layout::LENGTH] as usize;
         if to_mark(w, k, at, x) {
             mark_from(w, k, at, x);
             return;
@@ -195,7 +196,7 @@ pub fn offset(w: &[u32], k: usize) -> usize
     let mut at: usize = 0;
     let mut j: usize = 0;
     while j < k {
-        at += w[4112 + j * 10 + 8] as usize;
+        at += w[layout::BINDINGS + j * 10 + layout::LENGTH] as usize;
         j += 1;
     }
     at
@@ -216,10 +217,26 @@ pub fn append_record(
     requires { ⌜ (Good (now w)) × (getD (now w) 1 0 < 256) × (0 < getD (now w) 2 0) ⌝ }
     ensures { λ _. ⌜ (Becomes (now (w .entry)) (now (w .exit)) (append (bareOf id kind alias reads prevented undef sensitive hoisted) (stack (now (w .entry))))) × (Agree (4112 + getD (now (w .entry)) 1 0 * 10 + 10) 6672 (now (w .entry)) (now (w .exit))) × (getD (now (w .exit)) 1 0 ≡ getD (now (w .entry)) 1 0 + 1) ⌝ }
 {
-    let n = w[1] as usize;
-    put5(w, 4112 + n * 10, id as u32, kind, alias, reads, prevented);
-    put5(w, 4112 + n * 10 + 5, undef, sensitive, hoisted, 0, 0);
-    w[1] = (n + 1) as u32;
+    let n = w[layout::BINDING_COUNT] as usize;
+    put5(
+        w,
+        layout::BINDINGS + n * 10,
+        id as u32,
+        kind,
+        alias,
+        reads,
+        prevented,
+    );
+    put5(
+        w,
+        layout::BINDINGS + n * 10 + layout::UNDEFINED,
+        undef,
+        sensitive,
+        hoisted,
+        0,
+        0,
+    );
+    w[layout::BINDING_COUNT] = (n + 1) as u32;
 }
 
 // Appends a binding that was not read yet.
@@ -235,12 +252,12 @@ pub fn open(w: &mut [u32], kind: u32)
     requires { ⌜ (Good (now w)) × (getD (now w) 2 0 < 32) ⌝ }
     ensures { λ _. ⌜ Becomes (now (w .entry)) (now (w .exit)) (newScope (scopeKindOf kind) ∷ stack (now (w .entry))) ⌝ }
 {
-    let d = w[2] as usize;
-    let n = w[1];
-    let c = w[3];
-    wipe(w, 7312 + d * 256, 8);
-    put4(w, 7184 + d * 4, kind, n, c, 0);
-    w[2] = (d + 1) as u32;
+    let d = w[layout::SCOPE_COUNT] as usize;
+    let n = w[layout::BINDING_COUNT];
+    let c = w[layout::CONSTANT_COUNT];
+    wipe(w, layout::UNRESOLVED + d * 256, 8);
+    put4(w, layout::SCOPES + d * 4, kind, n, c, 0);
+    w[layout::SCOPE_COUNT] = (d + 1) as u32;
 }
 
 // Drops the innermost of two or more scopes with its records; what was unresolved in it is unresolved above.
@@ -248,11 +265,16 @@ pub fn drop_scope(w: &mut [u32])
     requires { ⌜ (Good (now w)) × (1 < getD (now w) 2 0) ⌝ }
     ensures { λ _. ⌜ (Becomes (now (w .entry)) (now (w .exit)) (dropInner (stack (now (w .entry))))) × (Agree 4112 6672 (now (w .entry)) (now (w .exit))) × (getD (now (w .exit)) 1 0 ≡ getD (now (w .entry)) (7184 + (getD (now (w .entry)) 2 0 - 1) * 4 + 1) 0) ⌝ }
 {
-    let d = w[2] as usize - 1;
-    let n = w[7184 + d * 4 + 1];
-    let c = w[7184 + d * 4 + 2];
-    merge(w, 7312 + d * 256, 7312 + (d - 1) * 256, 8);
-    w[1] = n;
-    w[3] = c;
-    w[2] = d as u32;
+    let d = w[layout::SCOPE_COUNT] as usize - 1;
+    let n = w[layout::SCOPES + d * 4 + layout::FIRST_BINDING];
+    let c = w[layout::SCOPES + d * 4 + layout::FIRST_CONSTANT];
+    merge(
+        w,
+        layout::UNRESOLVED + d * 256,
+        layout::UNRESOLVED + (d - 1) * 256,
+        8,
+    );
+    w[layout::BINDING_COUNT] = n;
+    w[layout::CONSTANT_COUNT] = c;
+    w[layout::SCOPE_COUNT] = d as u32;
 }

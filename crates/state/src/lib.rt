@@ -5,52 +5,53 @@ ghost use Rattle.words.specs.Layout.{yes};
 ghost use Rattle.scopes.specs.State.{varTypeOf};
 ghost use Rattle.nodes.specs.Nodes.{Planted};
 ghost use Rattle.state.specs.State.{modeOf, rest, Turns};
+use words::layout;
 
 pub fn set_changed(w: &mut [u32], v: u32)
     requires { ⌜ Planted (now w) ⌝ }
     ensures { λ _. ⌜ Turns (now (w .entry)) (now (w .exit)) (setChanged (yes v) (rest (now (w .entry)))) ⌝ }
 {
-    w[5] = v;
+    w[layout::CHANGED] = v;
 }
 
 pub fn set_inlining(w: &mut [u32], v: u32)
     requires { ⌜ Planted (now w) ⌝ }
     ensures { λ _. ⌜ Turns (now (w .entry)) (now (w .exit)) (setInlining (yes v) (rest (now (w .entry)))) ⌝ }
 {
-    w[6] = v;
+    w[layout::INLINING] = v;
 }
 
 pub fn set_is_first_run(w: &mut [u32], v: u32)
     requires { ⌜ Planted (now w) ⌝ }
     ensures { λ _. ⌜ Turns (now (w .entry)) (now (w .exit)) (setIsFirstRun (yes v) (rest (now (w .entry)))) ⌝ }
 {
-    w[7] = v;
+    w[layout::IS_FIRST_RUN] = v;
 }
 
 pub fn set_var_decl_kind(w: &mut [u32], v: u32)
     requires { ⌜ Planted (now w) ⌝ }
     ensures { λ _. ⌜ Turns (now (w .entry)) (now (w .exit)) (setVarDeclKind (varTypeOf v) (rest (now (w .entry)))) ⌝ }
 {
-    w[8] = v;
+    w[layout::VAR_DECL_KIND] = v;
 }
 
 pub fn set_pat_mode(w: &mut [u32], v: u32)
     requires { ⌜ Planted (now w) ⌝ }
     ensures { λ _. ⌜ Turns (now (w .entry)) (now (w .exit)) (setPatMode (modeOf v) (rest (now (w .entry)))) ⌝ }
 {
-    w[9] = v;
+    w[layout::PAT_MODE] = v;
 }
 
 pub fn set_in_test(w: &mut [u32], v: u32)
     requires { ⌜ Planted (now w) ⌝ }
     ensures { λ _. ⌜ Turns (now (w .entry)) (now (w .exit)) (setInTest (yes v) (rest (now (w .entry)))) ⌝ }
 {
-    w[10] = v;
+    w[layout::IN_TEST] = v;
 }
 
 pub fn set_conds(w: &mut [u32], v: u32)
     requires { ⌜ Planted (now w) ⌝ }
     ensures { λ _. ⌜ Turns (now (w .entry)) (now (w .exit)) (setConds v (rest (now (w .entry)))) ⌝ }
 {
-    w[11] = v;
+    w[layout::CONDS] = v;
 }

@@ -8,6 +8,7 @@ ghost use Rattle.format.specs.Read.{rawOf};
 ghost use Rattle.treefile.specs.Idents.{idsOf, Listed, Enters};
 use parts::fields::u32_at;
 use parts::fields::u64_at;
+use words::layout;
 
 // The number of an identifier, or none where 256 others are listed.
 pub enum Entered {
@@ -31,10 +32,10 @@ fn place_of(file: &[u8], words: &[u32], n: usize, b: usize) -> usize
     requires { ⌜ Listed (now words) n × (n ≤ 1024) × (32 + 16 * n ≤ length (now file)) × (b ≤ 100000) × (b + 16 ≤ length (now file)) ⌝ }
     ensures { λ r. ⌜ r ≡ placeOf (rawOf (drop b (now (file .entry)))) (idsOf (now (file .entry)) (now (words .entry))) ⌝ }
 {
-    let count = words[4] as usize;
+    let count = words[layout::IDENT_COUNT] as usize;
     let mut j: usize = 0;
     while j < count {
-        let m = words[15504 + j] as usize;
+        let m = words[layout::IDENTS + j] as usize;
         if same_id(file, b, 32 + 16 * (m - 1)) {
             return j;
         }
@@ -48,7 +49,7 @@ pub fn enter(file: &[u8], words: &mut [u32], n: usize, k: usize) -> Entered
     requires { ⌜ Listed (now words) n × (n ≤ 1024) × (32 + 16 * n ≤ length (now file)) × (k < n) × (hasId (rawOf (drop (32 + 16 * k) (now file))) ≡ true) ⌝ }
     ensures { λ r. ⌜ Enters (now (file .entry)) (now (words .entry)) (now (words .exit)) n (rawOf (drop (32 + 16 * k) (now (file .entry)))) r ⌝ }
 {
-    let count = words[4] as usize;
+    let count = words[layout::IDENT_COUNT] as usize;
     let j = place_of(file, words, n, 32 + 16 * k);
     if j < count {
         return Entered::At(j as u32);
@@ -56,7 +57,7 @@ pub fn enter(file: &[u8], words: &mut [u32], n: usize, k: usize) -> Entered
     if count == 256 {
         return Entered::Full;
     }
-    words[15504 + count] = (k + 1) as u32;
-    words[4] = (count + 1) as u32;
+    words[layout::IDENTS + count] = (k + 1) as u32;
+    words[layout::IDENT_COUNT] = (count + 1) as u32;
     Entered::At(count as u32)
 }

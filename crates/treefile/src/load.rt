@@ -11,15 +11,16 @@ use crate::idents::enter;
 use parts::fields::raw_at;
 use parts::texts::same_text;
 use parts::texts::text;
+use words::layout;
 
 // Appends a node to the tree, which has k nodes.
 fn put_node(words: &mut [u32], k: usize, kind: u32, form: u32, arity: u32, num: u32)
     requires { ⌜ (16384 ≤ length (now words)) × (k < 1024) × (getD (now words) 0 0 ≡ k) × (kind < 64) × (form < 32) × (arity < 65536) ⌝ }
     ensures { λ _. ⌜ Appended (now (words .entry)) (now (words .exit)) (core kind form arity num) ⌝ }
 {
-    words[16 + k * 2] = kind + 64 * (form + 32 * arity);
-    words[16 + k * 2 + 1] = num;
-    words[0] = (k + 1) as u32;
+    words[layout::NODES + k * 2] = kind + 64 * (form + 32 * arity);
+    words[layout::NODES + k * 2 + 1] = num;
+    words[layout::NODE_COUNT] = (k + 1) as u32;
 }
 
 fn flag(b: bool) -> u32
@@ -80,8 +81,8 @@ pub fn load(file: &[u8], words: &mut [u32], n: usize, t: usize) -> bool
     requires { ⌜ Readable (now file) n t × (16384 ≤ length (now words)) ⌝ }
     ensures { λ r. ⌜ Done (now (file .entry)) (now (words .entry)) (now (words .exit)) n t r ⌝ }
 {
-    words[0] = 0;
-    words[4] = 0;
+    words[layout::NODE_COUNT] = 0;
+    words[layout::IDENT_COUNT] = 0;
     let mut k: usize = 0;
     while k < n {
         if load_node(file, words, n, t, k) {

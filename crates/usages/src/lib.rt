@@ -21,6 +21,7 @@ use markers::mark::set_defined;
 use scopes::offset;
 use scopes::prevent_inline;
 use scopes::push;
+use words::layout;
 
 // How many nodes the values before constant k have.
 fn const_offset(w: &[u32], k: usize) -> usize
@@ -30,7 +31,7 @@ fn const_offset(w: &[u32], k: usize) -> usize
     let mut at: usize = 0;
     let mut j: usize = 0;
     while j < k {
-        at += w[6672 + j * 2 + 1] as usize;
+        at += w[layout::CONSTANTS + j * 2 + layout::CONSTANT_LENGTH] as usize;
         j += 1;
     }
     at
@@ -41,8 +42,8 @@ pub fn past_limits(w: &[u32]) -> bool
     requires { ⌜ Good (now w) ⌝ }
     ensures { λ r. ⌜ r ≡ past (stack (now (w .entry))) ⌝ }
 {
-    let n = w[1] as usize;
-    let c = w[3] as usize;
+    let n = w[layout::BINDING_COUNT] as usize;
+    let c = w[layout::CONSTANT_COUNT] as usize;
     let v = offset(w, n);
     let u = const_offset(w, c);
     if 512 < v + u {
@@ -120,10 +121,10 @@ fn write_free(w: &mut [u32], x: u8, force: bool) -> Step
     if has_constant(w, x) {
         return within_records(w);
     }
-    if w[2] == 0 {
+    if w[layout::SCOPE_COUNT] == 0 {
         return within_records(w);
     }
-    if 256 <= w[1] + w[3] {
+    if 256 <= w[layout::BINDING_COUNT] + w[layout::CONSTANT_COUNT] {
         return Step::Refused(9);
     }
     let p = flag(force);

@@ -47,6 +47,7 @@ use walk_steps::steps::settled;
 use words::arity_at;
 use words::form_at;
 use words::kind_at;
+use words::layout;
 use words::num_at;
 use write_steps::assign::assign_first;
 use write_steps::assign::assign_last;
@@ -109,7 +110,7 @@ fn stmts(w: &mut [u32], p: usize, d: usize, n: usize, i: usize) -> usize
     requires { ⌜ Here (now w) n i p d ⌝ }
     ensures { λ r. ⌜ Did (now (w .entry)) (now (w .exit)) (nextOf r) (visitMutStmtsF (walksF d) p n i (abs (now (w .entry)))) ⌝ }
 {
-    if w[6] == 0 {
+    if w[layout::INLINING] == 0 {
         return many(w, p, d, n, i);
     }
     set_inlining(w, 0);
@@ -144,10 +145,10 @@ fn block(w: &mut [u32], p: usize, d: usize, i: usize) -> usize
     requires { ⌜ Here (now w) 1 i p (d + 1) ⌝ }
     ensures { λ r. ⌜ Did (now (w .entry)) (now (w .exit)) (nextOf r) (visitMutBlockStmtF (walksF d) p i (abs (now (w .entry)))) ⌝ }
 {
-    let inl = w[6];
-    let decl = w[8];
-    let mode = w[9];
-    let test = w[10];
+    let inl = w[layout::INLINING];
+    let decl = w[layout::VAR_DECL_KIND];
+    let mode = w[layout::PAT_MODE];
+    let test = w[layout::IN_TEST];
     let e = enter(w, 2);
     if e != 0 {
         return refused(e);
@@ -165,10 +166,10 @@ fn arm(w: &mut [u32], p: usize, d: usize, kind: u32, i: usize) -> usize
     requires { ⌜ Here (now w) 1 i p d ⌝ }
     ensures { λ r. ⌜ Did (now (w .entry)) (now (w .exit)) (nextOf r) (visitWithChildF (walksF d) p (scopeKindOf kind) i (abs (now (w .entry)))) ⌝ }
 {
-    let inl = w[6];
-    let decl = w[8];
-    let mode = w[9];
-    let test = w[10];
+    let inl = w[layout::INLINING];
+    let decl = w[layout::VAR_DECL_KIND];
+    let mode = w[layout::PAT_MODE];
+    let test = w[layout::IN_TEST];
     let e = enter(w, kind);
     if e != 0 {
         return refused(e);
@@ -233,7 +234,7 @@ fn init(w: &mut [u32], p: usize, d: usize, n: usize, i: usize) -> Next
     requires { ⌜ (Here (now w) 1 i p (d + 1)) × (n ≡ nodeOf (now w) i .arity) × (Bound (now w) n (i + 1)) ⌝ }
     ensures { λ r. ⌜ Did (now (w .entry)) (now (w .exit)) r (declrEndF (walksF d) p i (some (treeAt (abs (now (w .entry))) (i + 1))) true (rest (now (w .entry)) .varDeclKind) n (i + 1) (abs (now (w .entry)))) ⌝ }
 {
-    let kind = w[8];
+    let kind = w[layout::VAR_DECL_KIND];
     if 3 <= kind {
         return next(name(w, p, d, n, i));
     }
@@ -267,7 +268,7 @@ fn declr(w: &mut [u32], p: usize, d: usize, i: usize) -> usize
     if nameless(w, n, i + 1) {
         return name(w, p, d, n, i);
     }
-    if w[6] != 0 {
+    if w[layout::INLINING] != 0 {
         return coded(init(w, p, d, n, i));
     }
     let x = ident_at(w, i + 1);
@@ -305,10 +306,10 @@ fn func(w: &mut [u32], p: usize, d: usize, named: u32, n: usize, i: usize) -> us
     requires { ⌜ (Here (now w) n i (p + 1) d) × (named ≤ 1) ⌝ }
     ensures { λ r. ⌜ Did (now (w .entry)) (now (w .exit)) (nextOf r) (visitMutFunctionF (walksF d) p (yes named) n i (abs (now (w .entry)))) ⌝ }
 {
-    let inl = w[6];
-    let decl = w[8];
-    let mode = w[9];
-    let test = w[10];
+    let inl = w[layout::INLINING];
+    let decl = w[layout::VAR_DECL_KIND];
+    let mode = w[layout::PAT_MODE];
+    let test = w[layout::IN_TEST];
     let e = enter(w, 3 + named);
     if e != 0 {
         return refused(e);
@@ -365,10 +366,10 @@ fn arrow(w: &mut [u32], p: usize, d: usize, i: usize) -> usize
     requires { ⌜ Here (now w) 1 i p (d + 1) ⌝ }
     ensures { λ r. ⌜ Did (now (w .entry)) (now (w .exit)) (nextOf r) (visitMutArrowExprF (walksF d) p i (abs (now (w .entry)))) ⌝ }
 {
-    let inl = w[6];
-    let decl = w[8];
-    let mode = w[9];
-    let test = w[10];
+    let inl = w[layout::INLINING];
+    let decl = w[layout::VAR_DECL_KIND];
+    let mode = w[layout::PAT_MODE];
+    let test = w[layout::IN_TEST];
     let e = enter(w, 3);
     if e != 0 {
         return refused(e);
@@ -390,7 +391,7 @@ fn ifs(w: &mut [u32], p: usize, d: usize, i: usize) -> usize
     if n == 0 {
         return i + 1;
     }
-    let old = w[10];
+    let old = w[layout::IN_TEST];
     set_in_test(w, 1);
     let r = full(w, p + 1, d, i + 1);
     let Next::At(j) = next(r) else {
@@ -541,10 +542,10 @@ fn catch(w: &mut [u32], p: usize, d: usize, i: usize) -> usize
     requires { ⌜ Here (now w) 1 i p (d + 1) ⌝ }
     ensures { λ r. ⌜ Did (now (w .entry)) (now (w .exit)) (nextOf r) (visitMutCatchClauseF (walksF d) p i (abs (now (w .entry)))) ⌝ }
 {
-    let inl = w[6];
-    let decl = w[8];
-    let mode = w[9];
-    let test = w[10];
+    let inl = w[layout::INLINING];
+    let decl = w[layout::VAR_DECL_KIND];
+    let mode = w[layout::PAT_MODE];
+    let test = w[layout::IN_TEST];
     let e = enter(w, 2);
     if e != 0 {
         return refused(e);
@@ -592,10 +593,10 @@ fn case(w: &mut [u32], p: usize, d: usize, i: usize) -> usize
     requires { ⌜ Here (now w) 1 i p (d + 1) ⌝ }
     ensures { λ r. ⌜ Did (now (w .entry)) (now (w .exit)) (nextOf r) (visitMutSwitchCaseF (walksF d) p i (abs (now (w .entry)))) ⌝ }
 {
-    let inl = w[6];
-    let decl = w[8];
-    let mode = w[9];
-    let test = w[10];
+    let inl = w[layout::INLINING];
+    let decl = w[layout::VAR_DECL_KIND];
+    let mode = w[layout::PAT_MODE];
+    let test = w[layout::IN_TEST];
     let e = enter(w, 2);
     if e != 0 {
         return refused(e);
@@ -714,7 +715,7 @@ fn conds(w: &mut [u32], p: usize, d: usize, n: usize, i: usize) -> usize
     let mut at = i;
     let mut k: usize = 0;
     while k < n {
-        let old = w[11];
+        let old = w[layout::CONDS];
         let e = deeper(w);
         if e != 0 {
             return refused(e);
@@ -796,7 +797,7 @@ fn ident(w: &mut [u32], p: usize, d: usize, i: usize) -> usize
             full(w, p, d, i)
         }
         Constant::Unknown => {
-            if w[6] == 0 {
+            if w[layout::INLINING] == 0 {
                 ident_analysis(w, i);
                 return skip(w, i);
             }
@@ -834,7 +835,7 @@ fn after(w: &mut [u32], p: usize, d: usize, i: usize, j: usize) -> usize
     if f != 0 {
         return j;
     }
-    if w[6] == 0 {
+    if w[layout::INLINING] == 0 {
         return j;
     }
     coded(after_assign(w, i, p as u32))

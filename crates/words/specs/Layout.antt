@@ -2,7 +2,8 @@
 --
 -- words             what                                       record
 -- 0 to 4            counts: nodes, bindings, scopes, constants, identifiers
--- 5 to 15           reserved
+-- 5 to 11           the visitor's fields: changed, inlining, is_first_run, var_decl_kind, pat_mode, in_test, right sides of && and || open in their Cond scopes
+-- 12 to 15          free
 -- 16 to 2063        the tree's nodes, at most 1,024            2: kind + 64 * (form + 32 * arity); number
 -- 2064 to 3087      nodes of the bindings' values, 512         2: the same. The values stand in the order of the bindings, with no gap
 -- 3088 to 4111      nodes of the constants' values, 512        2: the same, in the order of the constants

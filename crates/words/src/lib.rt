@@ -6,12 +6,14 @@ ghost use Rattle.words.specs.Layout.{nodeOf};
 ghost use Rattle.words.specs.Flags.{flagAt, Flagged};
 ghost use Rattle.words.specs.Moved.{Moved, Put4, Put5, Zeroed, Merged, Cleared};
 
+pub mod layout;
+
 // The kind of node k of the tree.
 pub fn kind_at(w: &[u32], k: usize) -> u32
     requires { ⌜ (16384 ≤ length (now w)) × (k < 1024) ⌝ }
     ensures { λ r. ⌜ r ≡ nodeOf (now (w .entry)) k .kind ⌝ }
 {
-    w[16 + k * 2] % 64
+    w[layout::NODES + k * 2] % 64
 }
 
 // Its form.
@@ -19,7 +21,7 @@ pub fn form_at(w: &[u32], k: usize) -> u32
     requires { ⌜ (16384 ≤ length (now w)) × (k < 1024) ⌝ }
     ensures { λ r. ⌜ r ≡ nodeOf (now (w .entry)) k .form ⌝ }
 {
-    w[16 + k * 2] / 64 % 32
+    w[layout::NODES + k * 2] / 64 % 32
 }
 
 // How many children it has.
@@ -27,7 +29,7 @@ pub fn arity_at(w: &[u32], k: usize) -> u32
     requires { ⌜ (16384 ≤ length (now w)) × (k < 1024) ⌝ }
     ensures { λ r. ⌜ r ≡ nodeOf (now (w .entry)) k .arity ⌝ }
 {
-    w[16 + k * 2] / 2048 % 65536
+    w[layout::NODES + k * 2] / 2048 % 65536
 }
 
 // Its number.
@@ -35,7 +37,7 @@ pub fn num_at(w: &[u32], k: usize) -> u32
     requires { ⌜ (16384 ≤ length (now w)) × (k < 1024) ⌝ }
     ensures { λ r. ⌜ r ≡ nodeOf (now (w .entry)) k .num ⌝ }
 {
-    w[16 + k * 2 + 1]
+    w[layout::NODES + k * 2 + 1]
 }
 
 // Copies n words from a to b, the first one first.

@@ -25,6 +25,7 @@ use scope::declare;
 use words::arity_at;
 use words::form_at;
 use words::kind_at;
+use words::layout;
 use words::num_at;
 
 // The name of the function at i, in Analysis.
@@ -38,7 +39,7 @@ pub fn declare_name(w: &mut [u32], i: usize) -> u32
     if kind_at(w, i + 1) != 20 {
         return 0;
     }
-    if w[6] != 0 {
+    if w[layout::INLINING] != 0 {
         return 0;
     }
     let x = ident_at(w, i + 1);
@@ -84,7 +85,7 @@ pub fn pat_step(w: &mut [u32], i: usize) -> u32
     if kind_at(w, i) != 20 {
         return 0;
     }
-    let m = w[9];
+    let m = w[layout::PAT_MODE];
     if m == 0 {
         return write_unbound(w, i);
     }

@@ -30,6 +30,7 @@ use scope::store_inline_barrier;
 use words::arity_at;
 use words::form_at;
 use words::kind_at;
+use words::layout;
 
 // Document 01's number of a refusal, 0 where there is none.
 fn number(s: Step) -> u32
@@ -154,7 +155,7 @@ pub fn mark_callee(w: &mut [u32], i: usize)
     requires { ⌜ (Planted (now w)) × (i < size (now w)) ⌝ }
     ensures { λ _. ⌜ Act (now (w .entry)) (now (w .exit)) 0 (act (λ c s. when (not (s .inlining)) (mark (markThisSensitive (identOf (some c)))) s) i (abs (now (w .entry)))) ⌝ }
 {
-    if w[6] != 0 {
+    if w[layout::INLINING] != 0 {
         return;
     }
     if kind_at(w, i) != 21 {
@@ -172,7 +173,7 @@ pub fn mark_caught(w: &mut [u32], k: u32, x: u32)
     if k != 20 {
         return;
     }
-    if w[6] != 0 {
+    if w[layout::INLINING] != 0 {
         return;
     }
     prevent_inline(w, x as u8);
@@ -183,7 +184,7 @@ pub fn store_barrier(w: &mut [u32])
     requires { ⌜ Planted (now w) ⌝ }
     ensures { λ _. ⌜ Act (now (w .entry)) (now (w .exit)) 0 (onRest storeInlineBarrierM (abs (now (w .entry)))) ⌝ }
 {
-    if w[6] != 0 {
+    if w[layout::INLINING] != 0 {
         return;
     }
     store_inline_barrier(w);

@@ -9,6 +9,7 @@ use crate::put::copy;
 use crate::put::put_head;
 use treefile::header::Head;
 use treefile::header::read_header;
+use words::layout;
 
 // The result's length, or a refusal's number.
 pub enum Written {
@@ -28,7 +29,7 @@ fn write_counted(
     requires { ⌜ Counted (now file) (now words) n t b ⌝ }
     ensures { λ r. ⌜ Wrote (resultBytes (now (file .entry)) (now (words .entry))) (now (result .entry)) (now (result .exit)) (fitted (now (file .entry)) (now (words .entry)) (length (now (result .entry)))) r ⌝ }
 {
-    let m = words[0] as usize;
+    let m = words[layout::NODE_COUNT] as usize;
     if m == 0 {
         return Written::Refused(9);
     }

@@ -14,6 +14,7 @@ use parts::fields::raw_at;
 use words::arity_at;
 use words::form_at;
 use words::kind_at;
+use words::layout;
 use words::num_at;
 
 // The number 0.
@@ -46,10 +47,10 @@ fn ident_in(file: &[u8], words: &[u32], n: usize, i: u32) -> Raw
     requires { ⌜ Source (now file) (now words) n ⌝ }
     ensures { λ r. ⌜ r ≡ identIn (now (file .entry)) (now (words .entry)) i ⌝ }
 {
-    if words[4] <= i {
+    if words[layout::IDENT_COUNT] <= i {
         return zero_node();
     }
-    let at = 15504 + i as usize;
+    let at = layout::IDENTS + i as usize;
     if words.len() <= at {
         return zero_node();
     }
@@ -106,7 +107,7 @@ pub fn put_nodes(file: &[u8], n: usize, words: &[u32], out: &mut [u8])
     requires { ⌜ Source (now file) (now words) n × (getD (now words) 0 0 ≤ 1024) × (16 * getD (now words) 0 0 ≤ length (now out)) ⌝ }
     ensures { λ _. ⌜ now (out .exit) ≡ sets (now (out .entry)) 0 (nodeBytes (map (backIn (now (file .entry)) (now (words .entry))) (tree (now (words .entry))))) ⌝ }
 {
-    let count = words[0] as usize;
+    let count = words[layout::NODE_COUNT] as usize;
     let mut k: usize = 0;
     while k < count {
         let x = back(file, words, n, k);

@@ -26,6 +26,9 @@ put-word-requires c κs = search needs
 of-const-requires-2 : tie.Need-of-const-requires-2 Inv-loop μ-loop
 of-const-requires-2 c κs = search needs
 
+cast-show-value : tie.Need-cast-show-value Inv-loop μ-loop
+cast-show-value c = omega arith
+
 show-value-requires : tie.Need-show-value-requires Inv-loop μ-loop
 show-value-requires c κs = search needs
 
@@ -55,6 +58,7 @@ show-consts-spec =
     of-const-requires
     put-word-requires
     of-const-requires-2
+    cast-show-value
     show-value-requires
     wrapping-add-u32-requires
     add-k
