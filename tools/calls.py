@@ -16,8 +16,8 @@ from vectors import index, numbers
 
 OPEN, DECLARE, WRITE, RECORD, FIRST, CONST, CLOSE, READ, PREVENT, SENSITIVE, BARRIER, PARAMS, DEFINE = range(1, 14)
 WEIGHTS = {OPEN: 16, DECLARE: 26, WRITE: 9, RECORD: 7, FIRST: 4, CONST: 7, CLOSE: 12, READ: 12, PREVENT: 3, SENSITIVE: 4, BARRIER: 6, PARAMS: 2, DEFINE: 2}
-# values 1 to 7, none is 0: two identifiers, a literal, a member, an array, a call, a tree of 11 nodes
-WHOLE, ARRAY, LITERAL = 7, 5, 3
+# values 1 to 7, none is 0: two identifiers, a literal, a member, an array, a call, a tree of 11 nodes; 8 begins behind its last node
+BEHIND, WHOLE, ARRAY, LITERAL = 8, 7, 5, 3
 # how often each is taken: identifiers make aliases
 VALUES = [3, 5, 5, 1, 2, 1, 1, 1]
 SEQUENCES = 400
@@ -70,9 +70,16 @@ def limits():
         yield many + [more]
 
 
+def behind():
+    """Random sequences whose larger values begin behind the last node: they are none."""
+    rng = random.Random(5)
+    for _ in range(24):
+        yield [(call, x, BEHIND if v > LITERAL else v, m) for call, x, v, m in sequence(rng)]
+
+
 def sequences():
     rng = random.Random(4)
-    return [sequence(rng) for _ in range(SEQUENCES)] + list(limits())
+    return [sequence(rng) for _ in range(SEQUENCES)] + list(limits()) + list(behind())
 
 
 def script(path):

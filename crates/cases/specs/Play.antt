@@ -1,6 +1,6 @@
 -- Sequences of calls of scope.rs with what the program crates/calls printed after each, and which of them the definition ends otherwise.
 -- The tables beside this file are written by tools/calls.py. Assumes nothing: these are definitions.
-use mathlib.Core.Bool.{Bool, true, false}
+use mathlib.Core.Bool.{Bool, true, false, _||_}
 use mathlib.Core.Option.{Option, none, some}
 use mathlib.Core.List.{List, [], _∷_, _++_}
 use Prim.Native.Nat.{ℕ, zero, suc, _+_, _*_, _/_, _%_}
@@ -44,15 +44,19 @@ whole = node 27 0 0 (cons (ident 0) (cons (ident 1) (cons (node 22 0 3 nil) (con
 abbrev pub value : ℕ → Tree
 value v = getD (whole ∷ ident 0 ∷ ident 1 ∷ node 22 0 3 nil ∷ member ∷ array ∷ called ∷ []) v whole
 
+-- 0 is none, and so is 8, which begins behind the last node
+abbrev pub none? : ℕ → Bool
+none? v = eqb v 0 || eqb v 8
+
 abbrev pub valueO : ℕ → Option Tree
-valueO v = pick (eqb v 0) none (some (value v))
+valueO v = pick (none? v) none (some (value v))
 
 -- bit k of a mark that was divided by 2 ^ k
 abbrev pub odd : ℕ → Bool
 odd m = eqb (m % 2) 1
 
 abbrev pub initOf : ℕ → ℕ → Init
-initOf v m = pick (eqb v 0) noInit (pick (odd (m / 8)) (seen (value v)) (recorded (value v)))
+initOf v m = pick (none? v) noInit (pick (odd (m / 8)) (seen (value v)) (recorded (value v)))
 
 -- the calls by their numbers: an identifier, a value, a mark
 abbrev pub steps : List (ℕ → ℕ → ℕ → M Nothing)
