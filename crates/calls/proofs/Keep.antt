@@ -17,9 +17,6 @@ use Rattle.nodes.specs.Nodes.{Planted, Apart}
 use Rattle.records.specs.Steps as records
 use Rattle.records.specs.declared.Step as rstep
 use Rattle.records.specs.declared.Step.the-variants as rcase
-use Rattle.look.specs.Answers as answers
-use Rattle.look.specs.declared.Step as lstep
-use Rattle.look.specs.declared.Step.the-variants as lcase
 use Rattle.calls.specs.Begun.{Begun}
 
 pub keep : {w u : List ℕ} → Planted w → Good u → tree u ≡ tree w → Planted u
@@ -32,10 +29,6 @@ became r b = keep r (b .good) (b .tree)
 pub limited : (n : ℕ) (t : Bool) (w u : List ℕ) (st : Stack) (s : rstep.Step) → Planted w → records.Limited n t w u st s → Planted u
 limited n t w u st rcase.Done r l = became r (l .0)
 limited n t w u st (rcase.Refused m) r l = keep r (l .2 .good) (l .2 .tree)
-
-pub stepped : (w u : List ℕ) (st : Stack) (s : lstep.Step) → Planted w → answers.Stepped w u st s → Planted u
-stepped w u st lcase.Done r l = became r (l .0)
-stepped w u st (lcase.Refused m) r l = keep r (l .2 .good) (l .2 .tree)
 
 -- no scope and no node
 pub cleared : {w u : List ℕ} → 16384 ≤ length w → Cleared w u → Begun u []

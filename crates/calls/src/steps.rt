@@ -31,14 +31,6 @@ fn number(s: Step) -> u32 {
     }
 }
 
-// The same of a read's or a write's.
-fn use_number(s: look::Step) -> u32 {
-    match s {
-        look::Step::Done => 0,
-        look::Step::Refused(n) => n,
-    }
-}
-
 fn scope_kind(k: u8) -> ScopeKind {
     match k {
         0 => ScopeKind::Cond,
@@ -99,7 +91,7 @@ fn write(w: &mut [u32], x: u8, m: u8) -> u32
     ensures { λ _. ⌜ Planted (now (w .exit)) ⌝ }
 {
     let r = add_write(w, x, m % 2 == 1, m / 2 % 2 == 1);
-    use_number(r)
+    number(r)
 }
 
 fn record(w: &mut [u32], x: u8, v: u8) -> u32

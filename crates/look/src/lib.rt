@@ -28,12 +28,6 @@ pub enum Count {
     Reads(u32),
 }
 
-// A step that may pass a limit: made, or refused with document 01's number.
-pub enum Step {
-    Done,
-    Refused(u32),
-}
-
 // scope_for: is the identifier bound in the scope found, and is that the current one.
 pub struct ScopeFor {
     pub bound: bool,

@@ -8,9 +8,10 @@ ghost use lib.ListN.{getD};
 ghost use Rattle.tree.specs.Base.{pick};
 ghost use Rattle.definition.specs.Scope.{preventInline, preventInlineOfParams, addRead, addWrite};
 ghost use Rattle.words.specs.Layout.{yes, nodeOf, tree};
-ghost use Rattle.scopes.specs.State.{Good, Becomes, stack, coff};
-ghost use Rattle.look.specs.Answers.{past, Ruled, Stepped, writeBound, writeFree, writeTo};
-use look::Step;
+ghost use Rattle.scopes.specs.State.{Good, Becomes, stack};
+ghost use Rattle.records.specs.Steps.{over, Grown};
+ghost use Rattle.look.specs.Answers.{writeBound, writeFree, writeTo};
+ghost use Rattle.usages.specs.Rows.{Ruled};
 use look::has_constant;
 use look::read_prevents_inlining;
 use look::scope_for;
@@ -18,38 +19,22 @@ use look::write_prevents_inline;
 use markers::mark::count_read;
 use markers::mark::prevent_inline_of_params;
 use markers::mark::set_defined;
-use scopes::offset;
+use records::Step;
+use records::live;
+use records::recorded_nodes;
 use scopes::prevent_inline;
 use scopes::push;
 use words::layout;
 
-// How many nodes the values before constant k have.
-fn const_offset(w: &[u32], k: usize) -> usize
-    requires { ⌜ (Good (now w)) × (k ≤ getD (now w) 3 0) ⌝ }
-    ensures { λ r. ⌜ (r ≡ coff (now (w .entry)) k) × (r ≤ 512) ⌝ }
-{
-    let mut at: usize = 0;
-    let mut j: usize = 0;
-    while j < k {
-        at += w[layout::CONSTANTS + j * 2 + layout::CONSTANT_LENGTH] as usize;
-        j += 1;
-    }
-    at
-}
-
 // Row 9: do the recorded values, or the live bindings and constants, pass their limit.
 pub fn past_limits(w: &[u32]) -> bool
     requires { ⌜ Good (now w) ⌝ }
-    ensures { λ r. ⌜ r ≡ past (stack (now (w .entry))) ⌝ }
+    ensures { λ r. ⌜ r ≡ over (stack (now (w .entry))) ⌝ }
 {
-    let n = w[layout::BINDING_COUNT] as usize;
-    let c = w[layout::CONSTANT_COUNT] as usize;
-    let v = offset(w, n);
-    let u = const_offset(w, c);
-    if 512 < v + u {
+    if 512 < recorded_nodes(w) {
         return true;
     }
-    256 < n + c
+    256 < live(w)
 }
 
 // The answer to that.
@@ -116,7 +101,7 @@ fn flag(b: bool) -> u32
 // x is not bound: a new binding, unless it is a constant. Past the limit it is refused before it is stored.
 fn write_free(w: &mut [u32], x: u8, force: bool) -> Step
     requires { ⌜ Good (now w) ⌝ }
-    ensures { λ r. ⌜ Stepped (now (w .entry)) (now (w .exit)) (writeFree x force (stack (now (w .entry)))) r ⌝ }
+    ensures { λ r. ⌜ Grown (now (w .entry)) (now (w .exit)) (writeFree x force (stack (now (w .entry)))) r ⌝ }
 {
     if has_constant(w, x) {
         return within_records(w);
@@ -148,7 +133,7 @@ fn far_or(here: bool, force: bool, marked: bool) -> bool
 // What a write does behind its marks; `marked`: x and its aliases have just been marked, and are not marked again.
 fn write_to(w: &mut [u32], x: u8, force: bool, marked: bool) -> Step
     requires { ⌜ (Good (now w)) × (marked ≡ true → preventInline x (stack (now w)) ≡ stack (now w)) ⌝ }
-    ensures { λ r. ⌜ Stepped (now (w .entry)) (now (w .exit)) (writeTo x force (stack (now (w .entry)))) r ⌝ }
+    ensures { λ r. ⌜ Grown (now (w .entry)) (now (w .exit)) (writeTo x force (stack (now (w .entry)))) r ⌝ }
 {
     let s = scope_for(w, x);
     if s.bound {
@@ -172,7 +157,7 @@ fn only(marked: bool, args: bool) -> bool
 // x is written; `args`: its name is `arguments`; `force`: it is prevented in any case.
 pub fn add_write(w: &mut [u32], x: u8, args: bool, force: bool) -> Step
     requires { ⌜ Good (now w) ⌝ }
-    ensures { λ r. ⌜ Stepped (now (w .entry)) (now (w .exit)) (addWrite x args force (stack (now (w .entry)))) r ⌝ }
+    ensures { λ r. ⌜ Grown (now (w .entry)) (now (w .exit)) (addWrite x args force (stack (now (w .entry)))) r ⌝ }
 {
     let p = write_prevents_inline(w, x);
     prevent_if(w, x, p);

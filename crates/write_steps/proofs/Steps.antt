@@ -15,9 +15,6 @@ use Rattle.scopes.specs.State.{Good, Others, Becomes, stack}
 use Rattle.records.specs.Steps as records
 use Rattle.records.specs.declared.Step as recordsStep
 use Rattle.records.specs.declared.Step.the-variants as recordsCase
-use Rattle.look.specs.Answers as look
-use Rattle.look.specs.declared.Step as lookStep
-use Rattle.look.specs.declared.Step.the-variants as lookCase
 use Rattle.usages.proofs.Limits.{grow-done, grow-stop}
 use Rattle.nodes.specs.Nodes.{Planted}
 use Rattle.write_steps.specs.Answers.{numberOf}
@@ -127,19 +124,15 @@ module _ {w u : List ℕ} (g : Planted w) where
   still-ok h t o b = becomes-turns g (size-of (g .good) h b) (record { good = h; is = refl; tree = t; others = o; rest = b }) .ok
 
   module _ (f : Stack → Stack) where
-    grown : Becomes w u (f (stack w)) → look.past (f (stack w)) ≡ false → Step w u 0 (grow f (rest w))
+    grown : Becomes w u (f (stack w)) → records.over (f (stack w)) ≡ false → Step w u 0 (grow f (rest w))
     unfolding rest
     grown b e = step-as (sym (grow-done f (rest w) e)) (mark-step f b)
 
-    over : {n : ℕ} → n ≡ 9 → look.past (f (stack w)) ≡ true → Ok w u → Step w u n (grow f (rest w))
+    over : {n : ℕ} → n ≡ 9 → records.over (f (stack w)) ≡ true → Ok w u → Step w u n (grow f (rest w))
     unfolding rest
     over z e o = step-as (sym (grow-stop f (rest w) e)) (record { ok = o; does = (z, omega (arith, z)) })
 
-    -- the answers of the crates below
-    pub look-step : (r : lookStep.Step) → look.Stepped w u (f (stack w)) r → Step w u (look.refusal r) (grow f (rest w))
-    look-step lookCase.Done b = grown (b .0) (b .1)
-    look-step (lookCase.Refused n) b = over (b .0) (b .1) (still-ok (b .2 .good) (b .2 .tree) (b .2 .others) (b .2 .rest))
-
+    -- by its answer
     pub record-step : (r : recordsStep.Step) → records.Grown w u (f (stack w)) r → Step w u (numberOf r) (grow f (rest w))
     record-step recordsCase.Done b = grown (b .0) (b .1)
     record-step (recordsCase.Refused n) b = over (b .0) (b .1) (still-ok (b .2 .good) (b .2 .tree) (b .2 .others) (b .2 .rest))

@@ -14,14 +14,16 @@ use Rattle.definition.specs.Walk.{St, grow, write, writes, writeForest}
 use Rattle.words.specs.Layout.{tree, nodeOf}
 use Rattle.words.proofs.Nodes.{tree-length, tree-at}
 use Rattle.scopes.specs.State.{stack}
-use Rattle.look.specs.Answers.{isName, refusal, Stepped}
-use Rattle.look.specs.declared.Step as lookStep
+use Rattle.look.specs.Answers.{isName}
+use Rattle.records.specs.Steps.{Grown}
+use Rattle.records.specs.declared.Step as recordsStep
 use Rattle.nodes.specs.Nodes.{Planted, treeFrom, forestFrom}
 use Rattle.nodes.proofs.Loops.{Open, open-in, open-past}
 use Rattle.nodes.proofs.Words.{tree-whole, in-tree, node-here}
 use Rattle.state.specs.State.{rest, abs, Ok, Act}
 use Rattle.state.proofs.Fields.{ok-self, ok-then}
-use Rattle.write_steps.proofs.Steps.{Step, step-act, act-step, step-stop, step-tree, step-done, step-on, step-as, look-step}
+use Rattle.write_steps.specs.Answers.{numberOf}
+use Rattle.write_steps.proofs.Steps.{Step, step-act, act-step, step-stop, step-tree, step-done, step-on, step-as, record-step}
 use Rattle.write_steps.proofs.Names.{names-past, names-in}
 
 -- only a tree's number and form matter
@@ -43,11 +45,11 @@ module _ (w : List ℕ) (i : ℕ) (l : i < getD w 0 0) where
   pub form-here : form (treeAt (abs w) i) ≡ nodeOf w i .form
   form-here = form-at (abs w) i inside ∙ ap (λ (c : Core). c .form) at-here
 
-  pub ident-act : {u : List ℕ} (x : ℕ) (args force : Bool) (r : lookStep.Step) → Planted w → x ≡ nodeOf w i .num → args ≡ eqb (nodeOf w i .form) 1 → Stepped w u (addWrite x args force (stack w)) r → Act w u (refusal r) (act (write force) i (abs w))
+  pub ident-act : {u : List ℕ} (x : ℕ) (args force : Bool) (r : recordsStep.Step) → Planted w → x ≡ nodeOf w i .num → args ≡ eqb (nodeOf w i .form) 1 → Grown w u (addWrite x args force (stack w)) r → Act w u (numberOf r) (act (write force) i (abs w))
   unfolding write
   ident-act x args force r g p q b =
       let t : Tree = treeAt (abs w) i in
-      step-act (write force t) (step-as (ap (λ (a : ℕ). grow (addWrite a args force) (rest w)) (p ∙ sym num-here) ∙ ap (λ (b : Bool). grow (addWrite (num t) b force) (rest w)) (q ∙ ap (λ (k : ℕ). eqb k 1) (sym form-here))) (look-step g (addWrite x args force) r b))
+      step-act (write force t) (step-as (ap (λ (a : ℕ). grow (addWrite a args force) (rest w)) (p ∙ sym num-here) ∙ ap (λ (b : Bool). grow (addWrite (num t) b force) (rest w)) (q ∙ ap (λ (k : ℕ). eqb k 1) (sym form-here))) (record-step g (addWrite x args force) r b))
 
 -- n trees from i on: what is left to write are the names of the trees still open
 pub record Writing (w₀ w : List ℕ) (force : Bool) (n i more at : ℕ) : Type 0 where

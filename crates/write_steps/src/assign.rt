@@ -9,12 +9,12 @@ ghost use Rattle.words.specs.Layout.{tree, nodeOf};
 ghost use Rattle.nodes.specs.Nodes.{Planted, size};
 ghost use Rattle.state.specs.State.{abs, Act};
 ghost use Rattle.scope.specs.Handles.{valueAt};
-ghost use Rattle.write_steps.specs.Answers.{numberOf, cheapAt};
+ghost use Rattle.write_steps.specs.Answers.{cheapAt};
+use super::number;
 use super::write_ident;
 use super::write_trees;
 use look::ident_at;
 use nodes::skip;
-use records::Step;
 use scope::Value;
 use scope::find_binding;
 use scope::is_inline_prevented;
@@ -22,16 +22,6 @@ use scope::prevent_inline;
 use scope::record_value;
 use scope::var_inline_prevented;
 use words::kind_at;
-
-// Document 01's number of a refusal, 0 where there is none.
-pub fn number(s: Step) -> u32
-    ensures { λ r. ⌜ r ≡ numberOf s ⌝ }
-{
-    match s {
-        Step::Done => 0,
-        Step::Refused(n) => n,
-    }
-}
 
 // Before the walk of an assignment's value: f is the assignment's form. A plain `=` to a name is not forced.
 pub fn assign_first(w: &mut [u32], f: u32, n: usize, i: usize) -> u32

@@ -14,7 +14,7 @@ ghost use Rattle.declares.specs.Kinds.{typeOf};
 ghost use Rattle.nodes.specs.Nodes.{Planted, Replants, size};
 ghost use Rattle.state.specs.State.{abs, Act};
 ghost use Rattle.write_steps.specs.Answers.{reKind};
-use super::assign::number;
+use super::number;
 use super::write_unbound;
 use look::ident_at;
 use nodes::put_node;

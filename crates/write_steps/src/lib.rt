@@ -12,16 +12,17 @@ ghost use Rattle.definition.specs.Tree.{headT};
 ghost use Rattle.definition.specs.Scope.{preventInline, markThisSensitive, identOf};
 ghost use Rattle.definition.specs.Walk.{when, mark, write, writeTree, writeForest, writeName, butLast, assigning, patBy, storeInlineBarrierM};
 ghost use Rattle.words.specs.Layout.{tree, nodeOf, yes};
-ghost use Rattle.look.specs.Answers.{isName, refusal};
+ghost use Rattle.look.specs.Answers.{isName};
 ghost use Rattle.nodes.specs.Nodes.{Planted, size};
 ghost use Rattle.state.specs.State.{abs, Act};
+ghost use Rattle.write_steps.specs.Answers.{numberOf};
 
 pub mod assign;
 pub mod declared;
 
-use look::Step;
 use look::ident_at;
 use nodes::skip;
+use records::Step;
 use scope::add_write;
 use scope::find_binding_from_current;
 use scope::mark_this_sensitive;
@@ -33,8 +34,8 @@ use words::kind_at;
 use words::layout;
 
 // Document 01's number of a refusal, 0 where there is none.
-fn number(s: Step) -> u32
-    ensures { λ r. ⌜ r ≡ refusal s ⌝ }
+pub fn number(s: Step) -> u32
+    ensures { λ r. ⌜ r ≡ numberOf s ⌝ }
 {
     match s {
         Step::Done => 0,

@@ -28,7 +28,7 @@ returns c =
     let w = at-entry .args .w .now in
     let x = at-entry .args .x in
     let e : hasConstant x (stack w) ≡ true = sym (at-has-constant .has-constant .ensures) ∙ at-if1 .if1 .taken in
-    limits.stepped (c .within-records .result) (rw e (limits.becomes-self w (at-entry .pre))) (c .within-records .ensures)
+    limits.stepped {w = at-entry .args .w .now} {st = writeFree (at-entry .args .x) (at-entry .args .force) (stack (at-entry .args .w .now))} (c .within-records .result) (rw e (limits.becomes-self w (at-entry .pre))) (c .within-records .ensures)
 
 slice-read-if2 : tie.Need-slice-read-if2
 slice-read-if2 c = search needs
@@ -48,7 +48,7 @@ returns-2 c =
     let w = at-entry .args .w .now in
     let x = at-entry .args .x in
     let e : hasConstant x (stack w) ≡ false = sym (at-has-constant .has-constant .ensures) ∙ at-if1 .if1 .left in
-    limits.stepped (c .within-records2 .result) (rw (e, limits.no-scope (fresh x vVar none (at-entry .args .force) false none) w (at-if2 .if2 .taken)) (limits.becomes-self w (at-entry .pre))) (c .within-records2 .ensures)
+    limits.stepped {w = at-entry .args .w .now} {st = writeFree (at-entry .args .x) (at-entry .args .force) (stack (at-entry .args .w .now))} (c .within-records2 .result) (rw (e, limits.no-scope (fresh x vVar none (at-entry .args .force) false none) w (at-if2 .if2 .taken)) (limits.becomes-self w (at-entry .pre))) (c .within-records2 .ensures)
 
 slice-read-if3 : tie.Need-slice-read-if3
 slice-read-if3 c = search needs
@@ -70,7 +70,7 @@ returns-3 c =
     let w = at-entry .args .w .now in
     let x = at-entry .args .x in
     let e : hasConstant x (stack w) ≡ false = sym (at-has-constant .has-constant .ensures) ∙ at-if1 .if1 .left in
-    limits.refused w (writeFree x (at-entry .args .force) (stack w)) (at-entry .pre) (rw e (limits.past-live (append (fresh x vVar none (at-entry .args .force) false none) (stack w)) (omega (arith, limits.live-more (fresh x vVar none (at-entry .args .force) false none) w (at-entry .pre) (omega arith), c .if3 .taken))))
+    limits.refused w (writeFree x (at-entry .args .force) (stack w)) (at-entry .pre) (rw e (limits.over-live (append (fresh x vVar none (at-entry .args .force) false none) (stack w)) (omega (arith, limits.live-more (fresh x vVar none (at-entry .args .force) false none) w (at-entry .pre) (omega arith), c .if3 .taken))))
 
 flag-requires : tie.Need-flag-requires
 flag-requires c κs = search needs
@@ -94,7 +94,7 @@ returns-4 c =
     let w = at-entry .args .w .now in
     let x = at-entry .args .x in
     let e : hasConstant x (stack w) ≡ false = sym (at-has-constant .has-constant .ensures) ∙ at-if1 .if1 .left in
-    limits.stepped (c .within-records3 .result) (rw e (rw (at-flag .flag .ensures) at (at-push .push .ensures))) (c .within-records3 .ensures)
+    limits.stepped {w = at-entry .args .w .now} {st = writeFree (at-entry .args .x) (at-entry .args .force) (stack (at-entry .args .w .now))} (c .within-records3 .result) (rw e (rw (at-flag .flag .ensures) at (at-push .push .ensures))) (c .within-records3 .ensures)
 
 pub write-free-spec : {M : Type 1} → statement M
 write-free-spec =

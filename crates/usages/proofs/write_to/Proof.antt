@@ -5,6 +5,7 @@ use borrow.Author.Needs.{needs}
 use Rattle.definition.specs.Scope.{scopeFor}
 use Rattle.scopes.specs.State.{stack}
 use Rattle.usages.proofs.Again as again
+use Rattle.look.specs.Answers.{writeTo}
 use Rattle.usages.proofs.Limits as limits
 use Rattle.usages.proofs.write_to.Statement.{statement}
 use Rattle.usages.proofs.write_to.Tie as tie
@@ -38,7 +39,7 @@ returns c =
     let m = at-entry .args .marked in
     let far : Bool = not (scopeFor true x (stack w) .1) || force in
     let marks = rw (at-far-or .far-or .ensures ∙ ap (λ (h : Bool). (not h || force) && not m) (at-scope-for .scope-for .ensures .1)) at (at-write-bound .write-bound .ensures) in
-    limits.stepped (c .within-records .result) (rw (e, sym (again.not-again x far m (stack w) (at-entry .pre .1))) marks) (c .within-records .ensures)
+    limits.stepped {w = at-entry .args .w .now} {st = writeTo (at-entry .args .x) (at-entry .args .force) (stack (at-entry .args .w .now))} (c .within-records .result) (rw (e, sym (again.not-again x far m (stack w) (at-entry .pre .1))) marks) (c .within-records .ensures)
 
 write-free-requires : tie.Need-write-free-requires
 write-free-requires c κs = search needs
