@@ -123,6 +123,27 @@ def program(count, path, stored):
     print("program: %d" % len(files))
 
 
+def piped(path, file):
+    """What the program prints, and how many bytes of the file could be written to it."""
+    with subprocess.Popen([path], stdin=subprocess.PIPE, stdout=subprocess.PIPE, bufsize=0) as process:
+        try:
+            written = process.stdin.write(file)
+        except BrokenPipeError:
+            written = 0
+        process.stdin.close()
+        return process.stdout.read().decode(), written
+
+
+def long_inputs(count, path):
+    """Inputs of 4 megabytes through a pipe: refused as the whole of them is, and whoever writes them is not cut off."""
+    rest = bytes(4 << 20)
+    files = [(pack(tree(1), []) + rest, "refused 4\n"), (struct.pack("<8I", *header(1025, 0, 0)) + rest, "refused 3\n"), (rest, "refused 2\n")]
+    for number, (file, answer) in enumerate(files):
+        got, written = piped(path, file)
+        count.check(got == answer and written == len(file), "long input %d: %.200r, %d bytes of %d written", number, got, written, len(file))
+    print("long inputs: %d" % len(files))
+
+
 def row1(count, port, stored):
     """Runs and words one below, at and above their limits, with the buffers; row 1 comes before all others."""
     few = [x for x in stored if x[2].startswith("ok ")][:40] + [x for x in stored if x[2].startswith("refused ")][:40]
@@ -305,6 +326,7 @@ def main(driver, path):
     stack(count, port)
     print("calls: %d" % port.calls)
     program(count, path, stored)
+    long_inputs(count, path)
     print("%d passed, %d failed" % (count.passed, count.failed))
     return count.failed == 0
 

@@ -1,7 +1,7 @@
 // A binding as a record: one is marked behind a reference, and a lent slice of them is scanned.
 ghost use mathlib.Core.Path.{_≡_};
 ghost use mathlib.Core.List.{map};
-ghost use Rattle.marks.specs.Mark.{marked};
+ghost use Rattle.marks.specs.Mark.{prevent, marked};
 
 // A binding: its identifier, the identifier that its value is (a number that no identifier has: none), and its prevented mark.
 pub struct Binding {
@@ -10,11 +10,20 @@ pub struct Binding {
     pub prevented: bool,
 }
 
-// Sets the binding's prevented mark if x is its identifier or its value, and leaves every other field.
+// Sets the binding's prevented mark, and leaves every other field.
+pub fn prevent(b: &mut Binding)
+    ensures { λ _. ⌜ now (b .exit) ≡ prevent (now (b .entry)) ⌝ }
+{
+    b.prevented = true;
+}
+
+// Prevents the binding if x is its identifier or its value, and else leaves it.
 pub fn mark(b: &mut Binding, x: u32)
     ensures { λ _. ⌜ now (b .exit) ≡ marked x (now (b .entry)) ⌝ }
 {
-    b.prevented = b.prevented | (b.id == x) | (b.value == x);
+    if (b.id == x) | (b.value == x) {
+        prevent(b);
+    }
 }
 
 // Marks x and its aliases in a list of bindings, each where the list holds it.

@@ -9,9 +9,9 @@ use parts::fields::u32_at;
 use pass::negbosun_inline;
 use pass::negbosun_roots;
 
-// Room for the largest readable file, 32 + 16 * 1,024 + 4 * 256 + 4,096 bytes, and one byte more. A longer input is refused as the
-// whole of it would be (crates/answers/specs/Long.antt, CutAlike): rows 2 and 3 look at the header alone, and a length above what row 3
-// leaves is row 4's, cut or not.
+// Room for the largest readable file, 32 + 16 * 1,024 + 4 * 256 + 4,096 bytes, and one byte more. A longer input is read to its end, and
+// refused as the whole of it would be (crates/answers/specs/Long.antt, CutAlike): rows 2 and 3 look at the header alone, and a length above
+// what row 3 leaves is row 4's, cut or not.
 fn room() -> [u8; 21537]
     ensures { λ r. ⌜ 21537 ≡ length r ⌝ }
 {
@@ -135,9 +135,28 @@ fn show(file: &[u8], words: &mut [u32]) {
     show_roots(file, words);
 }
 
+// Fills the buffer from standard input, and answers whether there may be more.
+fn read_more(buf: &mut [u8]) -> bool {
+    io::read_full(0, buf) == buf.len()
+}
+
+// Reads what is left of standard input, so that who writes it is not cut off. A proved loop has to end, so it counts its turns down, from a
+// number that no input uses up.
+fn read_rest() {
+    let mut space = io::large_buffer();
+    let buf: &mut [u8] = &mut space;
+    let mut turns = u64::MAX;
+    while turns > 0 && read_more(buf) {
+        turns -= 1;
+    }
+}
+
 fn main() {
     let mut buf = room();
     let n = io::read_full(0, &mut buf);
+    if n == buf.len() {
+        read_rest();
+    }
     let mut words = no_words();
     show(&buf[..n], &mut words);
 }
