@@ -12,12 +12,11 @@ skip() {
     exit 0
 }
 
-command -v node >/dev/null 2>&1 || skip "no node"
-node -e 'process.exit(parseInt(process.versions.node) >= 20 ? 0 : 1)' || skip "node 20 or newer is needed"
 if ! script/setup >"$log" 2>&1; then
     tail -n 3 "$log"
-    skip "the libraries node-acorn, node-eslint-scope and node-escodegen are absent and could not be installed"
+    skip "node, or one of the libraries node-acorn, node-eslint-scope and node-escodegen, is absent and could not be installed"
 fi
+node -e 'process.exit(parseInt(process.versions.node) >= 20 ? 0 : 1)' || skip "node 20 or newer is needed"
 
 if [ -z "${NEGBOSUN_PORT:-}" ]; then
     for candidate in target/bin/negbosun oracle/target/release/oracle; do
