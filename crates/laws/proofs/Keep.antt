@@ -1,12 +1,13 @@
 -- What every walk keeps: a property N of each node's kind, form and number, in the tree, the recorded values and the constants,
--- and of each binding's identifier. The walks make no node but `void 0` and an identifier from a binding. Assumes nothing.
-use mathlib.Core.Path.{_≡_, refl, subst}
+-- and of each binding's identifier; and that no scope has two bindings of one identifier. The walks make no node but `void 0` and an identifier from a binding. Assumes nothing.
+use mathlib.Core.Path.{_≡_, refl, sym, _∙_, subst}
 use mathlib.Core.Bool.{Bool, true, false, _&&_, _||_, not}
 use mathlib.Core.Option.{Option, none, some}
 use mathlib.Core.List.{List, [], _∷_, _++_, map}
 use Prim.Native.Nat.{ℕ, zero, suc, _+_, _-_}
 use lib.Dec.{T, eqb, ltb, leb, eqb→eq}
 use Rattle.laws.proofs.Tests.{is-T}
+use Rattle.laws.proofs.Single.{Single, ids, has-mem, ids-append, ids-map, ids-change, pick-id, single-append, single-put, Fresh, unbound}
 use lib.ListN.{length, getD}
 use Rattle.tree.specs.Base.{pick, orElse}
 use Rattle.definition.specs.Tree.{Tree, Forest, node, nil, cons, kind, form, num, kids, headT, tailF, isIdent, isCheap, hasThis, count, height, identList, identListF, voidZero}
@@ -19,6 +20,10 @@ use Rattle.tree.specs.Combine.{Res, stop, done, Nothing, andThen, _>>=_, _>>_, 
 pub pick-ok : {A : Type 0} (P : A → Type 0) (c : Bool) (x y : A) → P x → P y → P (pick c x y)
 pick-ok P true x y h k = h
 pick-ok P false x y h k = k
+
+pub pick-known : {A : Type 0} (P : A → Type 0) (c : Bool) (x y : A) → (c ≡ true → P x) → (c ≡ false → P y) → P (pick c x y)
+pick-known P true x y h k = h refl
+pick-known P false x y h k = k refl
 
 pub elim-ok : {A : Type 0} (P : A → Type 0) (c : Bool) (x y : A) → P x → P y → P (elim c [ true ↦ x | false ↦ y ])
 elim-ok P true x y h k = h
@@ -61,7 +66,7 @@ module _ (N : ℕ → ℕ → ℕ → Type 0) (to-ident : (f a : ℕ) → N 20 f
   OkC c = OkO (c .1)
 
   abbrev pub OkS : Scope.Scope → Type 0
-  OkS s = All OkB (s .bindings) × All OkC (s .constants)
+  OkS s = All OkB (s .bindings) × All OkC (s .constants) × Single (ids (s .bindings))
 
   abbrev pub OkSt : Scope.Stack → Type 0
   OkSt st = All OkS st
@@ -115,29 +120,29 @@ module _ (N : ℕ → ℕ → ℕ → Type 0) (to-ident : (f a : ℕ) → N 20 f
 
   pub ok-addConst : (i : ℕ) (v : Option Tree) → OkO v → (st : Scope.Stack) → OkSt st → OkSt (Scope.addConst i v st)
   ok-addConst i v k [] h = tt
-  ok-addConst i v k (s ∷ st) h = ((h .0 .0, ok-putConst i v k (s .constants) (h .0 .1)), h .1)
+  ok-addConst i v k (s ∷ st) h = ((h .0 .0, ok-putConst i v k (s .constants) (h .0 .1), h .0 .2), h .1)
 
   -- a change of one binding
   ok-changeIn : (i : ℕ) (f : Scope.VarInfo → Scope.VarInfo) → ((b : Scope.VarInfo) → OkB b → OkB (f b)) → (bs : List Scope.VarInfo) → All OkB bs → All OkB (Scope.changeIn i f bs)
   ok-changeIn i f k [] h = tt
   ok-changeIn i f k (b ∷ bs) h = elim-ok (All OkB) (eqb (b .id) i) (f b ∷ bs) (b ∷ Scope.changeIn i f bs) (k b (h .0), h .1) (h .0, ok-changeIn i f k bs (h .1))
 
-  pub ok-change : (i : ℕ) (f : Scope.VarInfo → Scope.VarInfo) → ((b : Scope.VarInfo) → OkB b → OkB (f b)) → (st : Scope.Stack) → OkSt st → OkSt (Scope.change i f st)
-  ok-change i f k [] h = tt
-  ok-change i f k (s ∷ st) h = elim-ok OkSt (Scope.hasIn i (s .bindings)) (Scope.onBindings (Scope.changeIn i f) s ∷ st) (s ∷ Scope.change i f st)
-      ((ok-changeIn i f k (s .bindings) (h .0 .0), h .0 .1), h .1) (h .0, ok-change i f k st (h .1))
+  pub ok-change : (i : ℕ) (f : Scope.VarInfo → Scope.VarInfo) → ((b : Scope.VarInfo) → f b .id ≡ b .id) → ((b : Scope.VarInfo) → OkB b → OkB (f b)) → (st : Scope.Stack) → OkSt st → OkSt (Scope.change i f st)
+  ok-change i f e k [] h = tt
+  ok-change i f e k (s ∷ st) h = elim-ok OkSt (Scope.hasIn i (s .bindings)) (Scope.onBindings (Scope.changeIn i f) s ∷ st) (s ∷ Scope.change i f st)
+      ((ok-changeIn i f k (s .bindings) (h .0 .0), h .0 .1, subst Single (sym (ids-change f e i (s .bindings))) (h .0 .2)), h .1) (h .0, ok-change i f e k st (h .1))
 
   ok-preventOne : (i : ℕ) (b : Scope.VarInfo) → OkB b → OkB (Scope.preventOne i b)
   ok-preventOne i b h = pick-ok OkB (eqb (b .id) i || Scope.valueIs i (b .value)) (Scope.prevent b) b h h
 
   pub ok-prevent : (i : ℕ) (st : Scope.Stack) → OkSt st → OkSt (Scope.preventInline i st)
   ok-prevent i [] h = tt
-  ok-prevent i (s ∷ st) h = ((all-map OkB (Scope.preventOne i) (ok-preventOne i) (s .bindings) (h .0 .0), h .0 .1), ok-prevent i st (h .1))
+  ok-prevent i (s ∷ st) h = ((all-map OkB (Scope.preventOne i) (ok-preventOne i) (s .bindings) (h .0 .0), h .0 .1, subst Single (sym (ids-map (Scope.preventOne i) (λ b. pick-id (eqb (b .id) i || Scope.valueIs i (b .value)) (Scope.prevent b) b refl) (s .bindings))) (h .0 .2)), ok-prevent i st (h .1))
 
   ok-params : (st : Scope.Stack) → OkSt st → OkSt (Scope.preventInlineOfParams st)
   ok-params [] h = tt
   ok-params (s ∷ st) h = (
-    (all-map OkB Scope.preventParam (λ b k. pick-ok OkB (Scope.isParam (b .kind)) (Scope.prevent b) b k k) (s .bindings) (h .0 .0), h .0 .1),
+    (all-map OkB Scope.preventParam (λ b k. pick-ok OkB (Scope.isParam (b .kind)) (Scope.prevent b) b k k) (s .bindings) (h .0 .0), h .0 .1, subst Single (sym (ids-map Scope.preventParam (λ b. pick-id (Scope.isParam (b .kind)) (Scope.prevent b) b refl) (s .bindings))) (h .0 .2)),
     elim-ok OkSt (Scope.isFn (s .kind)) st (Scope.preventInlineOfParams st) (h .1) (ok-params st (h .1)),
   )
 
@@ -152,11 +157,14 @@ module _ (N : ℕ → ℕ → ℕ → Type 0) (to-ident : (f a : ℕ) → N 20 f
       let st₂ = pick g (Scope.preventInlineOfParams st₁) st₁ in
       let h₁ = pick-ok OkSt (Scope.readPreventsInlining i st) (Scope.preventInline i st) st (ok-prevent i st h) h in
       let h₂ = pick-ok OkSt g (Scope.preventInlineOfParams st₁) st₁ (ok-params st₁ h₁) h₁ in
-      pick-ok OkSt (Scope.isSome (Scope.findBinding i st₂)) (Scope.change i Scope.readOnce st₂) (Scope.addUnresolved i st₂) (ok-change i Scope.readOnce (λ b k. k) st₂ h₂) (ok-unresolved i st₂ h₂)
+      pick-ok OkSt (Scope.isSome (Scope.findBinding i st₂)) (Scope.change i Scope.readOnce st₂) (Scope.addUnresolved i st₂) (ok-change i Scope.readOnce (λ b. refl) (λ b k. k) st₂ h₂) (ok-unresolved i st₂ h₂)
 
-  ok-append : (b : Scope.VarInfo) → OkB b → (st : Scope.Stack) → OkSt st → OkSt (Scope.append b st)
-  ok-append b k [] h = tt
-  ok-append b k (s ∷ st) h = ((all-append OkB (s .bindings) b (h .0 .0) k, h .0 .1), h .1)
+  once-more : (bs : List Scope.VarInfo) (b : Scope.VarInfo) → Single (ids bs) → Scope.hasIn (b .id) bs ≡ false → Single (ids (bs ++ (b ∷ [])))
+  once-more bs b h e = subst Single (sym (ids-append bs b)) (single-append (ids bs) (b .id) h (sym (has-mem (b .id) bs) ∙ e))
+
+  ok-append : (b : Scope.VarInfo) → OkB b → (st : Scope.Stack) → Fresh (b .id) st → OkSt st → OkSt (Scope.append b st)
+  ok-append b k [] e h = tt
+  ok-append b k (s ∷ st) e h = ((all-append OkB (s .bindings) b (h .0 .0) k, h .0 .1, once-more (s .bindings) b (h .0 .2) e), h .1)
 
   pub ok-addWrite : (i : ℕ) (g force : Bool) → OkId i → (st : Scope.Stack) → OkSt st → OkSt (Scope.addWrite i g force st)
   unfolding Scope.addWrite
@@ -167,11 +175,11 @@ module _ (N : ℕ → ℕ → ℕ → Type 0) (to-ident : (f a : ℕ) → N 20 f
       let new = Scope.append (Scope.fresh i Scope.vVar none force false none) st₂ in
       let h₁ = pick-ok OkSt (Scope.writePreventsInline i st) (Scope.preventInline i st) st (ok-prevent i st h) h in
       let h₂ = pick-ok OkSt g (Scope.preventInlineOfParams st₁) st₁ (ok-params st₁ h₁) h₁ in
-      let h₃ = ok-change i Scope.defined (λ b l. l) st₂ h₂ in
+      let h₃ = ok-change i Scope.defined (λ b. refl) (λ b l. l) st₂ h₂ in
       let w = Scope.scopeFor true i st₂ in
-      pick-ok OkSt (w .0) (pick (not (w .1) || force) (Scope.preventInline i st₃) st₃) (pick (Scope.hasConstant i st₂) st₂ new)
-      (pick-ok OkSt (not (w .1) || force) (Scope.preventInline i st₃) st₃ (ok-prevent i st₃ h₃) h₃)
-      (pick-ok OkSt (Scope.hasConstant i st₂) st₂ new h₂ (ok-append (Scope.fresh i Scope.vVar none force false none) (k, tt) st₂ h₂))
+      pick-known OkSt (w .0) (pick (not (w .1) || force) (Scope.preventInline i st₃) st₃) (pick (Scope.hasConstant i st₂) st₂ new)
+      (λ e. pick-ok OkSt (not (w .1) || force) (Scope.preventInline i st₃) st₃ (ok-prevent i st₃ h₃) h₃)
+      (λ e. pick-ok OkSt (Scope.hasConstant i st₂) st₂ new h₂ (ok-append (Scope.fresh i Scope.vVar none force false none) (k, tt) st₂ (unbound true i st₂ e) h₂))
 
   pub ok-barrier : (st : Scope.Stack) → OkSt st → OkSt (Scope.storeInlineBarrier st)
   ok-barrier [] h = tt
@@ -179,7 +187,7 @@ module _ (N : ℕ → ℕ → ℕ → Type 0) (to-ident : (f a : ℕ) → N 20 f
 
   pub ok-sensitive : (i : Option ℕ) (st : Scope.Stack) → OkSt st → OkSt (Scope.markThisSensitive i st)
   ok-sensitive none st h = h
-  ok-sensitive (some i) st h = ok-change i Scope.sensitiveNow (λ b k. k) st h
+  ok-sensitive (some i) st h = ok-change i Scope.sensitiveNow (λ b. refl) (λ b k. k) st h
 
   -- declare
   abbrev pub OkInit : Scope.Init → Type 0
@@ -219,7 +227,9 @@ module _ (N : ℕ → ℕ → ℕ → Type 0) (to-ident : (f a : ℕ) → N 20 f
       let hn = pick-ok (All OkB) (Scope.isSome old) (Scope.changeIn i f (s .bindings)) (s .bindings ++ (b ∷ []))
       (ok-changeIn i f (λ c l. (l .0, ok-kept v (Scope.valueO old) w (ok-value old (ok-in i (s .bindings) (h .0 .0))))) (s .bindings) (h .0 .0))
       (all-append OkB (s .bindings) b (h .0 .0) (g, ok-kept v none w tt)) in
-      let h₁ : OkSt st₁ = ((hn, h .0 .1), h .1) in
+      let hs = pick-known (λ (bs : List Scope.VarInfo). Single (ids bs)) (Scope.isSome old) (Scope.changeIn i f (s .bindings)) (s .bindings ++ (b ∷ []))
+      (λ e. subst Single (sym (ids-change f (λ c. refl) i (s .bindings))) (h .0 .2)) (λ e. once-more (s .bindings) b (h .0 .2) e) in
+      let h₁ : OkSt st₁ = ((hn, h .0 .1, hs), h .1) in
       let h₂ = pick-ok OkSt (Scope.inLoop (s ∷ st)) (Scope.preventInline i st₁) st₁ (ok-prevent i st₁ h₁) h₁ in
       pick-ok OkSt (works && Scope.barred target idx (s .inlineBarriers)) (Scope.preventInlineO (Scope.identOf e) (Scope.preventInline i st₂)) st₂
       (ok-preventO (Scope.identOf e) (Scope.preventInline i st₂) (ok-prevent i st₂ h₂)) h₂
@@ -234,13 +244,18 @@ module _ (N : ℕ → ℕ → ℕ → Type 0) (to-ident : (f a : ℕ) → N 20 f
   ok-hoist us (c ∷ cs) bs h k = ok-hoist us cs (pick (Scope.isVar (c .kind)) (Scope.put (Scope.hoist us c) bs) bs) (h .1)
       (pick-ok (All OkB) (Scope.isVar (c .kind)) (Scope.put (Scope.hoist us c) bs) bs (ok-put (Scope.hoist us c) (h .0 .0, tt) bs k) k)
 
+  single-hoist : (us : ℕ → Bool) (cs bs : List Scope.VarInfo) → Single (ids bs) → Single (ids (Scope.hoistAll us cs bs))
+  single-hoist us [] bs h = h
+  single-hoist us (c ∷ cs) bs h = single-hoist us cs (pick (Scope.isVar (c .kind)) (Scope.put (Scope.hoist us c) bs) bs)
+      (pick-ok (λ (ds : List Scope.VarInfo). Single (ids ds)) (Scope.isVar (c .kind)) (Scope.put (Scope.hoist us c) bs) bs (single-put (Scope.hoist us c) bs h) h)
+
   pub ok-close : (st : Scope.Stack) → OkSt st → OkSt (Scope.close st)
   unfolding Scope.close
   ok-close [] h = tt
   ok-close (c ∷ []) h = tt
   ok-close (c ∷ s ∷ st) h =
       let us : ℕ → Bool = λ j. c .unresolvedUsages j || s .unresolvedUsages j in
-      ((pick-ok (All OkB) (Scope.isFn (c .kind)) (s .bindings) (Scope.hoistAll us (c .bindings) (s .bindings)) (h .1 .0 .0) (ok-hoist us (c .bindings) (s .bindings) (h .0 .0) (h .1 .0 .0)), h .1 .0 .1), h .1 .1)
+      ((pick-ok (All OkB) (Scope.isFn (c .kind)) (s .bindings) (Scope.hoistAll us (c .bindings) (s .bindings)) (h .1 .0 .0) (ok-hoist us (c .bindings) (s .bindings) (h .0 .0) (h .1 .0 .0)), h .1 .0 .1, pick-ok (λ (bs : List Scope.VarInfo). Single (ids bs)) (Scope.isFn (c .kind)) (s .bindings) (Scope.hoistAll us (c .bindings) (s .bindings)) (h .1 .0 .2) (single-hoist us (c .bindings) (s .bindings) (h .1 .0 .2))), h .1 .1)
 
   -- the walks
 
@@ -312,7 +327,7 @@ module _ (N : ℕ → ℕ → ℕ → Type 0) (to-ident : (f a : ℕ) → N 20 f
 
   opening-ok : (k : Scope.ScopeKind) → Pres Any (Walk.opening k)
   unfolding Walk.opening
-  opening-ok k = record { from = λ s o. elim-ok (Okay {A = Nothing} Any) (leb 32 (length (s .stack))) (stop 8) (done (Walk.setVarDeclKind Scope.vVar (Walk.setStack (Scope.newScope k ∷ s .stack) s)) tt) tt (((tt, tt), o), tt) }
+  opening-ok k = record { from = λ s o. elim-ok (Okay {A = Nothing} Any) (leb 32 (length (s .stack))) (stop 8) (done (Walk.setVarDeclKind Scope.vVar (Walk.setStack (Scope.newScope k ∷ s .stack) s)) tt) tt (((tt, tt, tt), o), tt) }
 
   inScope-ok : {A : Type 0} {Q : A → Type 0} (k : Scope.ScopeKind) {m : M A} → Pres Q m → Pres Q (inScope k m)
   unfolding inScope
@@ -654,7 +669,7 @@ module _ (N : ℕ → ℕ → ℕ → Type 0) (to-ident : (f a : ℕ) → N 20 f
     store-ok : (l : Tree) (r : Option Tree) → OkO r → Pres Any (Walk.storeO l r)
     store-ok l none o = ret-ok tt tt
     store-ok l (some r) o = byFind-ok (num l) (ret tt) (λ b. iff (Scope.varInlinePrevented b) (ret tt) (grow (Scope.change (num l) (Scope.withValue (pick (isCheap r) (some r) none))))) (ret-ok tt tt)
-        (λ b k. iff-ok (Scope.varInlinePrevented b) (ret-ok tt tt) (grow-ok (Scope.change (num l) (Scope.withValue (pick (isCheap r) (some r) none))) (ok-change (num l) (Scope.withValue (pick (isCheap r) (some r) none)) (λ c m. (m .0, some-ok (isCheap r) r o)))))
+        (λ b k. iff-ok (Scope.varInlinePrevented b) (ret-ok tt tt) (grow-ok (Scope.change (num l) (Scope.withValue (pick (isCheap r) (some r) none))) (ok-change (num l) (Scope.withValue (pick (isCheap r) (some r) none)) (λ c. refl) (λ c m. (m .0, some-ok (isCheap r) r o)))))
 
     assignFirst-ok : (f : ℕ) (ts : Forest) → OkF ts → Pres Any (Walk.assignFirst f ts)
     unfolding Walk.assignFirst
@@ -715,7 +730,7 @@ module _ (N : ℕ → ℕ → ℕ → Type 0) (to-ident : (f a : ℕ) → N 20 f
     afterSides-ok p t none r o ol or = ret-ok t o
     afterSides-ok p t (some l) none o ol or = ret-ok t o
     afterSides-ok p t (some l) (some r) o ol or = iff-ok (Walk.isBind l) (byState-ok _ λ s h. byHere-ok (num l) (ret t) _ (ret-ok t o) (λ b k. iff-ok (b .isUndefined && not (Scope.varInlinePrevented b) && not (Scope.isInlinePrevented r (s .stack)))
-        (after (grow-ok (Scope.change (num l) (λ c. Scope.defined (Scope.withValue (some r) c))) (ok-change (num l) (λ c. Scope.defined (Scope.withValue (some r) c)) (λ c m. (m .0, or)))) (after (replace-ok p t r) (ret-ok r or)))
+        (after (grow-ok (Scope.change (num l) (λ c. Scope.defined (Scope.withValue (some r) c))) (ok-change (num l) (λ c. Scope.defined (Scope.withValue (some r) c)) (λ c. refl) (λ c m. (m .0, or)))) (after (replace-ok p t r) (ret-ok r or)))
         (ret-ok t o))) (ret-ok t o)
 
     identAnalysis-ok : (t : Tree) → OkT t → Pres OkT (Walk.identAnalysis t)
@@ -769,7 +784,7 @@ module _ (N : ℕ → ℕ → ℕ → Type 0) (to-ident : (f a : ℕ) → N 20 f
   -- of an outcome: the tree and the root's identifiers
   abbrev pub OkOut : Walk.Outcome → Type 0
   OkOut (Walk.refused n) = Unit {0}
-  OkOut (Walk.result k c t ms) = OkT t × All (λ (m : ℕ × Bool). OkId (m .0)) ms
+  OkOut (Walk.result k c t ms) = OkT t × All (λ (m : ℕ × Bool). OkId (m .0)) ms × Single (map (λ (m : ℕ × Bool). m .0) ms)
 
   roots-ok : (st : Scope.Stack) → OkSt st → All (λ (m : ℕ × Bool). OkId (m .0)) (Walk.rootMarks st)
   roots-ok [] h = tt
@@ -780,16 +795,25 @@ module _ (N : ℕ → ℕ → ℕ → Type 0) (to-ident : (f a : ℕ) → N 20 f
       go (b ∷ bs) k = (k .0 .0, go bs (k .1))
   roots-ok (s ∷ p ∷ st) h = roots-ok (p ∷ st) (h .1)
 
+  roots-single : (st : Scope.Stack) → OkSt st → Single (map (λ (m : ℕ × Bool). m .0) (Walk.rootMarks st))
+  roots-single [] h = tt
+  roots-single (s ∷ []) h = subst Single (sym (go (s .bindings))) (h .0 .2)
+    where
+      go : (bs : List Scope.VarInfo) → map (λ (m : ℕ × Bool). m .0) (map (λ (b : Scope.VarInfo). (b .id, b .inlinePrevented)) bs) ≡ ids bs
+      go [] = refl
+      go (b ∷ bs) = rw (go bs) refl
+  roots-single (s ∷ p ∷ st) h = roots-single (p ∷ st) (h .1)
+
   runs-ok : (n k : ℕ) (t : Tree) (s : St) → OkT t → OkS! s → OkOut (Walk.runs n k t s)
   unfolding Walk.runs
-  runs-ok zero k t s o h = (o, roots-ok (s .stack) h)
+  runs-ok zero k t s o h = (o, roots-ok (s .stack) h, roots-single (s .stack) h)
   runs-ok (suc n) k t s o h = go (Walk.run t (Walk.setChanged false s)) (run-ok t o .from (Walk.setChanged false s) h) (λ t s o h. runs-ok n (suc k) t s o h)
     where
       go : (r : Res St Tree) → Okay OkT r → ((t : Tree) (s : St) → OkT t → OkS! s → OkOut (Walk.runs n (suc k) t s)) → OkOut (Walk.again (Walk.runs n (suc k)) (suc k) r)
       go (stop m) o ih = tt
-      go (done s t) o ih = elim-ok OkOut (s .changed) (Walk.runs n (suc k) t (Walk.setIsFirstRun false s)) (Walk.result (suc k) false t (Walk.rootMarks (s .stack))) (ih t (Walk.setIsFirstRun false s) (o .1) (o .0)) (o .1, roots-ok (s .stack) (o .0))
+      go (done s t) o ih = elim-ok OkOut (s .changed) (Walk.runs n (suc k) t (Walk.setIsFirstRun false s)) (Walk.result (suc k) false t (Walk.rootMarks (s .stack))) (ih t (Walk.setIsFirstRun false s) (o .1) (o .0)) (o .1, roots-ok (s .stack) (o .0), roots-single (s .stack) (o .0))
 
   -- the pass keeps N
   pub pass-ok : (n : ℕ) (t : Tree) → OkT t → OkOut (Walk.corePass n t)
   unfolding Walk.corePass
-  pass-ok n t o = runs-ok n 0 t (Walk.start t) o ((tt, tt), tt)
+  pass-ok n t o = runs-ok n 0 t (Walk.start t) o ((tt, tt, tt), tt)
