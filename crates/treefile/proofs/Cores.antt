@@ -15,7 +15,8 @@ use lib.Seq.{drop-cons, take-suc, take-length, getD-set-same, getD-set-other}
 use Rattle.tree.specs.Base.{pick, toNat}
 use Rattle.tree.specs.Tree.{Core, core, noCore}
 use Rattle.words.specs.Tab.{tab, tab-suc, tab-ext}
-use Rattle.words.specs.Layout.{Agree, nodeOf, tree, beyond}
+use Rattle.words.specs.Layout.{nodeOf, tree, beyond}
+use Rattle.words.specs.Moved.{Zeroed}
 use Rattle.words.proofs.Nodes.{core-same, unpack-kind, unpack-form, unpack-arity, beyond-same}
 use Rattle.format.specs.declared.Raw.{Raw}
 use Rattle.format.specs.declared.kinds.Row.{Row}
@@ -23,11 +24,11 @@ use Rattle.format.specs.Kinds.{allows, rows, noRow, rowOf, formOk, countOk, use
 use Rattle.format.specs.Script.{Script, isLit, hasId, sameId, known, enter, enterAll, idents, placeOf, zeroNode, isArguments}
 use Rattle.format.specs.Core.{coreNode, coreFrom, coreNodes}
 use Rattle.format.specs.Read.{Place, fieldsOk, nodeOk, below, fills, nodesOk, nodesFrom}
-use Rattle.treefile.specs.Idents.{idsOf, Listed}
+use Rattle.treefile.specs.Idents.{idsOf, Listed, Texted}
 use Rattle.treefile.specs.Load.{Appended, scriptOf, Loaded, Loading, Kept}
 use Rattle.parts.proofs.Raws.{nodes-length, node-raw}
 use Rattle.parts.proofs.Tests.{is-T, T-is, and-left, and-right}
-use Rattle.treefile.proofs.Names.{same-refl, enter-old, enter-new, ids-same}
+use Rattle.treefile.proofs.Names.{same-refl, enter-old, enter-new, ids-same, listed-same, texted-same}
 
 -- what row 6 shows of every node
 
@@ -282,18 +283,6 @@ module _ (w : List ℕ) (k kind form arity num : ℕ) (long : 16384 ≤ length w
     last = λ j l. put-other j (λ e. omega (arith, e)) (λ e. omega (arith, e)) (λ e. omega (arith, e));
   }
 
--- the list of identifiers where its words are kept
-pub listed-same : (w w′ : List ℕ) (n : ℕ) → length w′ ≡ length w → Agree 1 16 w w′ → ((j : ℕ) → 2064 ≤ j → getD w′ j 0 ≡ getD w j 0) → Listed w n → Listed w′ n
-listed-same w w′ n z a b L = record {
-  long = rw z (L .long);
-  few = rw (a 4 (omega arith) (omega arith)) (L .few);
-  low = λ i h. rw (b (15504 + i) (omega arith)) (L .low i (rw (a 4 (omega arith) (omega arith)) at h));
-  high = λ i h. rw (b (15504 + i) (omega arith)) (L .high i (rw (a 4 (omega arith) (omega arith)) at h));
-}
-
-pub ids-kept : (bs w w′ : List ℕ) → Agree 1 16 w w′ → ((j : ℕ) → 2064 ≤ j → getD w′ j 0 ≡ getD w j 0) → idsOf bs w′ ≡ idsOf bs w
-ids-kept bs w w′ a b = ids-same bs w w′ (a 4 (omega arith) (omega arith)) (λ i l. b (15504 + i) (omega arith))
-
 -- one node more is loaded: w₁ has its identifier entered, and w₂ the node appended
 module _ {bs w : List ℕ} {n t k : ℕ} (L : Loading bs w n t k) where
   abbrev s : Script
@@ -305,13 +294,17 @@ module _ {bs w : List ℕ} {n t k : ℕ} (L : Loading bs w n t k) where
   long-nodes : k < length (s .nodes)
   long-nodes = rw nodes-length (L .less)
 
-  pub loaded-more : {w₁ w₂ : List ℕ} {c : Core} → c ≡ coreNode s (k + 1) x → tree w₁ ≡ tree w → getD w₁ 0 0 ≡ getD w 0 0 → idsOf bs w₁ ≡ enter (idsOf bs w) x → Listed w₁ n → Appended w₁ w₂ c → Loaded bs w₂ n t (k + 1)
-  loaded-more {w₁} {w₂} e a b i l p = record {
-    count = p .count ∙ ap (λ (m : ℕ). m + 1) (b ∙ L .loaded .count);
-    tree = p .tree ∙ ap₂ {C = List Core} (λ xs y. xs ++ (y ∷ [])) (a ∙ L .loaded .tree) e ∙ sym (core-next s k long-nodes);
-    ids = ids-kept bs w₁ w₂ (p .first) (p .last) ∙ i ∙ ap (λ (is : List Raw). enter is x) (L .loaded .ids) ∙ sym (ids-next s k long-nodes);
-    listed = listed-same w₁ w₂ n (p .size) (p .first) (p .last) l;
-  }
+  pub loaded-more : {w₁ w₂ : List ℕ} {c : Core} → c ≡ coreNode s (k + 1) x → tree w₁ ≡ tree w → getD w₁ 0 0 ≡ getD w 0 0 → idsOf bs w₁ ≡ enter (idsOf bs w) x → Listed w₁ n → Texted bs w₁ → Appended w₁ w₂ c → Loaded bs w₂ n t (k + 1)
+  loaded-more {w₁} {w₂} e a b i l v p =
+      let four : getD w₂ 4 0 ≡ getD w₁ 4 0 = p .first 4 (omega arith) (omega arith) in
+      let list : (i : ℕ) → i < getD w₁ 4 0 → getD w₂ (15504 + i) 0 ≡ getD w₁ (15504 + i) 0 = λ i h. p .last (15504 + i) (omega arith) in
+      record {
+        count = p .count ∙ ap (λ (m : ℕ). m + 1) (b ∙ L .loaded .count);
+        tree = p .tree ∙ ap₂ {C = List Core} (λ xs y. xs ++ (y ∷ [])) (a ∙ L .loaded .tree) e ∙ sym (core-next s k long-nodes);
+        ids = ids-same bs w₁ w₂ four list ∙ i ∙ ap (λ (is : List Raw). enter is x) (L .loaded .ids) ∙ sym (ids-next s k long-nodes);
+        listed = listed-same w₁ w₂ n (p .size) four list l;
+        texted = texted-same bs w₁ w₂ four (λ j h. p .last j (omega arith)) v;
+      }
 
   -- the number that its identifier has in the end
   pub number-final : hasId x ≡ true → placeOf x (idents s) ≡ placeOf x (enter (idsOf bs w) x)
@@ -343,7 +336,7 @@ id-text x h = go (eqb (x .kind) 20) (eqb (x .kind) 21) h
     go false true e = tt
     go false false e = absurd (is-T false e)
 
-pub kept-mid : {w w′ : List ℕ} → length w′ ≡ length w → ((j : ℕ) → 15760 ≤ j → getD w′ j 0 ≡ getD w j 0) → Kept w w′
+pub kept-mid : {w w′ : List ℕ} → length w′ ≡ length w → ((j : ℕ) → 16016 ≤ j → getD w′ j 0 ≡ getD w j 0) → Kept w w′
 kept-mid {w} {w′} z h = record { size = z; rest = beyond-same w w′ z (λ j l. h j (omega arith)) }
 
 pub flag-small : (b : Bool) → toNat b < 32
@@ -358,30 +351,38 @@ core-ident s n {raw} x {form} {j} e h p q = rw (e, p, q) (sym (core-id s n x (no
     not-lit true z = absurd (is-T false (sym (lit-no-id x (is-T (isLit x) z)) ∙ h))
     not-lit false z = z
 
--- no node is loaded yet: the two counts are 0
-module _ (bs w : List ℕ) (n t : ℕ) (long : 16384 ≤ length w) where
-  none-nodes : getD (set (set w 0 0) 4 0) 0 0 ≡ 0
-  none-nodes = getD-set-other (set w 0 0) 4 0 0 0 (λ e. omega (arith, e)) ∙ getD-set-same w 0 0 0 (omega arith)
+-- no node is loaded yet: the words of the texts are wiped, and the two counts are 0
+module _ {w w₁ : List ℕ} (long : 16384 ≤ length w) (z : Zeroed w w₁ 15760 256) where
+  none-nodes : getD (set (set w₁ 0 0) 4 0) 0 0 ≡ 0
+  none-nodes = getD-set-other (set w₁ 0 0) 4 0 0 0 (λ e. omega (arith, e)) ∙ getD-set-same w₁ 0 0 0 (omega (arith, z .size))
 
-  none-ids : getD (set (set w 0 0) 4 0) 4 0 ≡ 0
-  none-ids = getD-set-same (set w 0 0) 4 0 0 (simp length-set (omega arith))
+  none-ids : getD (set (set w₁ 0 0) 4 0) 4 0 ≡ 0
+  none-ids = getD-set-same (set w₁ 0 0) 4 0 0 (simp length-set (omega (arith, z .size)))
 
-  pub none-loaded : Loaded bs (set (set w 0 0) 4 0) n t 0
+  none-other : (j : ℕ) → 5 ≤ j → getD (set (set w₁ 0 0) 4 0) j 0 ≡ getD w₁ j 0
+  none-other j l = getD-set-other (set w₁ 0 0) 4 j 0 0 (λ e. omega (arith, e)) ∙ getD-set-other w₁ 0 j 0 0 (λ e. omega (arith, e))
+
+  pub none-loaded : (bs : List ℕ) (n t : ℕ) → Loaded bs (set (set w₁ 0 0) 4 0) n t 0
   unfolding tree idsOf enterAll tab
-  none-loaded = record {
+  none-loaded bs n t = record {
     count = none-nodes;
     tree = rw none-nodes refl;
     ids = rw none-ids refl;
     listed = record {
-      long = simp length-set long;
+      long = simp length-set (rw (z .size) long);
       few = rw none-ids (omega arith);
       low = λ i h. absurd (omega (arith, rw none-ids at h));
       high = λ i h. absurd (omega (arith, rw none-ids at h));
     };
+    texted = record {
+      some = λ i h. absurd (omega (arith, rw none-ids at h));
+      first = λ i h. absurd (omega (arith, rw none-ids at h));
+      high = λ t h. omega (arith, none-other (15760 + t) (omega arith), z .here t h);
+    };
   }
 
-  pub none-kept : Kept w (set (set w 0 0) 4 0)
+  pub none-kept : Kept w (set (set w₁ 0 0) 4 0)
   none-kept = record {
-    size = simp length-set;
-    rest = beyond-same w (set (set w 0 0) 4 0) (simp length-set) (λ j l. getD-set-other (set w 0 0) 4 j 0 0 (λ e. omega (arith, e)) ∙ getD-set-other w 0 j 0 0 (λ e. omega (arith, e)));
+    size = simp length-set (z .size);
+    rest = beyond-same w (set (set w₁ 0 0) 4 0) (simp length-set (z .size)) (λ j l. none-other j (omega arith) ∙ z .high j (omega arith));
   }

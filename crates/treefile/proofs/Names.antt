@@ -12,12 +12,12 @@ use lib.Dec.{T, eqb, eqb-refl}
 use lib.ListN.{length, getD, drop, set, length-set, length-append, drop-of-length-le}
 use lib.Seq.{drop-cons, drop-drop, getD-set-same, getD-set-other}
 use Rattle.tree.specs.Base.{pick}
-use Rattle.words.specs.Tab.{tab, tab-suc, tab-ext, length-tab, getD-tab}
+use Rattle.words.specs.Tab.{same-or-not, tab, tab-suc, tab-ext, length-tab, getD-tab}
 use Rattle.words.specs.Layout.{Agree}
 use Rattle.format.specs.declared.Raw.{Raw}
 use Rattle.format.specs.Script.{zeroNode, hasId, sameId, known, enter, placeOf}
 use Rattle.format.specs.Read.{number, u32, rawOf}
-use Rattle.treefile.specs.Idents.{numbered, idsOf, Listed}
+use Rattle.treefile.specs.Idents.{numbered, idsOf, Listed, Texted, FirstSet}
 use Rattle.parts.proofs.Tests.{T-is}
 
 -- an identifier's fields in the file
@@ -40,6 +40,13 @@ module _ (x : Raw) (ids : List Raw) (j : ℕ) where
 
   pub place-end : length ids ≤ j → placeOf x (drop j ids) ≡ 0
   place-end h = rw (drop-of-length-le ids h) refl
+
+-- the search may begin at place j where none before it has the identifier
+pub place-skip : (x : Raw) (ids : List Raw) (j : ℕ) → j ≤ length ids → ((i : ℕ) → i < j → sameId x (getD ids i zeroNode) ≡ false) → placeOf x ids ≡ j + placeOf x (drop j ids)
+place-skip x ids zero h o = omega arith
+place-skip x ids (suc j) h o =
+    let miss : placeOf x (drop j ids) ≡ suc (placeOf x (drop (suc j) ids)) = rw add-one at (place-miss x ids j h (o j (omega arith))) in
+    omega (arith, place-skip x ids j (omega arith) (λ i l. o i (omega arith)))
 
 -- a place below the length is that of a known identifier
 known-cases : (x : Raw) (ids : List Raw) → ((placeOf x ids < length ids) × (known x ids ≡ true)) ⊎ ((placeOf x ids ≡ length ids) × (known x ids ≡ false))
@@ -95,9 +102,40 @@ module _ (bs w : List ℕ) where
   unfolding idsOf
   ids-at i h = getD-tab (getD w 4 0) (λ i. numbered bs (getD w (15504 + i) 0)) i zeroNode h
 
+-- it is as it was where its words are kept
 pub ids-same : (bs w w′ : List ℕ) → getD w′ 4 0 ≡ getD w 4 0 → ((i : ℕ) → i < getD w 4 0 → getD w′ (15504 + i) 0 ≡ getD w (15504 + i) 0) → idsOf bs w′ ≡ idsOf bs w
 unfolding idsOf
 ids-same bs w w′ e h = rw e (tab-ext (getD w 4 0) (λ i. numbered bs (getD w′ (15504 + i) 0)) (λ i. numbered bs (getD w (15504 + i) 0)) (λ i l. ap (numbered bs) (h i l)))
+
+pub listed-same : (w w′ : List ℕ) (n : ℕ) → length w′ ≡ length w → getD w′ 4 0 ≡ getD w 4 0 → ((i : ℕ) → i < getD w 4 0 → getD w′ (15504 + i) 0 ≡ getD w (15504 + i) 0) → Listed w n → Listed w′ n
+listed-same w w′ n z e h L = record {
+  long = rw z (L .long);
+  few = rw e (L .few);
+  low = λ i l. let q : i < getD w 4 0 = rw e at l in rw (h i q) (L .low i q);
+  high = λ i l. let q : i < getD w 4 0 = rw e at l in rw (h i q) (L .high i q);
+}
+
+-- and the words of the texts where they are kept too
+pub texted-same : (bs w w′ : List ℕ) → getD w′ 4 0 ≡ getD w 4 0 → ((j : ℕ) → 15504 ≤ j → getD w′ j 0 ≡ getD w j 0) → Texted bs w → Texted bs w′
+texted-same bs w w′ e h X = record {
+  some = λ i l. rw (h (15504 + i) (omega arith), h (15760 + numbered bs (getD w (15504 + i) 0) .text) (omega arith)) (X .some i (rw e at l));
+  first = λ i l. rw (h (15504 + i) (omega arith), h (15760 + numbered bs (getD w (15504 + i) 0) .text) (omega arith)) (X .first i (rw e at l));
+  high = λ t l. rw (h (15760 + t) (omega arith), e) (X .high t l);
+}
+
+-- identifier i has another text than x where the word of x's text is 0 or above i + 1
+pub text-other : {bs w : List ℕ} → Texted bs w → (x : Raw) (i : ℕ) → i < getD w 4 0 → (getD w (15760 + x .text) 0 ≡ 0) ⊎ (i + 1 < getD w (15760 + x .text) 0) → sameId x (numbered bs (getD w (15504 + i) 0)) ≡ false
+text-other {bs} {w} X x i l h =
+    let y = numbered bs (getD w (15504 + i) 0) in
+    ap {B = Bool} (λ (c : Bool). c && eqb (x .bits) (y .bits)) (ne-eqb (x .text) (y .text) (λ e. ⊎-elim (λ (z : getD w (15760 + x .text) 0 ≡ 0). omega (arith, X .some i l, rw e at z)) (λ (z : i + 1 < getD w (15760 + x .text) 0). omega (arith, X .first i l, rw e at z)) h))
+
+-- the list where the word of a text is set
+module _ {w w′ : List ℕ} {t v : ℕ} (F : FirstSet w w′ t v) where
+  pub first-count : getD w′ 4 0 ≡ getD w 4 0
+  first-count = F .other 4 (λ e. omega (arith, e))
+
+  pub first-list : (i : ℕ) → i < 256 → getD w′ (15504 + i) 0 ≡ getD w (15504 + i) 0
+  first-list i h = F .other (15504 + i) (λ e. omega (arith, e))
 
 -- one more: word 15504 + count is m, and the count is one more
 module _ (bs w : List ℕ) (n m : ℕ) (L : Listed w n) (room : getD w 4 0 < 256) where
@@ -132,6 +170,45 @@ module _ (bs w : List ℕ) (n m : ℕ) (L : Listed w n) (room : getD w 4 0 < 256
     where
       cases : (i : ℕ) → i < getD (set (set w (15504 + getD w 4 0) m) 4 (getD w 4 0 + 1)) 4 0 → (i ≡ getD w 4 0) ⊎ (i < getD w 4 0)
       cases i l = eq-or-lt-of-le (omega (arith, more-count))
+
+  -- and the word of its text is set where it was 0
+  pub more-texted : {w₂ : List ℕ} {t : ℕ} → t < 256 → numbered bs m .text ≡ t → Texted bs w → FirstSet (set (set w (15504 + getD w 4 0) m) 4 (getD w 4 0 + 1)) w₂ t (getD w 4 0 + 1) → Texted bs w₂
+  more-texted {w₂} {t} small q X F = record {
+    some = λ i l. ⊎-elim (λ (e : i ≡ getD w 4 0). rw (e, last, q) (here .0)) (λ (h : i < getD w 4 0). rw (listed i h, kept (text i) (X .some i h)) (X .some i h)) (cases i l);
+    first = λ i l. ⊎-elim (λ (e : i ≡ getD w 4 0). rw (e, last, q) (here .1)) (λ (h : i < getD w 4 0). rw (listed i h, kept (text i) (X .some i h)) (X .first i h)) (cases i l);
+    high = λ s l. rw count (⊎-elim (λ (e : s ≡ t). rw e (here .1)) (λ (d : s ≡ t → ⊥). omega (arith, X .high s l, other s d)) (same-or-not s t));
+  }
+    where
+      count : getD w₂ 4 0 ≡ getD w 4 0 + 1
+      count = first-count F ∙ more-count
+
+      cases : (i : ℕ) → i < getD w₂ 4 0 → (i ≡ getD w 4 0) ⊎ (i < getD w 4 0)
+      cases i l = eq-or-lt-of-le (omega (arith, count))
+
+      text : ℕ → ℕ
+      text i = numbered bs (getD w (15504 + i) 0) .text
+
+      listed : (i : ℕ) → i < getD w 4 0 → getD w₂ (15504 + i) 0 ≡ getD w (15504 + i) 0
+      listed i h = first-list F i (omega arith) ∙ more-other (15504 + i) (λ e. omega (arith, e)) (λ e. omega (arith, e))
+
+      last : getD w₂ (15504 + getD w 4 0) 0 ≡ m
+      last = first-list F (getD w 4 0) room ∙ more-last
+
+      before : (s : ℕ) → getD (set (set w (15504 + getD w 4 0) m) 4 (getD w 4 0 + 1)) (15760 + s) 0 ≡ getD w (15760 + s) 0
+      before s = more-other (15760 + s) (λ e. omega (arith, e)) (λ e. omega (arith, e))
+
+      other : (s : ℕ) → (s ≡ t → ⊥) → getD w₂ (15760 + s) 0 ≡ getD w (15760 + s) 0
+      other s d = F .other (15760 + s) (λ e. d (omega (arith, e))) ∙ before s
+
+      kept : (s : ℕ) → 0 < getD w (15760 + s) 0 → getD w₂ (15760 + s) 0 ≡ getD w (15760 + s) 0
+      kept s h = ⊎-elim (λ (e : s ≡ t). rw e (F .old (rw (before t, ← e) h) ∙ before t)) (other s) (same-or-not s t)
+
+      here : (0 < getD w₂ (15760 + t) 0) × (getD w₂ (15760 + t) 0 ≤ getD w 4 0 + 1)
+      here =
+          ⊎-elim
+          (λ (z : getD w (15760 + t) 0 ≡ 0). let n = F .new (before t ∙ z) in (omega (arith, n), omega (arith, n)))
+          (λ (z : getD w (15760 + t) 0 ≡ 0 → ⊥). let h : 0 < getD w (15760 + t) 0 = omega (arith, z) in (omega (arith, kept t h), omega (arith, kept t h, X .high t small)))
+          (same-or-not (getD w (15760 + t) 0) 0)
 
 -- two nodes have one identifier: by their texts' numbers, then by their contexts
 module _ (bs : List ℕ) (a b : ℕ) {p q : ℕ} (ep : p ≡ u32 bs (a + 4)) (eq : q ≡ u32 bs (b + 4)) where

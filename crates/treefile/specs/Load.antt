@@ -11,7 +11,7 @@ use Rattle.format.specs.Script.{Script, hasId, enterAll, idents, textAt}
 use Rattle.format.specs.Core.{coreNodes}
 use Rattle.format.specs.Read.{nodesFrom, rawOf, nodesOk}
 use Rattle.parts.specs.Text.{textsOf, Placed}
-use Rattle.treefile.specs.Idents.{idsOf, Listed}
+use Rattle.treefile.specs.Idents.{idsOf, Listed, Texted}
 
 -- a node more in the tree; the words of the scopes and identifiers as they were
 pub record Appended (w w′ : List ℕ) (c : Core) : Type 0 where
@@ -42,6 +42,7 @@ pub record Loaded (bs w : List ℕ) (n t k : ℕ) : Type 0 where
   pub tree : tree w ≡ take k (coreNodes (scriptOf bs n t))
   pub ids : idsOf bs w ≡ enterAll [] (take k (nodesFrom n (drop 32 bs)))
   pub listed : Listed w n
+  pub texted : Texted bs w
 
 -- and node k is to be
 pub record Loading (bs w : List ℕ) (n t k : ℕ) : Type 0 where

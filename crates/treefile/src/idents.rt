@@ -5,7 +5,7 @@ ghost use Prim.Native.Nat.{_+_, _*_, _<_, _≤_};
 ghost use lib.ListN.{length, drop};
 ghost use Rattle.format.specs.Script.{hasId, sameId, placeOf};
 ghost use Rattle.format.specs.Read.{rawOf};
-ghost use Rattle.treefile.specs.Idents.{idsOf, Listed, Enters};
+ghost use Rattle.treefile.specs.Idents.{idsOf, Listed, Texted, FirstSet, Enters};
 use parts::fields::u32_at;
 use parts::fields::u64_at;
 use words::layout;
@@ -29,11 +29,17 @@ fn same_id(file: &[u8], a: usize, b: usize) -> bool
 
 // The place of the identifier of the node at byte b among those listed; how many these are, where it is none of them.
 fn place_of(file: &[u8], words: &[u32], n: usize, b: usize) -> usize
-    requires { ⌜ Listed (now words) n × (n ≤ 1024) × (32 + 16 * n ≤ length (now file)) × (b ≤ 100000) × (b + 16 ≤ length (now file)) ⌝ }
+    requires { ⌜ Listed (now words) n × (n ≤ 1024) × (32 + 16 * n ≤ length (now file)) × (b ≤ 100000) × (b + 16 ≤ length (now file)) × Texted (now file) (now words) × (rawOf (drop b (now file)) .text < 256) ⌝ }
     ensures { λ r. ⌜ r ≡ placeOf (rawOf (drop b (now (file .entry)))) (idsOf (now (file .entry)) (now (words .entry))) ⌝ }
 {
     let count = words[layout::IDENT_COUNT] as usize;
-    let mut j: usize = 0;
+    let t = u32_at(file, b + 4) as usize;
+    // No identifier before this one has the text.
+    let first = words[layout::FIRST_OF_TEXT + t] as usize;
+    if first == 0 {
+        return count;
+    }
+    let mut j: usize = first - 1;
     while j < count {
         let m = words[layout::IDENTS + j] as usize;
         if same_id(file, b, 32 + 16 * (m - 1)) {
@@ -44,9 +50,19 @@ fn place_of(file: &[u8], words: &[u32], n: usize, b: usize) -> usize
     count
 }
 
+// Makes identifier v, counted from 1, the first one of text t, where that has none yet.
+fn set_first(words: &mut [u32], t: usize, v: u32)
+    requires { ⌜ (16384 ≤ length (now words)) × (t < 256) ⌝ }
+    ensures { λ _. ⌜ FirstSet (now (words .entry)) (now (words .exit)) t v ⌝ }
+{
+    if words[layout::FIRST_OF_TEXT + t] == 0 {
+        words[layout::FIRST_OF_TEXT + t] = v;
+    }
+}
+
 // The number of the identifier of node k, which is listed where it is new.
 pub fn enter(file: &[u8], words: &mut [u32], n: usize, k: usize) -> Entered
-    requires { ⌜ Listed (now words) n × (n ≤ 1024) × (32 + 16 * n ≤ length (now file)) × (k < n) × (hasId (rawOf (drop (32 + 16 * k) (now file))) ≡ true) ⌝ }
+    requires { ⌜ Listed (now words) n × (n ≤ 1024) × (32 + 16 * n ≤ length (now file)) × (k < n) × (hasId (rawOf (drop (32 + 16 * k) (now file))) ≡ true) × Texted (now file) (now words) × (rawOf (drop (32 + 16 * k) (now file)) .text < 256) ⌝ }
     ensures { λ r. ⌜ Enters (now (file .entry)) (now (words .entry)) (now (words .exit)) n (rawOf (drop (32 + 16 * k) (now (file .entry)))) r ⌝ }
 {
     let count = words[layout::IDENT_COUNT] as usize;
@@ -57,7 +73,10 @@ pub fn enter(file: &[u8], words: &mut [u32], n: usize, k: usize) -> Entered
     if count == 256 {
         return Entered::Full;
     }
+    let next = (count + 1) as u32;
     words[layout::IDENTS + count] = (k + 1) as u32;
-    words[layout::IDENT_COUNT] = (count + 1) as u32;
+    words[layout::IDENT_COUNT] = next;
+    let t = u32_at(file, 32 + 16 * k + 4) as usize;
+    set_first(words, t, next);
     Entered::At(count as u32)
 }

@@ -12,6 +12,7 @@ use parts::fields::raw_at;
 use parts::texts::same_text;
 use parts::texts::text;
 use words::layout;
+use words::wipe;
 
 // Appends a node to the tree, which has k nodes.
 fn put_node(words: &mut [u32], k: usize, kind: u32, form: u32, arity: u32, num: u32)
@@ -81,6 +82,7 @@ pub fn load(file: &[u8], words: &mut [u32], n: usize, t: usize) -> bool
     requires { ⌜ Readable (now file) n t × (16384 ≤ length (now words)) ⌝ }
     ensures { λ r. ⌜ Done (now (file .entry)) (now (words .entry)) (now (words .exit)) n t r ⌝ }
 {
+    wipe(words, layout::FIRST_OF_TEXT, 256);
     words[layout::NODE_COUNT] = 0;
     words[layout::IDENT_COUNT] = 0;
     let mut k: usize = 0;

@@ -12,7 +12,8 @@
 -- 7184 to 7311      scopes, root first, 32                     4: kind, first binding, first constant, barrier before the first binding
 -- 7312 to 15503     unresolved: a bit for each identifier      256 for each scope: a set in the first 8 of them
 -- 15504 to 15759    identifiers, 256                           1: the number of the first node that has it
--- 15760 to 16383    free
+-- 15760 to 16015    the first identifier of each text, 256     1: its number from 1, or 0 where there is none; reading alone uses it
+-- 16016 to 16383    free
 use mathlib.Core.Path.{_≡_}
 use mathlib.Core.List.{List}
 use mathlib.Core.Bool.{Bool, true, false}

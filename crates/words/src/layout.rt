@@ -76,3 +76,6 @@ pub const UNRESOLVED: usize = 7312;
 
 // The number of the first node of each identifier, one word each.
 pub const IDENTS: usize = 15504;
+
+// The number of the first identifier of each text, from 1, or 0 where there is none, one word each: reading alone uses it.
+pub const FIRST_OF_TEXT: usize = 15760;

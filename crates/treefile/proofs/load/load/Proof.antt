@@ -11,6 +11,7 @@ use Rattle.treefile.proofs.load.load.Tie as tie
 use Rattle.treefile.proofs.load.load.Reads as reads
 use Rattle.treefile.proofs.load.load.Lts as lts
 use Rattle.treefile.proofs.load.load_node.Reads as load-node-reads
+use Rattle.words.proofs.wipe.Reads as wipe-reads
 
 abbrev Inv-loop : tie.InvT-loop
 Inv-loop file words₀ n t k₀ words k = (k ≤ n) × Loaded file words n t k × Kept words₀ words
@@ -18,17 +19,20 @@ Inv-loop file words₀ n t k₀ words k = (k ≤ n) × Loaded file words n t k �
 abbrev μ-loop : tie.MeasureT-loop
 μ-loop file words₀ n t k₀ words k = n - k
 
+wipe-requires : tie.Need-wipe-requires Inv-loop μ-loop
+wipe-requires c κs = search needs
+
 slice-write-words : tie.Need-slice-write-words Inv-loop μ-loop
-slice-write-words c = search needs
+slice-write-words c = omega (arith, c .before .before .before .before .before .before .pre .1, c .before .before .wipe .ensures .size)
 
 slice-write-words-2 : tie.Need-slice-write-words-2 Inv-loop μ-loop
-slice-write-words-2 c = simp length-set (omega (arith, c .before .before .pre .1))
+slice-write-words-2 c = simp length-set (omega (arith, c .before .before .before .before .before .before .pre .1, c .before .before .wipe .ensures .size))
 
 loop-holds : tie.Need-loop-holds Inv-loop μ-loop
-loop-holds c = let a = c .before .before .args in (omega arith, none-loaded (a .file .now) (a .words .now) (a .n) (a .t) (c .before .before .pre .1), record { size = refl; rest = refl })
+loop-holds c = let a = c .before .before .before .before .before .before .args in (omega arith, none-loaded (c .before .before .before .before .before .before .pre .1) (c .before .before .wipe .ensures) (a .file .now) (a .n) (a .t), record { size = refl; rest = refl })
 
 load-node-requires : tie.Need-load-node-requires Inv-loop μ-loop
-load-node-requires c κs = record { readable = c .before .before .before .before .before .pre .0; less = c .before .loop-test .taken; loaded = c .before .before .loop .inv .1 }
+load-node-requires c κs = record { readable = c .before .before .before .before .before .before .before .before .before .pre .0; less = c .before .loop-test .taken; loaded = c .before .before .loop .inv .1 }
 
 add-k : tie.Need-add-k Inv-loop μ-loop
 add-k c = omega (arith, c .before .before .before .before .before .loop-test .taken)
@@ -38,36 +42,32 @@ loop-less c = omega (arith, c .before .before .before .before .before .loop-test
 
 loop-again : tie.Need-loop-again Inv-loop μ-loop
 loop-again c =
-    let a = c .before .before .before .before .before .before .before .before .before .args in
+    let a = c .before .before .before .before .before .before .before .before .before .before .before .before .before .args in
     let s = c .before .before .before .load-node .ensures in
     (omega (arith, c .before .before .before .before .before .loop-test .taken), subst (Next (a .file .now) (c .before .before .before .load-node .last .1 .0) (a .n) (a .t) (c .before .before .before .before .before .before .loop .k + 1)) (c .if1 .taken) (s .next), kept-then {w₁ = c .before .before .before .before .before .before .loop .words} (c .before .before .before .before .before .before .loop .inv .2) (s .kept))
 
 same-length : tie.Need-same-length Inv-loop μ-loop
-same-length c =
-    let a = c .before .before .before .before .before .before .before .before .before .args in
-    kept-then {w₁ = c .before .before .before .before .before .before .loop .words} (kept-then (none-kept (a .file .now) (a .words .now) (a .n) (a .t) (c .before .before .before .before .before .before .before .before .before .pre .1)) (c .before .before .before .before .before .before .loop .inv .2)) (c .before .before .before .load-node .ensures .kept) .size
+same-length c = kept-then {w₁ = c .before .before .before .before .before .before .loop .words} (kept-then (none-kept (c .before .before .before .before .before .before .before .before .before .before .before .before .before .pre .1) (c .before .before .before .before .before .before .before .before .before .wipe .ensures)) (c .before .before .before .before .before .before .loop .inv .2)) (c .before .before .before .load-node .ensures .kept) .size
 
 returns : tie.Need-returns Inv-loop μ-loop
 returns c =
-    let a = c .before .before .before .before .before .before .before .before .before .args in
+    let a = c .before .before .before .before .before .before .before .before .before .before .before .before .before .args in
     let s = c .before .before .before .load-node .ensures in
     record {
-      kept = kept-then {w₁ = c .before .before .before .before .before .before .loop .words} (kept-then (none-kept (a .file .now) (a .words .now) (a .n) (a .t) (c .before .before .before .before .before .before .before .before .before .pre .1)) (c .before .before .before .before .before .before .loop .inv .2)) (s .kept);
+      kept = kept-then {w₁ = c .before .before .before .before .before .before .loop .words} (kept-then (none-kept (c .before .before .before .before .before .before .before .before .before .before .before .before .before .pre .1) (c .before .before .before .before .before .before .before .before .before .wipe .ensures)) (c .before .before .before .before .before .before .loop .inv .2)) (s .kept);
       next = subst (Next (a .file .now) (c .before .before .before .load-node .last .1 .0) (a .n) (a .t) (c .before .before .before .before .before .before .loop .k + 1)) (c .if1 .left) (s .next);
     }
 
 same-length-2 : tie.Need-same-length-2 Inv-loop μ-loop
-same-length-2 c =
-    let a = c .before .before .before .before .args in
-    kept-then (none-kept (a .file .now) (a .words .now) (a .n) (a .t) (c .before .before .before .before .pre .1)) (c .before .loop .inv .2) .size
+same-length-2 c = kept-then (none-kept (c .before .before .before .before .before .before .before .before .pre .1) (c .before .before .before .before .wipe .ensures)) (c .before .loop .inv .2) .size
 
 returns-2 : tie.Need-returns-2 Inv-loop μ-loop
 returns-2 c =
-    let a = c .before .before .before .before .args in
+    let a = c .before .before .before .before .before .before .before .before .args in
     let l = c .before .loop .inv in
     let all : c .before .loop .k ≡ a .n = omega (arith, l .0, c .loop-test .left) in
     record {
-      kept = kept-then (none-kept (a .file .now) (a .words .now) (a .n) (a .t) (c .before .before .before .before .pre .1)) (l .2);
+      kept = kept-then (none-kept (c .before .before .before .before .before .before .before .before .pre .1) (c .before .before .before .before .wipe .ensures)) (l .2);
       next = subst (λ (k : ℕ). Loaded (a .file .now) (c .before .loop .words) (a .n) (a .t) k) all (l .1);
     }
 
@@ -77,6 +77,7 @@ load-spec =
     (tie.spec
     Inv-loop
     μ-loop
+    wipe-requires
     slice-write-words
     slice-write-words-2
     loop-holds

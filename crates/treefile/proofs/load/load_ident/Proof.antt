@@ -165,7 +165,9 @@ enter-requires c κs =
     let x = getD (s .nodes) (a .k) zeroNode in
     let raw = node-raw (a .n) (a .k) bs (L .less) in
     let has : hasId x ≡ true = ap hasId raw ∙ e .pre .1 in
-    (L .loaded .listed, R .few, omega (arith, R .placed .room), L .less, e .pre .1)
+    let sound = node-sound s (R .ok) (a .k) (rw nodes-length (L .less)) in
+    let small : x .text < a .t = omega (arith, sound .text (id-text x has), count-texts (R .placed)) in
+    (L .loaded .listed, R .few, omega (arith, R .placed .room), L .less, e .pre .1, L .loaded .texted, omega (arith, ap (λ (y : Raw). y .text) raw, R .placed .few))
 
 enum-known-entered : tie.Need-enum-known-entered
 enum-known-entered c = search needs
@@ -230,7 +232,7 @@ returns c =
     let j = C .1 ∙ ap (λ (y : Raw). placeOf y (enterR (idsOf bs w) y)) (sym raw) ∙ sym (number-final L has) in
     record {
       kept = kept-then {w₁ = w₁} (kept-mid (E .size) (E .last)) (kept-by (p .size) (p .last));
-      next = loaded-more L (core-ident s (a .k + 1) x same has form j) tree₁ count (C .0 ∙ ap (λ (y : Raw). enterR (idsOf bs w) y) (sym raw)) (C .2) p;
+      next = loaded-more L (core-ident s (a .k + 1) x same has form j) tree₁ count (C .0 ∙ ap (λ (y : Raw). enterR (idsOf bs w) y) (sym raw)) (C .2) (C .3) p;
     }
 
 same-length-2 : tie.Need-same-length-2

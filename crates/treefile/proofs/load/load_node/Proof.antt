@@ -112,7 +112,7 @@ returns c =
     let p = c .before .before .put-node .ensures in
     record {
       kept = kept-by (p .size) (p .last);
-      next = loaded-more L (sym (core-lit s (a .k + 1) x lit)) refl refl (sym (enter-none _ x (lit-no-id x (is-T _ lit)))) (L .loaded .listed) p;
+      next = loaded-more L (sym (core-lit s (a .k + 1) x lit)) refl refl (sym (enter-none _ x (lit-no-id x (is-T _ lit)))) (L .loaded .listed) (L .loaded .texted) p;
     }
 
 load-ident-requires : tie.Need-load-ident-requires
@@ -200,7 +200,7 @@ returns-3 c =
     let p = c .before .before .put-node2 .ensures in
     record {
       kept = kept-by (p .size) (p .last);
-      next = loaded-more L (ap (λ (y : Raw). core (y .kind) (y .form) (y .arity) (a .k + 1)) same ∙ sym (core-plain s (a .k + 1) x lit no)) refl refl (sym (enter-none _ x no)) (L .loaded .listed) p;
+      next = loaded-more L (ap (λ (y : Raw). core (y .kind) (y .form) (y .arity) (a .k + 1)) same ∙ sym (core-plain s (a .k + 1) x lit no)) refl refl (sym (enter-none _ x no)) (L .loaded .listed) (L .loaded .texted) p;
     }
 
 pub load-node-spec : {M : Type 1} → statement M
