@@ -64,7 +64,7 @@ pub fn prevent_found(w: &mut [u32], x: u8)
 }
 
 // The identifier that the value of binding k is, 256 if it is none; the value begins at node at of the store.
-fn named(w: &[u32], k: usize, at: usize) -> u32
+pub fn named(w: &[u32], k: usize, at: usize) -> u32
     requires { ⌜ (Good (now w)) × (k < getD (now w) 1 0) × (at ≡ off (now w) k) × (at + getD (now w) (4112 + k * 10 + 8) 0 ≤ 512) ⌝ }
     ensures { λ r. ⌜ r ≡ nameOf (bindAt (now (w .entry)) k .value) ⌝ }
 {
