@@ -29,7 +29,8 @@ USES = [
     ('use Rattle.walk_laws.proofs.Ways as ways', ['ways']),
     ('use Rattle.walk_laws.proofs.Declrs as declrs', ['declrs']),
     ('use Rattle.walk_laws.proofs.Idents as idents', ['idents']),
-    ('use Rattle.nodes.specs.Nodes.{valueFrom}', ['valueFrom']),
+    ('use Rattle.scope.specs.Handles.{held}', ['held']),
+    ('use Rattle.ident_steps.specs.Steps.{valueBy, constantAt}', ['valueBy', 'constantAt']),
 ]
 
 ranks = {'full': 0}
@@ -486,41 +487,38 @@ TRIPLE = '(%s .planted, heres.here-node %s, @pre .1 .1)' % (H0, H0)
 PI = '(@args .p) (@args .i)'
 IDENT = '%s %s' % (V, PI)
 W0 = '(@args .w .now)'
-def held(x, base):
-    at, m = '(@%s .given .0 .0)' % x, '(@%s .given .0 .1 .0)' % x
-    return at, m, '(valueFrom %s %d %s %s)' % (W0, base, at, m)
-CA, CM_, CE = held('at', 3088)
-VA, VM, VE = held('at2', 2064)
-NAMED = '(idents.named-at %s (@args .i) %s %s (@at .given .1) (@constant .ensures))' % (W0, CA, CM_)
-FATED = '(idents.fated-value %s (@args .i) %s %s (@at2 .given .1) (@fate .ensures))' % (W0, VA, VM)
+CE = '(held (constantAt (abs %s) (@args .i)))' % W0
+VE = '(valueBy %s (@b .given .0 .0))' % W0
+NAMED = '(idents.const-some %s (@args .i) (@constant .result) (@constant .ensures .0) (@if1 .taken))' % W0
+FATED = '(idents.fated-value %s (@args .i) (@b .given .0 .0) (@b .given .1) (@fate .ensures))' % W0
 CDID, VDID = '(idents.goes-did (@inline-constant .ensures))', '(idents.goes-did (@inline-value .ensures))'
-NOCONST = 'idents.no-const-%%s %s (idents.named-unknown %s (@args .i) (@enum-told3 .given .1) (@constant .ensures)) (@if1 .%%s) (%%s)' % (IDENT, W0)
+NOCONST = 'idents.no-const-%%s %s (idents.const-none %s (@args .i) (@constant .result) (@constant .ensures .0) (omega (arith, @if1 .left))) (@if2 .%%s) (%%s)' % (IDENT, W0)
 VALUE = lambda x: NOCONST % ('inlining', 'left', 'idents.found-value %s %s (%s .0) (λ b. %s)' % (IDENT, VE, FATED, x))
-VOIDED = NOCONST % ('inlining', 'left', 'idents.found-void %s (idents.fated-void %s (@args .i) (@enum-told5 .given .1) (@fate .ensures)) (idents.goes-did (@inline-undefined .ensures))' % (IDENT, W0))
+VOIDED = NOCONST % ('inlining', 'left', 'idents.found-void %s (idents.fated-void %s (@args .i) (@enum-told4 .given .1) (@fate .ensures)) (idents.goes-did (@inline-undefined .ensures))' % (IDENT, W0))
 A['ident'] = {
     'constant-requires': TRIPLE,
     'cast-inline-constant': 'omega (arith, %s .depth)' % H0,
-    'inline-constant-requires': '(%s .planted, heres.here-node %s, omega (arith, %s .depth), %s .1)' % (H0, H0, H0, NAMED),
-    'returns': 'ways.ident-by %s (some %s) (%s .0) (ways.const-stop %s %s (@enum-told2 .given .1) %s)' % (IDENT, CE, NAMED, IDENT, CE, CDID),
+    'inline-constant-requires': '(%s .planted, heres.here-node %s, @pre .1 .1, @if1 .taken, @constant .ensures .0, @constant .ensures .1)' % (H0, H0),
+    'returns': 'ways.ident-by %s (some %s) %s (ways.const-stop %s %s (@enum-told2 .given .1) %s)' % (IDENT, CE, NAMED, IDENT, CE, CDID),
     'full-requires': '(%s, idents.here-lower (idents.here-const (@args .p) %s %s (@enum-told .given .1) %s))' % (M, CE, H0, CDID),
-    'returns-4': 'ways.ident-by %s (some %s) (%s .0) (ways.const-then %s %s (@enum-told .given .1) %s (@full .ensures))' % (IDENT, CE, NAMED, IDENT, CE, CDID),
+    'returns-2': 'ways.ident-by %s (some %s) %s (ways.const-then %s %s (@enum-told .given .1) %s (@full .ensures))' % (IDENT, CE, NAMED, IDENT, CE, CDID),
     'ident-analysis-requires': TRIPLE,
     'skip-requires': 'heres.at-skip (idents.here-analysis %s (@ident-analysis .ensures))' % H0,
-    'returns-2': NOCONST % ('analysis', 'taken', 'ways.analysis-then (@args .i) (@ident-analysis .ensures) (ways.did-skip (@args .i) (@ident-analysis .ensures .ok .planted) (@skip .ensures .0))'),
+    'returns-3': NOCONST % ('analysis', 'taken', 'ways.analysis-then (@args .i) (@ident-analysis .ensures) (ways.did-skip (@args .i) (@ident-analysis .ensures .ok .planted) (@skip .ensures .0))'),
     'fate-requires': TRIPLE,
     'skip-requires-2': 'heres.at-skip ' + H0,
-    'returns-5': NOCONST % ('inlining', 'left', 'idents.found-nothing %s (idents.fated-nothing %s (@args .i) (@enum-told4 .given .1) (@fate .ensures)) (ways.did-skip (@args .i) (%s .planted) (@skip2 .ensures .0))' % (IDENT, W0, H0)),
+    'returns-5': NOCONST % ('inlining', 'left', 'idents.found-nothing %s (idents.fated-nothing %s (@args .i) (@enum-told3 .given .1) (@fate .ensures)) (ways.did-skip (@args .i) (%s .planted) (@skip2 .ensures .0))' % (IDENT, W0, H0)),
     'cast-inline-undefined': 'omega (arith, %s .depth)' % H0,
     'inline-undefined-requires': 'heres.at-skip ' + H0,
     'coded-requires': 'codes.low-stop (@enum-told2 .given .1)',
     'coded-requires-2': 'codes.low-did (sim-afterIdent (sims (@args .d)) (@args .p)) (@inline-undefined .result) %s (%s)' % (H0, VOIDED),
-    'coded-requires-3': 'codes.low-stop (@enum-told7 .given .1)',
+    'coded-requires-3': 'codes.low-stop (@enum-told6 .given .1)',
     'returns-6': VOIDED,
     'cast-inline-value': 'omega (arith, %s .depth)' % H0,
-    'inline-value-requires': '(%s .planted, heres.here-node %s, omega (arith, %s .depth), %s .1)' % (H0, H0, H0, FATED),
-    'returns-3': VALUE('ways.value-stop %s b %s (@enum-told7 .given .1) %s' % (IDENT, VE, VDID)),
-    'logic-requires': '(%s, idents.here-value (@args .p) %s %s (@enum-told6 .given .1) %s)' % (M, VE, H0, VDID),
-    'returns-7': VALUE('ways.value-then %s b %s (@enum-told6 .given .1) %s (@logic .ensures)' % (IDENT, VE, VDID)),
+    'inline-value-requires': '(%s .planted, heres.here-node %s, @pre .1 .1, %s .1)' % (H0, H0, FATED),
+    'returns-4': VALUE('ways.value-stop %s b %s (@enum-told6 .given .1) %s' % (IDENT, VE, VDID)),
+    'logic-requires': '(%s, idents.here-value (@args .p) %s %s (@enum-told5 .given .1) %s)' % (M, VE, H0, VDID),
+    'returns-7': VALUE('ways.value-then %s b %s (@enum-told5 .given .1) %s (@logic .ensures)' % (IDENT, VE, VDID)),
 }
 # a declarator's name
 AR0 = '(@pre .1 .1)'
@@ -658,7 +656,7 @@ ENDS['name', 3] = past('skip', 'skip-requires')
 ENDS['declr', 4] = past('skip', 'skip-requires')
 ENDS['logic', 1] = past('skip', 'skip-requires')
 ENDS['logic', 2] = past('skip2', 'skip-requires-2')
-ENDS['ident', 2] = past('skip', 'skip-requires')
+ENDS['ident', 3] = past('skip', 'skip-requires')
 ENDS['ident', 5] = past('skip2', 'skip-requires-2')
 
 def ended(m, need, a, last):

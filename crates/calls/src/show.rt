@@ -3,7 +3,6 @@ ghost use Prim.Native.Nat.{_≤_, _<_};
 ghost use Rattle.nodes.specs.Nodes.{Planted};
 use look::bound_here;
 use look::in_loop;
-use records::Constant;
 use records::live;
 use records::recorded_nodes;
 use scope::Count;
@@ -189,10 +188,7 @@ fn show_scope_of(w: &[u32], x: u8)
 {
     put_bool(scope::has_constant(w, x));
     put_bool(constants::has_constant(w, x));
-    match find_constant(w, x) {
-        Constant::Unknown => put(0),
-        Constant::At(_, n) => put_size(n),
-    }
+    put_size(find_constant(w, x));
     let s = scope_for(w, x);
     put_bool(s.bound);
     put_bool(s.current);

@@ -1,31 +1,28 @@
 -- What becomes of an identifier, from the words of its binding; the constant that it names. Assumes nothing.
 use mathlib.Core.Path.{_≡_, refl, sym, ap, _∙_}
-use mathlib.Core.List.{List, [], _∷_}
-use mathlib.Core.Bool.{true, false, _&&_}
+use mathlib.Core.List.{List}
+use mathlib.Core.Bool.{Bool, true, false, _&&_}
 use mathlib.Core.Option.{Option, none, some}
-use Prim.Native.Nat.{ℕ, zero, suc, _+_, _*_, _<_}
+use Prim.Native.Nat.{ℕ, zero, suc, _<_}
 use native.Mathlib.Omega.{arith}
 use lib.Dec.{eqb}
-use lib.ListN.{length, getD}
+use lib.ListN.{getD}
 use Rattle.tree.specs.Base.{pick}
-use Rattle.tree.specs.Tree.{Tree, kind, num, Core, noCore, plant, firstT}
+use Rattle.tree.specs.Tree.{Tree, num, Core}
 use Rattle.tree.specs.Combine.{nodeAt}
-use Rattle.definition.specs.Tree.{countO}
+use Rattle.definition.specs.Tree.{countO, isIdent}
 use Rattle.definition.specs.Scope.{VarInfo, findBinding, findConstant, varInlinePrevented, valueO}
 use Rattle.definition.specs.Walk.{sameIdent}
-use Rattle.words.specs.Tab.{sum-part}
-use Rattle.words.specs.Layout.{yes, coreFrom, nodeOf, run, tree}
-use Rattle.words.proofs.Nodes.{run-length, run-at, tree-at}
-use Rattle.scopes.specs.State.{Good, stack, bindAt, off, lenAt, runAt, valueOf}
-use Rattle.constants.specs.Consts.{Found}
-use Rattle.records.specs.declared.Constant.{Constant}
-use Rattle.records.specs.declared.Constant.the-variants as constant
-use Rattle.nodes.specs.Nodes.{treeFrom, valueFrom}
+use Rattle.words.specs.Layout.{yes, nodeOf, tree}
+use Rattle.words.proofs.Nodes.{tree-at}
+use borrow.Author.Tests.{ne-eqb}
+use Rattle.scopes.specs.State.{nameOf, stack}
+use Rattle.nodes.specs.Nodes.{treeFrom}
 use Rattle.state.specs.State.{rest, abs}
-use Rattle.scope.specs.Handles.{Held, ofBinding}
-use Rattle.scope.proofs.Numbers.{value-some}
+use Rattle.scope.specs.Handles.{ofBinding, held}
+use Rattle.scope.proofs.Numbers.{held-some}
 use Rattle.nodes.proofs.Trees.{count-some}
-use Rattle.ident_steps.specs.Steps.{stays, undefined, inlined, fateOf, fateAt, constantAt, Named}
+use Rattle.ident_steps.specs.Steps.{stays, undefined, inlined, fateOf, fateAt, constantAt}
 use Rattle.ident_steps.proofs.Laws.{tree-num}
 
 -- the fate by the binding, if there is one
@@ -65,21 +62,16 @@ pub const-later : (w : List ℕ) (i : ℕ) → getD w 7 0 ≡ 0 → constantAt (
 unfolding rest
 const-later w i z = rw z refl
 
-pub named : (w : List ℕ) (i x : ℕ) (r : Constant) → constantAt (abs w) i ≡ findConstant x (stack w) → Found w x r → Named w i r
-named w i x constant.Unknown q h = q ∙ h
-named w i x (constant.At at m) q h =
-    (q ∙ h .0 ∙ value-some (run w 3088 at m) (omega (arith, run-length w 3088 at m, h .1)), record { some = h .1; inside = h .2; whole = h .3 })
+-- a constant that is there was looked for
+pub const-now : (w : List ℕ) (i x : ℕ) → i < getD w 0 0 → x ≡ nodeOf w i .num → 0 < countO (constantAt (abs w) i) → findConstant x (stack w) ≡ some (held (constantAt (abs w) i))
+const-now w i x l n z =
+    sym (const-at w i x l n (λ q. omega (arith, ap countO (const-later w i q)))) ∙ held-some (constantAt (abs w) i) z
 
--- the same identifier, by the first node of a value
-module _ (w : List ℕ) (i : ℕ) (l : i < getD w 0 0) (at m : ℕ) (z : 0 < m) where
-  first-of : (xs : List Core) → 0 < length xs → (kind (firstT (plant xs)) ≡ getD xs 0 noCore .kind) × (num (firstT (plant xs)) ≡ getD xs 0 noCore .num)
-  first-of [] h = absurd (omega arith)
-  first-of (x ∷ xs) h = (refl, refl)
+-- the same identifier, by the identifier that a value is
+same-by : (e : Tree) (x : ℕ) → x < 256 → (b : Bool) → eqb (pick b (num e) 256) x ≡ (b && eqb (num e) x)
+same-by e x h true = refl
+same-by e x h false = ne-eqb 256 x (λ q. omega arith)
 
-  here : getD (run w 2064 at m) 0 noCore ≡ coreFrom w (2064 + at * 2)
-  here = let q : at + 0 ≡ at = omega arith in run-at w 2064 at m 0 z ∙ ap (λ (n : ℕ). coreFrom w (2064 + n * 2)) q
-
-  pub same-is : sameIdent (treeFrom (tree w) i) (valueFrom w 2064 at m) ≡ (eqb (coreFrom w (2064 + at * 2) .kind) 21 && eqb (coreFrom w (2064 + at * 2) .num) (nodeOf w i .num))
-  same-is =
-      let f = first-of (run w 2064 at m) (omega (arith, run-length w 2064 at m)) in
-      rw (f .0, f .1, here, tree-num w i l) refl
+pub same-is : (w : List ℕ) (i x : ℕ) → i < getD w 0 0 → x ≡ nodeOf w i .num → x < 256 → (e : Tree) (v : Option Tree) → v ≡ some e → (r : ℕ) → r ≡ nameOf v → eqb r x ≡ sameIdent (treeFrom (tree w) i) e
+same-is w i x l n h e v q r m =
+    rw (tree-num w i l, ← n) (ap (λ (k : ℕ). eqb k x) (m ∙ ap nameOf q) ∙ same-by e x h (isIdent e))

@@ -8,16 +8,13 @@ use lib.Dec.{eqb}
 use Rattle.tree.specs.Base.{pick}
 use Rattle.tree.specs.Tree.{Tree, form, num}
 use Rattle.tree.specs.Combine.{Res, stop, done, M as MS, Nothing, _>>_, Flat, nodeAt, act, onRest, put, Walk as One}
-use Rattle.definition.specs.Scope.{VarInfo, Stack, varInlinePrevented, findBinding, findConstant, preventInline, addRead, change, defined, withValue}
+use Rattle.definition.specs.Scope.{VarInfo, Stack, varInlinePrevented, findBinding, findConstant, valueO, preventInline, addRead, change, defined, withValue}
 use Rattle.definition.specs.Walk.{St, when, modify, mark, grow, replace, restore, setChanged, sameIdent, cheapO}
 use Rattle.flat.specs.WalkF.{testRead}
 use Rattle.words.specs.Layout.{yes}
-use Rattle.scopes.specs.State.{varTypeOf}
-use Rattle.nodes.specs.Nodes.{valueFrom}
-use Rattle.records.specs.declared.Constant.{Constant}
-use Rattle.records.specs.declared.Constant.the-variants as constant
+use Rattle.scopes.specs.State.{stack, varTypeOf}
 use Rattle.state.specs.State.{abs, rest, modeOf, Ok, Turns}
-use Rattle.scope.specs.Handles.{Held, ofBindings, ofConstants}
+use Rattle.scope.specs.Handles.{numbered, held}
 use Rattle.ident_steps.specs.declared.Next.{Next}
 use Rattle.ident_steps.specs.declared.Next.the-variants.{At, Refused}
 use Rattle.ident_steps.specs.declared.Found.{Found}
@@ -65,14 +62,17 @@ fateAt st i = fateOf (findBinding (nodeAt st i .num) (st .rest .stack))
 abbrev pub constantAt : Flat St → ℕ → Option Tree
 constantAt st i = pick (st .rest .isFirstRun) (findConstant (nodeAt st i .num) (st .rest .stack)) none
 
+-- the value of a binding, by its number, which has one
+abbrev pub valueBy : List ℕ → ℕ → Tree
+valueBy w b = held (valueO (numbered (stack w) b))
+
+abbrev pub Has : List ℕ → ℕ → Type 0
+Has w b = valueO (numbered (stack w) b) ≡ some (valueBy w b)
+
 abbrev pub Fated : List ℕ → ℕ → Found → Type 0
 Fated w i found.Nothing = fateAt (abs w) i ≡ stays
 Fated w i found.Void = fateAt (abs w) i ≡ undefined
-Fated w i (found.Value at m) = (fateAt (abs w) i ≡ inlined (valueFrom w ofBindings at m)) × Held w ofBindings at m
-
-abbrev pub Named : List ℕ → ℕ → Constant → Type 0
-Named w i constant.Unknown = constantAt (abs w) i ≡ none
-Named w i (constant.At at m) = (constantAt (abs w) i ≡ some (valueFrom w ofConstants at m)) × Held w ofConstants at m
+Fated w i (found.Value b) = (fateAt (abs w) i ≡ inlined (valueBy w b)) × Has w b
 
 -- e, with rows 8 and 9, in the place of the tree at i; by a value with the mark of a change; by a constant
 abbrev pub swapF : ℕ → Tree → One St

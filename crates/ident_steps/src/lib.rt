@@ -1,29 +1,25 @@
 // The steps of identifiers, and of scopes around a walk, over the working words.
 ghost use mathlib.Core.Path.{_≡_};
-ghost use Prim.Native.Nat.{_+_, _*_, _≤_, _<_};
-ghost use mathlib.Core.Bool.{_&&_};
-ghost use lib.Dec.{eqb};
+ghost use Prim.Native.Nat.{_≤_, _<_};
 ghost use lib.ListN.{getD};
 ghost use Rattle.tree.specs.Combine.{onRest};
-ghost use Rattle.definition.specs.Tree.{voidZero};
+ghost use Rattle.definition.specs.Tree.{voidZero, countO};
 ghost use Rattle.definition.specs.Scope.{findBinding};
-ghost use Rattle.definition.specs.Walk.{opening, deeper};
-ghost use Rattle.words.specs.Layout.{nodeOf, coreFrom, yes, tree};
+ghost use Rattle.definition.specs.Walk.{opening, deeper, sameIdent};
+ghost use Rattle.words.specs.Layout.{nodeOf, yes, tree};
 ghost use Rattle.scopes.specs.State.{Good, Becomes, stack, scopeKindOf};
-ghost use Rattle.nodes.specs.Nodes.{Planted, Child, treeFrom, valueFrom, size};
+ghost use Rattle.nodes.specs.Nodes.{Planted, Child, treeFrom, size};
 ghost use Rattle.state.specs.State.{abs, Act};
-ghost use Rattle.scope.specs.Handles.{Held, ofBindings, ofConstants};
-ghost use Rattle.ident_steps.specs.Steps.{Goes, analysisF, costly, testStack, Fated, Named, Landed, swapF, valueF, constF, Restored};
+ghost use Rattle.scope.specs.Handles.{held};
+ghost use Rattle.ident_steps.specs.Steps.{Goes, analysisF, costly, testStack, Fated, valueBy, Has, constantAt, Landed, swapF, valueF, constF, Restored};
 
 pub mod assign;
 
 use look::ident_at;
 use nodes::Step;
 use nodes::put_void;
-use nodes::replace_at;
 use nodes::skip;
 use nodes::unwrap;
-use records::Constant;
 use scope::add_read;
 use scope::close;
 use scope::find_binding;
@@ -31,7 +27,9 @@ use scope::find_constant;
 use scope::is_undefined;
 use scope::open_kind;
 use scope::prevent_inline;
-use scope::value_at;
+use scope::put_constant;
+use scope::put_value;
+use scope::value_ident;
 use scope::value_kind;
 use scope::value_len;
 use scope::var_inline_prevented;
@@ -50,11 +48,11 @@ pub enum Next {
     Refused(u32),
 }
 
-// What becomes of an identifier in Inlining: its value is so many nodes of the bindings' store, from the first one on.
+// What becomes of an identifier in Inlining: the value of the binding of a number takes its place.
 pub enum Found {
     Nothing,
     Void,
-    Value(usize, usize),
+    Value(usize),
 }
 
 // Has x a binding whose value is no literal and no identifier.
@@ -110,9 +108,8 @@ pub fn fate(w: &[u32], i: usize) -> Found
     if var_inline_prevented(w, b) {
         return Found::Nothing;
     }
-    let m = value_len(w, b);
-    if 0 < m {
-        return Found::Value(value_at(w, b), m);
+    if 0 < value_len(w, b) {
+        return Found::Value(b);
     }
     if is_undefined(w, b) {
         return Found::Void;
@@ -120,15 +117,13 @@ pub fn fate(w: &[u32], i: usize) -> Found
     Found::Nothing
 }
 
-// Is the value at a place of the bindings' store the identifier at node i.
-fn same_ident(w: &[u32], i: usize, at: usize) -> bool
-    requires { ⌜ (Planted (now w)) × (i < size (now w)) × (at < 512) ⌝ }
-    ensures { λ r. ⌜ r ≡ (eqb (coreFrom (now (w .entry)) (2064 + at * 2) .kind) 21 && eqb (coreFrom (now (w .entry)) (2064 + at * 2) .num) (nodeOf (now (w .entry)) i .num)) ⌝ }
+// Is the value of binding b the identifier at node i.
+fn same_ident(w: &[u32], i: usize, b: usize) -> bool
+    requires { ⌜ (Planted (now w)) × (i < size (now w)) × (nodeOf (now w) i .kind ≡ 21) × (Has (now w) b) ⌝ }
+    ensures { λ r. ⌜ r ≡ sameIdent (treeFrom (tree (now (w .entry))) i) (valueBy (now (w .entry)) b) ⌝ }
 {
-    if w[layout::VALUES + at * 2] % 64 == 21 {
-        return w[layout::VALUES + at * 2 + 1] == w[layout::NODES + i * 2 + 1];
-    }
-    false
+    let x = ident_at(w, i);
+    value_ident(w, b) == x as u32
 }
 
 // The end of a replacement, whose tree ends before node j: marked as a change or not.
@@ -142,13 +137,14 @@ fn landed(w: &mut [u32], j: usize, changed: bool) -> Next
     Next::At(j)
 }
 
-// A recorded value takes the place of the identifier at node i, a change unless it is the same identifier.
-pub fn inline_value(w: &mut [u32], i: usize, p: u32, at: usize, m: usize) -> Next
-    requires { ⌜ (Planted (now w)) × (i < size (now w)) × (p ≤ 201) × (Held (now w) ofBindings at m) ⌝ }
-    ensures { λ r. ⌜ Goes (now (w .entry)) (now (w .exit)) r (valueF p (valueFrom (now (w .entry)) ofBindings at m) i (abs (now (w .entry)))) ⌝ }
+// The value of binding b takes the place of the identifier at node i, a change unless it is the same identifier.
+pub fn inline_value(w: &mut [u32], i: usize, p: u32, b: usize) -> Next
+    requires { ⌜ (Planted (now w)) × (i < size (now w)) × (nodeOf (now w) i .kind ≡ 21) × (Has (now w) b) ⌝ }
+    ensures { λ r. ⌜ Goes (now (w .entry)) (now (w .exit)) r (valueF p (valueBy (now (w .entry)) b) i (abs (now (w .entry)))) ⌝ }
 {
-    let same = same_ident(w, i, at);
-    match replace_at(w, i, p, layout::VALUES, at, m) {
+    let same = same_ident(w, i, b);
+    let m = value_len(w, b);
+    match put_value(w, i, p, b) {
         Step::Refused(n) => Next::Refused(n),
         Step::Done => landed(w, i + m, !same),
     }
@@ -165,24 +161,25 @@ pub fn inline_undefined(w: &mut [u32], i: usize, p: u32) -> Next
     }
 }
 
-// The constant that the identifier at node i names, in the first run.
-pub fn constant(w: &[u32], i: usize) -> Constant
+// How many nodes the constant that the identifier at node i names has, in the first run; 0 if there is none.
+pub fn constant(w: &[u32], i: usize) -> usize
     requires { ⌜ (Planted (now w)) × (i < size (now w)) × (nodeOf (now w) i .kind ≡ 21) ⌝ }
-    ensures { λ r. ⌜ Named (now (w .entry)) i r ⌝ }
+    ensures { λ r. ⌜ (r ≡ countO (constantAt (abs (now (w .entry))) i)) × (r ≤ 512) ⌝ }
 {
     if w[layout::IS_FIRST_RUN] == 0 {
-        return Constant::Unknown;
+        return 0;
     }
     let x = ident_at(w, i);
     find_constant(w, x)
 }
 
-// The value of a constant takes the place of the identifier at node i.
-pub fn inline_constant(w: &mut [u32], i: usize, p: u32, at: usize, m: usize) -> Next
-    requires { ⌜ (Planted (now w)) × (i < size (now w)) × (p ≤ 201) × (Held (now w) ofConstants at m) ⌝ }
-    ensures { λ r. ⌜ Goes (now (w .entry)) (now (w .exit)) r (constF p (valueFrom (now (w .entry)) ofConstants at m) i (abs (now (w .entry)))) ⌝ }
+// The constant, of m nodes, takes the place of the identifier at node i.
+pub fn inline_constant(w: &mut [u32], i: usize, p: u32, m: usize) -> Next
+    requires { ⌜ (Planted (now w)) × (i < size (now w)) × (nodeOf (now w) i .kind ≡ 21) × (0 < m) × (m ≡ countO (constantAt (abs (now w)) i)) × (m ≤ 512) ⌝ }
+    ensures { λ r. ⌜ Goes (now (w .entry)) (now (w .exit)) r (constF p (held (constantAt (abs (now (w .entry))) i)) i (abs (now (w .entry)))) ⌝ }
 {
-    match replace_at(w, i, p, layout::CONSTANT_VALUES, at, m) {
+    let x = ident_at(w, i);
+    match put_constant(w, i, p, x) {
         Step::Refused(n) => Next::Refused(n),
         Step::Done => landed(w, i + m, true),
     }

@@ -1,5 +1,5 @@
 -- A binding by its number, and a tree by its node. Assumes nothing.
-use mathlib.Core.Path.{_≡_, refl, sym, ap, _∙_}
+use mathlib.Core.Path.{_≡_, refl, sym, ap, _∙_, subst}
 use mathlib.Core.List.{List, [], _∷_, _++_}
 use mathlib.Core.Option.{Option, none, some}
 use Prim.Native.Nat.{ℕ, zero, suc, _+_, _-_, _≤_, _<_, min}
@@ -11,24 +11,30 @@ use lib.Dec.{ltb, eqb}
 use Rattle.tree.specs.Base.{pick}
 use Rattle.tree.specs.Tree.{Tree, Core}
 use Rattle.definition.specs.Scope as def
-use Rattle.definition.specs.Scope.{VarInfo, Stack, findIn, isParam, hasSameThis}
+use Rattle.definition.specs.Scope.{VarInfo, Stack, findIn, findConstant, isParam, hasSameThis}
+use Rattle.constants.specs.Consts.{Found}
+use Rattle.records.specs.declared.Constant.{Constant}
+use Rattle.records.specs.declared.Constant.the-variants as constant
 use Rattle.words.specs.Tab.{tab, length-tab, getD-tab, sum-part}
 use Rattle.words.specs.Layout.{tree, run}
 use Rattle.words.proofs.Nodes.{tree-length, run-length}
-use Rattle.definition.specs.Tree.{countO}
+use Rattle.definition.specs.Tree.{countO, height}
 use Rattle.tree.specs.Tree.{plant, firstT, count}
 use Rattle.scopes.specs.State.{Good, Head, Fits, split, heads, flags, binds, consts, stack, bindAt, indexIn, off, lenAt, runAt, valueOf, runOf, varTypeOf}
 use Rattle.scopes.proofs.Split.{noBind, tested}
 use Rattle.records.proofs.Count.{length-binds, fits-binds, nodes-bind}
 use Rattle.look.specs.Look.{atPlace, idxHere, idxAt, first}
 use Rattle.look.proofs.Facts.{placed, idx-find}
-use Rattle.nodes.specs.Nodes.{Planted, treeFrom, valueFrom}
-use Rattle.nodes.proofs.Splice.{subtree-value, subtree-one}
+use Rattle.nodes.specs.Nodes.{Planted, treeFrom, valueFrom, Swapped}
+use Rattle.nodes.specs.declared.Step.{Step}
+use Rattle.nodes.specs.declared.Step.the-variants.{Done, Refused}
+use Rattle.nodes.proofs.Trees.{count-some}
+use Rattle.nodes.proofs.Splice.{subtree-value, subtree-one, run-count}
 use Rattle.inits.proofs.Init.{run-none, none-one}
 use Rattle.declares.specs.declared.Init.{Init}
 use Rattle.declares.specs.declared.Init.the-variants.{NoInit, Recorded, Seen}
 use Rattle.inits.specs.Inits.{initFrom, Sited}
-use Rattle.scope.specs.Handles.{bindingsOf, numbered, treeO, initO, withIndex, indexed, ofBindings, Held, Sits, Runs}
+use Rattle.scope.specs.Handles.{bindingsOf, numbered, treeO, initO, withIndex, indexed, ofBindings, ofConstants, Held, Sits, Runs, held, Puts}
 
 no-elements : {A : Type 0} (xs : List A) → length xs ≡ 0 → xs ≡ []
 no-elements [] e = refl
@@ -123,8 +129,67 @@ module _ (w : List ℕ) (g : Good w) (k : ℕ) (h : k < getD w 1 0) where
   pub bound-sits : (at : ℕ) → at ≡ off w k → Sits w (bindAt w k .value) at
   bound-sits at p = record { is = λ z. bound-value at (countO (bindAt w k .value)) p bound-count z; held = λ z. bound-held at (countO (bindAt w k .value)) p bound-count z }
 
+  pub bound-inside : off w k + lenAt w k ≤ 512
+  bound-inside = omega (arith, sum-part (λ j. lenAt w j) k (getD w 1 0) h, g .vals)
+
+pub sits-at : {w : List ℕ} {v : Option Tree} {at m : ℕ} → Sits w v at → m ≡ countO v → (m ≡ 0 → ⊥) → (v ≡ some (valueFrom w ofBindings at m)) × Held w ofBindings at m
+sits-at {w} {v} {at} {m} s e n =
+    let z : 0 < countO v = omega (arith, some-of m n) in
+    subst (λ (k : ℕ). (v ≡ some (valueFrom w ofBindings at k)) × Held w ofBindings at k) (sym e) (s .is z, s .held z)
+  where
+    some-of : (m : ℕ) → (m ≡ 0 → ⊥) → 0 < m
+    some-of zero n = absurd (n refl)
+    some-of (suc m) n = omega arith
+
+-- the constant that was found
+module _ (w : List ℕ) (x : ℕ) where
+  pub const-unknown : {q : Constant} → q ≡ constant.Unknown → Found w x q → findConstant x (stack w) ≡ none
+  const-unknown e f = subst (λ (q : Constant). Found w x q) e f
+
+  pub const-at : {q : Constant} (at m : ℕ) → q ≡ constant.At at m → Found w x q → (findConstant x (stack w) ≡ some (valueFrom w ofConstants at m)) × Held w ofConstants at m
+  const-at at m e f =
+      let h = subst (λ (q : Constant). Found w x q) e f in
+      (h .0 ∙ value-some (run w 3088 at m) (omega (arith, run-length w 3088 at m, h .1)), record { some = h .1; inside = h .2; whole = h .3 })
+
+pub held-count : {w : List ℕ} {base at m : ℕ} → Held w base at m → count (valueFrom w base at m) ≡ m
+held-count {w} {base} {at} {m} h = run-count w base at m (h .some) (h .whole)
+
 pub none-sits : (w : List ℕ) (at : ℕ) → Sits w none at
 none-sits w at = record { is = λ z. absurd (omega arith); held = λ z. absurd (omega arith) }
+
+pub held-some : (o : Option Tree) → 0 < countO o → o ≡ some (held o)
+held-some none z = absurd (omega arith)
+held-some (some t) z = refl
+
+pub count-none : (o : Option Tree) → countO o ≡ 0 → o ≡ none
+count-none none z = refl
+count-none (some t) z = absurd (omega (arith, count-some t))
+
+-- a value in the place of a tree: none, and one that is too deep
+module _ (w : List ℕ) (p i : ℕ) where
+  pub puts-none : (o v : Option Tree) → v ≡ none → Puts Done w w p i o v
+  puts-none o v e = subst (λ (x : Option Tree). Puts Done w w p i o x) (sym e) (go o)
+    where
+      go : (o : Option Tree) → Puts Done w w p i o none
+      go none = (refl, refl)
+      go (some t) = (refl, refl)
+
+  pub puts-as : (r : Step) (u : List ℕ) (o v v′ : Option Tree) → v′ ≡ v → Puts r w u p i o v → Puts r w u p i o v′
+  puts-as r u o v v′ e h = subst (λ (x : Option Tree). Puts r w u p i o x) (sym e) h
+
+  module _ (e : Tree) where
+    pub puts-nowhere : treeO (tree w) i ≡ none → Puts Done w w p i (treeO (tree w) i) (some e)
+    puts-nowhere q = subst (λ (o : Option Tree). Puts Done w w p i o (some e)) (sym q) (refl, refl)
+
+    pub puts-at : (r : Step) (u : List ℕ) → i < getD w 0 0 → Swapped r w u p i e → Puts r w u p i (treeO (tree w) i) (some e)
+    puts-at r u h s = subst (λ (o : Option Tree). Puts r w u p i o (some e)) (sym (tree-in w i h)) s
+
+    pub puts-swapped : (r : Step) (u : List ℕ) (v : Option Tree) → i < getD w 0 0 → v ≡ some e → Puts r w u p i (treeO (tree w) i) v → Swapped r w u p i e
+    puts-swapped r u v h q s =
+        subst (λ (o : Option Tree). Puts r w u p i o (some e)) (tree-in w i h) (subst (λ (x : Option Tree). Puts r w u p i (treeO (tree w) i) x) q s)
+
+    pub too-deep : 201 < p → Swapped (Refused 8) w w p i e
+    too-deep h = (rw (lt-ltb 201 (p + height e) (omega arith)) refl, omega arith, refl)
 
 -- the nodes of a value that is given
 pub runs-none : (w : List ℕ) → Runs w none 0 0

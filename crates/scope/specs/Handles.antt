@@ -8,13 +8,15 @@ use Prim.Native.Nat.{ℕ, zero, suc, _+_, _≤_, _<_}
 use lib.Dec.{ltb}
 use lib.ListN.{length, getD, getElem?}
 use Rattle.tree.specs.Base.{pick}
-use Rattle.tree.specs.Tree.{Tree, Core}
+use Rattle.tree.specs.Tree.{Tree, node, nil, Core}
 use Rattle.definition.specs.Scope as def
 use Rattle.definition.specs.Scope.{VarInfo, Stack, valueO}
 use Rattle.definition.specs.Tree.{countO}
 use Rattle.words.specs.Layout.{tree, run}
 use Rattle.scopes.specs.State.{stack, valueOf, runOf, Whole}
-use Rattle.nodes.specs.Nodes.{treeFrom, valueFrom}
+use Rattle.nodes.specs.Nodes.{treeFrom, valueFrom, Swapped}
+use Rattle.nodes.specs.declared.Step.{Step}
+use Rattle.nodes.specs.declared.Step.the-variants.{Done}
 use Rattle.declares.specs.declared.Init.{Init}
 use Rattle.inits.specs.Inits.{initFrom}
 use Rattle.scope.specs.declared.Value.{Value}
@@ -82,3 +84,14 @@ pub record Runs (w : List ℕ) (v : Option Tree) (at m : ℕ) : Type 0 where
   pub inside : at + m ≤ getD w 0 0
   pub one : runOf (valueOf (run w 16 at m)) ≡ run w 16 at m
   pub is : valueOf (run w 16 at m) ≡ v
+
+-- the tree of a value that there is
+abbrev pub held : Option Tree → Tree
+held none = node 0 0 0 nil
+held (some t) = t
+
+-- a value in the place of the tree at a node, or a row refuses; nothing where there is no node, or no value
+abbrev pub Puts : Step → List ℕ → List ℕ → ℕ → ℕ → Option Tree → Option Tree → Type 0
+Puts r w u p i none v = (r ≡ Done) × (u ≡ w)
+Puts r w u p i (some t) none = (r ≡ Done) × (u ≡ w)
+Puts r w u p i (some t) (some e) = Swapped r w u p i e

@@ -2,29 +2,28 @@
 // state. A binding is held by its number, 0 for none; a number, a node or a value that the state has not is answered as none.
 ghost use mathlib.Core.Path.{_≡_};
 ghost use mathlib.Core.Bool.{true, false, _&&_, not};
-ghost use mathlib.Core.Option.{none};
+ghost use mathlib.Core.Option.{none, some};
 ghost use Prim.Native.Nat.{_-_, _≤_, _<_};
 ghost use mathlib.Core.List.{_∷_};
 ghost use lib.Dec.{leb};
 ghost use lib.ListN.{getD, length};
-ghost use Rattle.definition.specs.Scope.{newScope, declare, isVar, findBinding, findBindingFromCurrent, isParam, varInlinePrevented, valueO, preventedO, hasSameThis, addConst, change, defined, withValue};
+ghost use Rattle.definition.specs.Scope.{newScope, declare, isVar, findBinding, findBindingFromCurrent, isParam, varInlinePrevented, valueO, preventedO, hasSameThis, addConst, findConstant, change, defined, withValue};
 ghost use Rattle.definition.specs.Tree.{countO};
 ghost use Rattle.definition.specs.Walk.{declareM};
 ghost use Rattle.words.specs.Layout.{tree};
-ghost use Rattle.scopes.specs.State.{Good, stack, scopeKindOf};
+ghost use Rattle.scopes.specs.State.{Good, stack, scopeKindOf, nameOf};
 ghost use Rattle.records.specs.Steps.{Limited, Grown};
 ghost use Rattle.declares.specs.Kinds.{typeOf};
 ghost use Rattle.look.specs.Look.{kindO, idxHere};
-ghost use Rattle.nodes.specs.Nodes.{Planted, treeFrom, size};
+ghost use Rattle.nodes.specs.Nodes.{Planted, treeFrom, valueFrom, size};
 ghost use Rattle.state.specs.State.{rest};
 ghost use Rattle.inits.specs.Inits.{initFrom, Sited, hasNone};
-ghost use Rattle.scope.specs.Handles.{bindingsOf, numbered, indexed, ofBinding, treeO, initO, valueAt, Sits, Runs};
+ghost use Rattle.scope.specs.Handles.{bindingsOf, numbered, indexed, ofBinding, treeO, initO, valueAt, Held, Sits, Runs, Puts};
 ghost use Rattle.scope.specs.Steps.{named, doneOf, Moves};
 pub use bindings::Scope;
 pub use bindings::ScopeKind;
 pub use bindings::close;
 pub use bindings::open_scope;
-pub use constants::find_constant;
 pub use declares::Init;
 pub use declares::VarDeclKind;
 pub use declares::VarType;
@@ -40,7 +39,9 @@ pub use look::write_prevents_inline;
 pub use markers::mark::mark_this_sensitive;
 pub use markers::mark::prevent_inline_of_params;
 pub use markers::mark::store_inline_barrier;
+use nodes::replace_at;
 use nodes::skip;
+use records::Constant;
 use records::Step;
 pub use scopes::prevent_inline;
 pub use usages::add_read;
@@ -234,10 +235,22 @@ pub fn value_kind(w: &[u32], b: usize) -> u32
     0
 }
 
+// The identifier that it is, 256 if it is none.
+pub fn value_ident(w: &[u32], b: usize) -> u32
+    requires { ⌜ Good (now w) ⌝ }
+    ensures { λ r. ⌜ r ≡ nameOf (valueO (numbered (stack (now (w .entry))) b)) ⌝ }
+{
+    if known(w, b) {
+        let at = scopes::offset(w, b - 1);
+        return scopes::named(w, b - 1, at);
+    }
+    256
+}
+
 // How many nodes it has, 0 if there is none.
 pub fn value_len(w: &[u32], b: usize) -> usize
     requires { ⌜ Good (now w) ⌝ }
-    ensures { λ r. ⌜ r ≡ countO (valueO (numbered (stack (now (w .entry))) b)) ⌝ }
+    ensures { λ r. ⌜ (r ≡ countO (valueO (numbered (stack (now (w .entry))) b))) × (r ≤ 512) ⌝ }
 {
     if known(w, b) {
         return look::value_len(w, b - 1);
@@ -246,7 +259,7 @@ pub fn value_len(w: &[u32], b: usize) -> usize
 }
 
 // Where they stand among the values recorded for bindings.
-pub fn value_at(w: &[u32], b: usize) -> usize
+fn value_at(w: &[u32], b: usize) -> usize
     requires { ⌜ Good (now w) ⌝ }
     ensures { λ r. ⌜ Sits (now (w .entry)) (valueO (numbered (stack (now (w .entry))) b)) r ⌝ }
 {
@@ -254,6 +267,55 @@ pub fn value_at(w: &[u32], b: usize) -> usize
         return scopes::offset(w, b - 1);
     }
     0
+}
+
+// A recorded value, of m nodes of a store, takes the place of the tree at node i, at depth p, if rows 8 and 9 let it.
+fn put_held(w: &mut [u32], i: usize, p: u32, base: usize, at: usize, m: usize) -> nodes::Step
+    requires { ⌜ (Planted (now w)) × (2064 ≤ base) × (base ≤ 3088) × (Held (now w) base at m) ⌝ }
+    ensures { λ r. ⌜ Puts r (now (w .entry)) (now (w .exit)) p i (treeO (tree (now (w .entry))) i) (some (valueFrom (now (w .entry)) base at m)) ⌝ }
+{
+    if in_tree(w, i) {
+        if 201 < p {
+            return nodes::Step::Refused(8);
+        }
+        return replace_at(w, i, p, base, at, m);
+    }
+    nodes::Step::Done
+}
+
+// The value of binding b, if it has one, takes the place of the tree at node i, at depth p, if rows 8 and 9 let it.
+pub fn put_value(w: &mut [u32], i: usize, p: u32, b: usize) -> nodes::Step
+    requires { ⌜ Planted (now w) ⌝ }
+    ensures { λ r. ⌜ Puts r (now (w .entry)) (now (w .exit)) p i (treeO (tree (now (w .entry))) i) (valueO (numbered (stack (now (w .entry))) b)) ⌝ }
+{
+    let m = value_len(w, b);
+    if m == 0 {
+        return nodes::Step::Done;
+    }
+    let at = value_at(w, b);
+    put_held(w, i, p, layout::VALUES, at, m)
+}
+
+// How many nodes the value of the innermost constant of x that has one has, 0 if there is none.
+pub fn find_constant(w: &[u32], x: u8) -> usize
+    requires { ⌜ Good (now w) ⌝ }
+    ensures { λ r. ⌜ (r ≡ countO (findConstant x (stack (now (w .entry))))) × (r ≤ 512) ⌝ }
+{
+    match constants::find_constant(w, x) {
+        Constant::Unknown => 0,
+        Constant::At(_, m) => m,
+    }
+}
+
+// That value, if there is one, takes the place of the tree at node i, at depth p, if rows 8 and 9 let it.
+pub fn put_constant(w: &mut [u32], i: usize, p: u32, x: u8) -> nodes::Step
+    requires { ⌜ Planted (now w) ⌝ }
+    ensures { λ r. ⌜ Puts r (now (w .entry)) (now (w .exit)) p i (treeO (tree (now (w .entry))) i) (findConstant x (stack (now (w .entry)))) ⌝ }
+{
+    match constants::find_constant(w, x) {
+        Constant::Unknown => nodes::Step::Done,
+        Constant::At(at, m) => put_held(w, i, p, layout::CONSTANT_VALUES, at, m),
+    }
 }
 
 // The nodes of a value.

@@ -30,7 +30,6 @@ use ident_steps::inline_value;
 use ident_steps::leave;
 use look::ident_at;
 use nodes::skip;
-use records::Constant;
 use state::set_conds;
 use state::set_in_test;
 use state::set_inlining;
@@ -788,30 +787,27 @@ fn ident(w: &mut [u32], p: usize, d: usize, i: usize) -> usize
     requires { ⌜ (Here (now w) 1 i p (d + 1)) × (nodeOf (now w) i .kind ≡ 21) ⌝ }
     ensures { λ r. ⌜ Did (now (w .entry)) (now (w .exit)) (nextOf r) (afterIdentF (walksF d) p i (abs (now (w .entry)))) ⌝ }
 {
-    match constant(w, i) {
-        Constant::At(at, m) => {
-            let r = inline_constant(w, i, p as u32, at, m);
+    let m = constant(w, i);
+    if 0 < m {
+        let r = inline_constant(w, i, p as u32, m);
+        let Next::At(_) = r else {
+            return coded(r);
+        };
+        return full(w, p, d, i);
+    }
+    if w[layout::INLINING] == 0 {
+        ident_analysis(w, i);
+        return skip(w, i);
+    }
+    match fate(w, i) {
+        Found::Nothing => skip(w, i),
+        Found::Void => coded(inline_undefined(w, i, p as u32)),
+        Found::Value(b) => {
+            let r = inline_value(w, i, p as u32, b);
             let Next::At(_) = r else {
                 return coded(r);
             };
-            full(w, p, d, i)
-        }
-        Constant::Unknown => {
-            if w[layout::INLINING] == 0 {
-                ident_analysis(w, i);
-                return skip(w, i);
-            }
-            match fate(w, i) {
-                Found::Nothing => skip(w, i),
-                Found::Void => coded(inline_undefined(w, i, p as u32)),
-                Found::Value(at, m) => {
-                    let r = inline_value(w, i, p as u32, at, m);
-                    let Next::At(_) = r else {
-                        return coded(r);
-                    };
-                    logic(w, p, d, i)
-                }
-            }
+            logic(w, p, d, i)
         }
     }
 }

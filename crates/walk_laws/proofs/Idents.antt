@@ -1,37 +1,34 @@
 -- An identifier's steps: a constant, a value, `void 0`, or nothing. Assumes nothing.
-use mathlib.Core.Path.{_≡_, refl, sym, ap, _∙_, subst}
+use mathlib.Core.Path.{_≡_, refl, sym, ap, subst}
 use mathlib.Core.Bool.{Bool, true, false, not}
 use mathlib.Core.List.{List}
 use mathlib.Core.Option.{Option, none, some}
-use Prim.Native.Nat.{ℕ, suc, _+_, _≤_, _<_}
+use Prim.Native.Nat.{ℕ, _+_, _≤_, _<_}
 use native.Mathlib.Omega.{arith}
 use lib.Dec.{eqb}
 use lib.ListN.{getD}
 use Rattle.tree.specs.Base.{pick}
 use Rattle.tree.specs.Tree.{Tree, Core, form, num}
-use Rattle.tree.specs.Combine.{Res, stop, done, M, Nothing, andThen, carry, treeAt, iff, Flat, nodeAt, Walk, onRest, act, put, skip}
-use Rattle.tree.proofs.Sims.{Sim, sim-act, sim-put}
-use Rattle.words.specs.Layout.{tree, nodeOf}
-use Rattle.definition.specs.Tree.{voidZero}
+use Rattle.tree.specs.Combine.{Res, stop, done, Nothing, andThen, carry, treeAt, iff, Flat, nodeAt, act, put, skip}
+use Rattle.tree.proofs.Sims.{sim-act, sim-put}
+use Rattle.words.specs.Layout.{tree}
+use Rattle.definition.specs.Tree.{voidZero, countO}
 use Rattle.definition.specs.Scope.{VarInfo, varInlinePrevented, findBinding, addRead}
 use Rattle.definition.specs.Walk.{St, modify, mark, when, setChanged, sameIdent, replace}
-use Rattle.nodes.specs.Nodes.{Planted, valueFrom}
 use Rattle.shape.specs.Shape.{Room}
-use Rattle.state.specs.State.{rest, abs, Ok, Acts, Act}
-use Rattle.flat.specs.WalkF.{WalksF, testRead, inlineValueF, foundF, identInliningF, identAnalysisF, byConstF, afterIdentF}
+use Rattle.state.specs.State.{rest, abs, Acts, Act}
+use Rattle.flat.specs.WalkF.{WalksF, testRead, inlineValueF, foundF, identInliningF, identAnalysisF, afterIdentF}
 use Rattle.ident_steps.specs.declared.Next.{Next}
-use Rattle.ident_steps.specs.declared.Next.the-variants.{At, Refused}
+use Rattle.ident_steps.specs.declared.Next.the-variants.{At}
 use Rattle.ident_steps.specs.Steps as steps
-use Rattle.scope.specs.Handles.{Held}
-use Rattle.records.specs.declared.Constant.{Constant}
-use Rattle.records.specs.declared.Constant.the-variants as constant
+use Rattle.scope.specs.Handles.{held}
+use Rattle.scope.proofs.Numbers.{held-some, count-none}
 use Rattle.ident_steps.specs.declared.Found.{Found}
 use Rattle.ident_steps.specs.declared.Found.the-variants as found
 use Rattle.ident_steps.specs.Steps.{analysisF, Goes, Fate, stays, undefined, inlined, fateBy, fateOf, fateAt, constF, valueF, swapF}
 use Rattle.walk_laws.specs.Did.{Lands, Did, Here}
-use Rattle.walk_laws.proofs.Laws.{did-then, did-stop}
 use Rattle.walk_laws.proofs.Heres.{here-still}
-use Rattle.walk_laws.proofs.Ways.{did-to, iff-yes, iff-no, in-inlining, in-analysis, ident-by}
+use Rattle.walk_laws.proofs.Ways.{iff-yes, iff-no, in-inlining, in-analysis, ident-by}
 
 -- a step's answer as a walk's
 pub goes-did : {w u : List ℕ} {a : Next} {r : Res (Flat St) ℕ} → Goes w u a r → Did w u a r
@@ -109,11 +106,11 @@ module _ (v : WalksF) (p i : ℕ) {w u : List ℕ} {a : Next} where
 
 -- what the steps answered
 module _ (w : List ℕ) (i : ℕ) where
-  pub named-at : {c : Constant} (at m : ℕ) → c ≡ constant.At at m → steps.Named w i c → (steps.constantAt (abs w) i ≡ some (valueFrom w 3088 at m)) × Held w 3088 at m
-  named-at at m e n = subst (λ (c : Constant). steps.Named w i c) e n
+  pub const-some : (m : ℕ) → m ≡ countO (steps.constantAt (abs w) i) → 0 < m → steps.constantAt (abs w) i ≡ some (held (steps.constantAt (abs w) i))
+  const-some m e z = held-some (steps.constantAt (abs w) i) (omega (arith, e))
 
-  pub named-unknown : {c : Constant} → c ≡ constant.Unknown → steps.Named w i c → steps.constantAt (abs w) i ≡ none
-  named-unknown e n = subst (λ (c : Constant). steps.Named w i c) e n
+  pub const-none : (m : ℕ) → m ≡ countO (steps.constantAt (abs w) i) → m ≤ 0 → steps.constantAt (abs w) i ≡ none
+  const-none m e z = count-none (steps.constantAt (abs w) i) (omega (arith, e))
 
   pub fated-nothing : {c : Found} → c ≡ found.Nothing → steps.Fated w i c → fateAt (abs w) i ≡ stays
   fated-nothing e n = subst (λ (c : Found). steps.Fated w i c) e n
@@ -121,8 +118,8 @@ module _ (w : List ℕ) (i : ℕ) where
   pub fated-void : {c : Found} → c ≡ found.Void → steps.Fated w i c → fateAt (abs w) i ≡ undefined
   fated-void e n = subst (λ (c : Found). steps.Fated w i c) e n
 
-  pub fated-value : {c : Found} (at m : ℕ) → c ≡ found.Value at m → steps.Fated w i c → (fateAt (abs w) i ≡ inlined (valueFrom w 2064 at m)) × Held w 2064 at m
-  fated-value at m e n = subst (λ (c : Found). steps.Fated w i c) e n
+  pub fated-value : {c : Found} (b : ℕ) → c ≡ found.Value b → steps.Fated w i c → (fateAt (abs w) i ≡ inlined (steps.valueBy w b)) × steps.Has w b
+  fated-value b e n = subst (λ (c : Found). steps.Fated w i c) e n
 
 -- Analysis leaves the nodes
 pub here-analysis : {w u : List ℕ} {i p d : ℕ} → Here w 1 i p d → Act w u 0 (analysisF i (abs w)) → Here u 1 i p d

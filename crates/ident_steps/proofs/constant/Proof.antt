@@ -1,5 +1,7 @@
--- In a later run there is none. Assumes nothing.
+use mathlib.Core.Path.{sym, ap, _∙_}
+use native.Mathlib.Omega.{arith}
 use mathlib.Core.Logic.{inr}
+use Rattle.definition.specs.Tree.{countO}
 use Rattle.ident_steps.proofs.Fates as fates
 use borrow.Author.Needs.{needs}
 use Rattle.ident_steps.proofs.constant.Statement.{statement}
@@ -11,8 +13,7 @@ shared-slice-read-if1 c = search needs
 returns : tie.Need-returns
 returns c =
     let at-entry = c .before .before .before in
-    let w = at-entry .args .w .now in
-    fates.const-later w (at-entry .args .i) (c .if1 .taken)
+    (sym (ap countO (fates.const-later (at-entry .args .w .now) (at-entry .args .i) (c .if1 .taken))), omega arith)
 
 ident-at-requires : tie.Need-ident-at-requires
 ident-at-requires c κs =
@@ -29,9 +30,7 @@ returns-2 c =
     let at-ident-at = c .before in
     let at-if1 = at-ident-at .before in
     let at-entry = at-if1 .before .before .before in
-    let w = at-entry .args .w .now in
-    let x = at-ident-at .ident-at .result in
-    fates.named w (at-entry .args .i) x (c .find-constant .result) (fates.const-at w (at-entry .args .i) x (at-entry .pre .1) (at-ident-at .ident-at .ensures) (at-if1 .if1 .left)) (c .find-constant .ensures)
+    (c .find-constant .ensures .0 ∙ sym (ap countO (fates.const-at (at-entry .args .w .now) (at-entry .args .i) (at-ident-at .ident-at .result) (at-entry .pre .1) (at-ident-at .ident-at .ensures) (at-if1 .if1 .left))), c .find-constant .ensures .1)
 
 pub constant-spec : {M : Type 1} → statement M
 constant-spec =

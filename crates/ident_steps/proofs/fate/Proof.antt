@@ -1,17 +1,12 @@
-use mathlib.Core.Path.{_≡_, refl, sym, ap, _∙_}
+use mathlib.Core.Path.{refl, sym, ap, _∙_}
 use native.Mathlib.Omega.{arith}
-use Prim.Native.Nat.{_<_}
 use mathlib.Core.Logic.{inr}
 use mathlib.Core.Option.{none}
-use Rattle.definition.specs.Tree.{countO}
 use Rattle.definition.specs.Scope.{valueO}
 use Rattle.scopes.specs.State.{stack}
-use Rattle.nodes.specs.Nodes.{valueFrom}
-use Rattle.state.specs.State.{abs}
-use Rattle.scope.specs.Handles.{numbered, Held}
-use Rattle.ident_steps.specs.Steps.{fateAt, inlined}
+use Rattle.scope.specs.Handles.{numbered, held}
+use Rattle.scope.proofs.Numbers as numbers
 use Rattle.ident_steps.proofs.Fates as fates
-use borrow.Author.Needs.{needs}
 use Rattle.ident_steps.proofs.fate.Statement.{statement}
 use Rattle.ident_steps.proofs.fate.Tie as tie
 
@@ -30,8 +25,7 @@ returns c =
     let at-find-binding = c .before in
     let at-ident-at = at-find-binding .before in
     let at-entry = at-ident-at .before .before in
-    let w = at-entry .args .w .now in
-    fates.fate-at w (at-entry .args .i) (at-ident-at .ident-at .result) (at-entry .pre .1) (at-ident-at .ident-at .ensures) none (at-find-binding .find-binding .ensures .0 ∙ ap (numbered (stack w)) (c .if1 .taken))
+    fates.fate-at (at-entry .args .w .now) (at-entry .args .i) (at-ident-at .ident-at .result) (at-entry .pre .1) (at-ident-at .ident-at .ensures) none (at-find-binding .find-binding .ensures .0 ∙ ap (numbered (stack (at-entry .args .w .now))) (c .if1 .taken))
 
 var-inline-prevented-requires : tie.Need-var-inline-prevented-requires
 var-inline-prevented-requires c κs =
@@ -44,42 +38,22 @@ returns-2 c =
     let at-find-binding = at-var-inline-prevented .before .before in
     let at-ident-at = at-find-binding .before in
     let at-entry = at-ident-at .before .before in
-    let w = at-entry .args .w .now in
-    let x = at-ident-at .ident-at .result in
-    let o = numbered (stack w) (at-find-binding .find-binding .result) in
-    let q = fates.fate-at w (at-entry .args .i) x (at-entry .pre .1) (at-ident-at .ident-at .ensures) o (at-find-binding .find-binding .ensures .0) in
-    q ∙ fates.fate-prevented o (sym (at-var-inline-prevented .var-inline-prevented .ensures) ∙ c .if2 .taken)
+    fates.fate-at (at-entry .args .w .now) (at-entry .args .i) (at-ident-at .ident-at .result) (at-entry .pre .1) (at-ident-at .ident-at .ensures) (numbered (stack (at-entry .args .w .now)) (at-find-binding .find-binding .result)) (at-find-binding .find-binding .ensures .0) ∙ fates.fate-prevented (numbered (stack (at-entry .args .w .now)) (at-find-binding .find-binding .result)) (sym (at-var-inline-prevented .var-inline-prevented .ensures) ∙ c .if2 .taken)
 
 value-len-requires : tie.Need-value-len-requires
 value-len-requires c κs =
     let at-entry = c .before .before .before .before .before .before in
     at-entry .pre .0 .good
 
-value-at-requires : tie.Need-value-at-requires
-value-at-requires c κs =
-    let at-entry = c .before .before .before .before .before .before .before .before in
-    at-entry .pre .0 .good
-
 returns-3 : tie.Need-returns-3
 returns-3 c =
-    let at-if3 = c .before in
-    let at-value-len = at-if3 .before in
+    let at-value-len = c .before in
     let at-if2 = at-value-len .before in
     let at-var-inline-prevented = at-if2 .before in
     let at-find-binding = at-var-inline-prevented .before .before in
     let at-ident-at = at-find-binding .before in
     let at-entry = at-ident-at .before .before in
-    let w = at-entry .args .w .now in
-    let x = at-ident-at .ident-at .result in
-    let o = numbered (stack w) (at-find-binding .find-binding .result) in
-    let q = fates.fate-at w (at-entry .args .i) x (at-entry .pre .1) (at-ident-at .ident-at .ensures) o (at-find-binding .find-binding .ensures .0) in
-    let v = valueO o in
-    let z : 0 < countO v = omega (arith, at-value-len .value-len .ensures, at-if3 .if3 .taken) in
-    let n = sym (at-var-inline-prevented .var-inline-prevented .ensures) ∙ at-if2 .if2 .left in
-    let m = at-value-len .value-len .result in
-    let at = c .value-at .result in
-    let r : (fateAt (abs w) (at-entry .args .i) ≡ inlined (valueFrom w 2064 at (countO v))) × Held w 2064 at (countO v) = (q ∙ fates.fate-value o n (valueFrom w 2064 at (countO v)) (c .value-at .ensures .is z), c .value-at .ensures .held z) in
-    rw (at-value-len .value-len .ensures) r
+    (fates.fate-at (at-entry .args .w .now) (at-entry .args .i) (at-ident-at .ident-at .result) (at-entry .pre .1) (at-ident-at .ident-at .ensures) (numbered (stack (at-entry .args .w .now)) (at-find-binding .find-binding .result)) (at-find-binding .find-binding .ensures .0) ∙ fates.fate-value (numbered (stack (at-entry .args .w .now)) (at-find-binding .find-binding .result)) (sym (at-var-inline-prevented .var-inline-prevented .ensures) ∙ at-if2 .if2 .left) (held (valueO (numbered (stack (at-entry .args .w .now)) (at-find-binding .find-binding .result)))) (numbers.held-some (valueO (numbered (stack (at-entry .args .w .now)) (at-find-binding .find-binding .result))) (omega (arith, at-value-len .value-len .ensures .0, c .if3 .taken))), (numbers.held-some (valueO (numbered (stack (at-entry .args .w .now)) (at-find-binding .find-binding .result))) (omega (arith, at-value-len .value-len .ensures .0, c .if3 .taken))))
 
 is-undefined-requires : tie.Need-is-undefined-requires
 is-undefined-requires c κs =
@@ -96,13 +70,7 @@ returns-4 c =
     let at-find-binding = at-var-inline-prevented .before .before in
     let at-ident-at = at-find-binding .before in
     let at-entry = at-ident-at .before .before in
-    let w = at-entry .args .w .now in
-    let x = at-ident-at .ident-at .result in
-    let o = numbered (stack w) (at-find-binding .find-binding .result) in
-    let q = fates.fate-at w (at-entry .args .i) x (at-entry .pre .1) (at-ident-at .ident-at .ensures) o (at-find-binding .find-binding .ensures .0) in
-    let z : countO (valueO o) ≡ 0 = sym (at-value-len .value-len .ensures) ∙ omega (arith, at-if3 .if3 .left) in
-    let n = sym (at-var-inline-prevented .var-inline-prevented .ensures) ∙ at-if2 .if2 .left in
-    q ∙ fates.fate-none o n z ∙ rw (sym (at-is-undefined .is-undefined .ensures) ∙ c .if4 .taken) refl
+    fates.fate-at (at-entry .args .w .now) (at-entry .args .i) (at-ident-at .ident-at .result) (at-entry .pre .1) (at-ident-at .ident-at .ensures) (numbered (stack (at-entry .args .w .now)) (at-find-binding .find-binding .result)) (at-find-binding .find-binding .ensures .0) ∙ fates.fate-none (numbered (stack (at-entry .args .w .now)) (at-find-binding .find-binding .result)) (sym (at-var-inline-prevented .var-inline-prevented .ensures) ∙ at-if2 .if2 .left) (sym (at-value-len .value-len .ensures .0) ∙ omega (arith, at-if3 .if3 .left)) ∙ rw (sym (at-is-undefined .is-undefined .ensures) ∙ c .if4 .taken) refl
 
 returns-5 : tie.Need-returns-5
 returns-5 c =
@@ -114,13 +82,7 @@ returns-5 c =
     let at-find-binding = at-var-inline-prevented .before .before in
     let at-ident-at = at-find-binding .before in
     let at-entry = at-ident-at .before .before in
-    let w = at-entry .args .w .now in
-    let x = at-ident-at .ident-at .result in
-    let o = numbered (stack w) (at-find-binding .find-binding .result) in
-    let q = fates.fate-at w (at-entry .args .i) x (at-entry .pre .1) (at-ident-at .ident-at .ensures) o (at-find-binding .find-binding .ensures .0) in
-    let z : countO (valueO o) ≡ 0 = sym (at-value-len .value-len .ensures) ∙ omega (arith, at-if3 .if3 .left) in
-    let n = sym (at-var-inline-prevented .var-inline-prevented .ensures) ∙ at-if2 .if2 .left in
-    q ∙ fates.fate-none o n z ∙ rw (sym (at-is-undefined .is-undefined .ensures) ∙ c .if4 .left) refl
+    fates.fate-at (at-entry .args .w .now) (at-entry .args .i) (at-ident-at .ident-at .result) (at-entry .pre .1) (at-ident-at .ident-at .ensures) (numbered (stack (at-entry .args .w .now)) (at-find-binding .find-binding .result)) (at-find-binding .find-binding .ensures .0) ∙ fates.fate-none (numbered (stack (at-entry .args .w .now)) (at-find-binding .find-binding .result)) (sym (at-var-inline-prevented .var-inline-prevented .ensures) ∙ at-if2 .if2 .left) (sym (at-value-len .value-len .ensures .0) ∙ omega (arith, at-if3 .if3 .left)) ∙ rw (sym (at-is-undefined .is-undefined .ensures) ∙ c .if4 .left) refl
 
 pub fate-spec : {M : Type 1} → statement M
 fate-spec =
@@ -132,7 +94,6 @@ fate-spec =
     var-inline-prevented-requires
     returns-2
     value-len-requires
-    value-at-requires
     returns-3
     is-undefined-requires
     returns-4

@@ -1,20 +1,30 @@
--- The replacement, and then the mark, which is the same. Assumes nothing.
-use mathlib.Core.Path.{refl, sym, ap}
+use mathlib.Core.Path.{refl, ap, _∙_}
 use native.Mathlib.Omega.{arith}
-use Prim.Native.Nat.{ℕ, _+_, _-_}
 use Rattle.ident_steps.proofs.Laws as laws
-use Rattle.tree.specs.Tree.{Tree}
-use Rattle.nodes.specs.Nodes.{valueFrom}
-use Rattle.nodes.proofs.Splice.{run-count}
+use Rattle.ident_steps.proofs.Fates as fates
+use Rattle.scope.proofs.Numbers as numbers
+use Rattle.scope.specs.Handles.{held}
+use Rattle.definition.specs.Tree.{countO}
+use Prim.Native.Nat.{ℕ, _+_, _-_}
+use Rattle.scopes.specs.State.{stack}
+use mathlib.Core.Logic.{inr}
 use mathlib.Core.Bool.{true}
+use Rattle.definition.specs.Scope.{findConstant}
+use Rattle.state.specs.State.{abs}
+use Rattle.ident_steps.specs.Steps.{constantAt}
 use borrow.Author.Needs.{needs}
 use Rattle.ident_steps.proofs.inline_constant.Statement.{statement}
 use Rattle.ident_steps.proofs.inline_constant.Tie as tie
 
-replace-at-requires : tie.Need-replace-at-requires
-replace-at-requires c κs =
+ident-at-requires : tie.Need-ident-at-requires
+ident-at-requires c κs =
     let at-entry = c .before .before in
-    (at-entry .pre .0, at-entry .pre .1, at-entry .pre .2, omega arith, omega (arith, at-entry .pre .0 .good .long, at-entry .pre .3 .inside), at-entry .pre .3 .some, at-entry .pre .3 .whole)
+    (at-entry .pre .0 .good, at-entry .pre .1, inr (at-entry .pre .2))
+
+put-constant-requires : tie.Need-put-constant-requires
+put-constant-requires c κs =
+    let at-entry = c .before .before .before .before in
+    at-entry .pre .0
 
 enum-known-n : tie.Need-enum-known-n
 enum-known-n c = search needs
@@ -24,14 +34,16 @@ enum-told c = search needs
 
 add-landed : tie.Need-add-landed
 add-landed c =
-    let at-entry = c .before .before .before .before .before .before .before .before in
-    omega (arith, at-entry .pre .0 .good .nodes, at-entry .pre .1, at-entry .pre .3 .inside)
+    let at-entry = c .before .before .before .before .before .before .before .before .before .before in
+    omega (arith, at-entry .pre .0 .good .nodes, at-entry .pre .1, at-entry .pre .5)
 
 landed-requires : tie.Need-landed-requires
 landed-requires c κs =
     let at-enum-told = c .before in
-    let at-replace-at = at-enum-told .before .before .before .before in
-    let h = rw (at-enum-told .enum-told .given .1) at (at-replace-at .replace-at .ensures) in h .1 .planted
+    let at-put-constant = at-enum-told .before .before .before .before in
+    let at-ident-at = at-put-constant .before .before in
+    let at-entry = at-ident-at .before .before .before in
+    (rw (at-enum-told .enum-told .given .1) at (numbers.puts-swapped (at-entry .args .w .now) (at-entry .args .p) (at-entry .args .i) (held (constantAt (abs (at-entry .args .w .now)) (at-entry .args .i))) (at-put-constant .put-constant .result) _ (findConstant (at-ident-at .ident-at .result) (stack (at-entry .args .w .now))) (at-entry .pre .1) (fates.const-now (at-entry .args .w .now) (at-entry .args .i) (at-ident-at .ident-at .result) (at-entry .pre .1) (at-ident-at .ident-at .ensures) (omega (arith, at-entry .pre .3, at-entry .pre .4))) (at-put-constant .put-constant .ensures))) .1 .planted
 
 same-length : tie.Need-same-length
 same-length c = search needs
@@ -39,13 +51,10 @@ same-length c = search needs
 returns : tie.Need-returns
 returns c =
     let at-n = c .before in
-    let at-replace-at = at-n .before .before .before .before in
-    let at-entry = at-replace-at .before .before .before in
-    let w = at-entry .args .w .now in
-    let a = at-entry .args in
-    let e : Tree = valueFrom w 3088 (a .at) (a .m) in
-    let k = at-entry .pre .3 in
-    laws.goes-stop w _ (at-entry .args .p) (at-entry .args .i) e (at-entry .pre .0) (at-entry .pre .1) true refl (rw (at-n .n .given .1) at (at-replace-at .replace-at .ensures))
+    let at-put-constant = at-n .before .before .before .before in
+    let at-ident-at = at-put-constant .before .before in
+    let at-entry = at-ident-at .before .before .before in
+    laws.goes-stop (at-entry .args .w .now) _ (at-entry .args .p) (at-entry .args .i) (held (constantAt (abs (at-entry .args .w .now)) (at-entry .args .i))) (at-entry .pre .0) (at-entry .pre .1) true refl (rw (at-n .n .given .1) at (numbers.puts-swapped (at-entry .args .w .now) (at-entry .args .p) (at-entry .args .i) (held (constantAt (abs (at-entry .args .w .now)) (at-entry .args .i))) (at-put-constant .put-constant .result) _ (findConstant (at-ident-at .ident-at .result) (stack (at-entry .args .w .now))) (at-entry .pre .1) (fates.const-now (at-entry .args .w .now) (at-entry .args .i) (at-ident-at .ident-at .result) (at-entry .pre .1) (at-ident-at .ident-at .ensures) (omega (arith, at-entry .pre .3, at-entry .pre .4))) (at-put-constant .put-constant .ensures)))
 
 same-length-2 : tie.Need-same-length-2
 same-length-2 c = search needs
@@ -54,19 +63,17 @@ returns-2 : tie.Need-returns-2
 returns-2 c =
     let at-landed = c .before .before in
     let at-enum-told = at-landed .before .before in
-    let at-replace-at = at-enum-told .before .before .before .before in
-    let at-entry = at-replace-at .before .before .before in
-    let w = at-entry .args .w .now in
-    let a = at-entry .args in
-    let e : Tree = valueFrom w 3088 (a .at) (a .m) in
-    let k = at-entry .pre .3 in
-    laws.goes-on w _ (at-entry .args .p) (at-entry .args .i) e (at-entry .pre .0) (at-entry .pre .1) true refl (rw (at-enum-told .enum-told .given .1) at (at-replace-at .replace-at .ensures)) (at-landed .landed .ensures) (ap (λ (n : ℕ). a .i + n) (sym (run-count w 3088 (a .at) (a .m) (k .some) (k .whole))))
+    let at-put-constant = at-enum-told .before .before .before .before in
+    let at-ident-at = at-put-constant .before .before in
+    let at-entry = at-ident-at .before .before .before in
+    laws.goes-on (at-entry .args .w .now) _ (at-entry .args .p) (at-entry .args .i) (held (constantAt (abs (at-entry .args .w .now)) (at-entry .args .i))) (at-entry .pre .0) (at-entry .pre .1) true refl (rw (at-enum-told .enum-told .given .1) at (numbers.puts-swapped (at-entry .args .w .now) (at-entry .args .p) (at-entry .args .i) (held (constantAt (abs (at-entry .args .w .now)) (at-entry .args .i))) (at-put-constant .put-constant .result) _ (findConstant (at-ident-at .ident-at .result) (stack (at-entry .args .w .now))) (at-entry .pre .1) (fates.const-now (at-entry .args .w .now) (at-entry .args .i) (at-ident-at .ident-at .result) (at-entry .pre .1) (at-ident-at .ident-at .ensures) (omega (arith, at-entry .pre .3, at-entry .pre .4))) (at-put-constant .put-constant .ensures))) (at-landed .landed .ensures) (ap (λ (n : ℕ). (at-entry .args .i) + n) (at-entry .pre .4 ∙ ap countO (numbers.held-some (constantAt (abs (at-entry .args .w .now)) (at-entry .args .i)) (omega (arith, at-entry .pre .3, at-entry .pre .4)))))
 
 pub inline-constant-spec : {M : Type 1} → statement M
 inline-constant-spec =
     tie.close
     (tie.spec
-    replace-at-requires
+    ident-at-requires
+    put-constant-requires
     enum-known-n
     enum-told
     add-landed

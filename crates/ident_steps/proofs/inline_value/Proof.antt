@@ -1,13 +1,14 @@
--- The replacement, and then the mark, which is the same. Assumes nothing.
-use mathlib.Core.Path.{sym, ap, _∙_}
+use mathlib.Core.Path.{ap, _∙_}
 use native.Mathlib.Omega.{arith}
-use Prim.Native.Nat.{ℕ, _+_, _-_}
 use Rattle.ident_steps.proofs.Laws as laws
-use Rattle.ident_steps.proofs.Fates as fates
-use Rattle.tree.specs.Tree.{Tree}
-use Rattle.nodes.specs.Nodes.{valueFrom}
-use Rattle.nodes.proofs.Splice.{run-count}
+use Rattle.scope.proofs.Numbers as numbers
+use Rattle.scope.specs.Handles.{numbered}
+use Rattle.definition.specs.Tree.{countO}
+use Prim.Native.Nat.{ℕ, _+_, _-_}
+use Rattle.scopes.specs.State.{stack}
 use mathlib.Core.Bool.{not}
+use Rattle.definition.specs.Scope.{valueO}
+use Rattle.ident_steps.specs.Steps.{valueBy}
 use borrow.Author.Needs.{needs}
 use Rattle.ident_steps.proofs.inline_value.Statement.{statement}
 use Rattle.ident_steps.proofs.inline_value.Tie as tie
@@ -15,12 +16,17 @@ use Rattle.ident_steps.proofs.inline_value.Tie as tie
 same-ident-requires : tie.Need-same-ident-requires
 same-ident-requires c κs =
     let at-entry = c .before .before in
-    (at-entry .pre .0, at-entry .pre .1, omega (arith, at-entry .pre .3 .some, at-entry .pre .3 .inside))
+    at-entry .pre
 
-replace-at-requires : tie.Need-replace-at-requires
-replace-at-requires c κs =
+value-len-requires : tie.Need-value-len-requires
+value-len-requires c κs =
     let at-entry = c .before .before .before .before in
-    (at-entry .pre .0, at-entry .pre .1, at-entry .pre .2, omega arith, omega (arith, at-entry .pre .0 .good .long, at-entry .pre .3 .inside), at-entry .pre .3 .some, at-entry .pre .3 .whole)
+    at-entry .pre .0 .good
+
+put-value-requires : tie.Need-put-value-requires
+put-value-requires c κs =
+    let at-entry = c .before .before .before .before .before .before in
+    at-entry .pre .0
 
 enum-known-n : tie.Need-enum-known-n
 enum-known-n c = search needs
@@ -30,14 +36,16 @@ enum-told c = search needs
 
 add-landed : tie.Need-add-landed
 add-landed c =
-    let at-entry = c .before .before .before .before .before .before .before .before .before .before in
-    omega (arith, at-entry .pre .0 .good .nodes, at-entry .pre .1, at-entry .pre .3 .inside)
+    let at-value-len = c .before .before .before .before .before .before .before in
+    let at-entry = at-value-len .before .before .before .before .before in
+    omega (arith, at-entry .pre .0 .good .nodes, at-entry .pre .1, at-value-len .value-len .ensures .1)
 
 landed-requires : tie.Need-landed-requires
 landed-requires c κs =
     let at-enum-told = c .before in
-    let at-replace-at = at-enum-told .before .before .before .before in
-    let h = rw (at-enum-told .enum-told .given .1) at (at-replace-at .replace-at .ensures) in h .1 .planted
+    let at-put-value = at-enum-told .before .before .before .before in
+    let at-entry = at-put-value .before .before .before .before .before .before .before in
+    (rw (at-enum-told .enum-told .given .1) at (numbers.puts-swapped (at-entry .args .w .now) (at-entry .args .p) (at-entry .args .i) (valueBy (at-entry .args .w .now) (at-entry .args .b)) (at-put-value .put-value .result) _ (valueO (numbered (stack (at-entry .args .w .now)) (at-entry .args .b))) (at-entry .pre .1) (at-entry .pre .3) (at-put-value .put-value .ensures))) .1 .planted
 
 same-length : tie.Need-same-length
 same-length c = search needs
@@ -45,15 +53,10 @@ same-length c = search needs
 returns : tie.Need-returns
 returns c =
     let at-n = c .before in
-    let at-replace-at = at-n .before .before .before .before in
-    let at-same-ident = at-replace-at .before .before in
+    let at-put-value = at-n .before .before .before .before in
+    let at-same-ident = at-put-value .before .before .before .before in
     let at-entry = at-same-ident .before .before .before in
-    let w = at-entry .args .w .now in
-    let a = at-entry .args in
-    let e : Tree = valueFrom w 2064 (a .at) (a .m) in
-    let k = at-entry .pre .3 in
-    let q = laws.value-is w (a .p) (a .i) e (at-same-ident .same-ident .result) (at-same-ident .same-ident .ensures ∙ sym (fates.same-is w (a .i) (at-entry .pre .1) (a .at) (a .m) (k .some))) in
-    laws.goes-stop w _ (at-entry .args .p) (at-entry .args .i) e (at-entry .pre .0) (at-entry .pre .1) (not (at-same-ident .same-ident .result)) q (rw (at-n .n .given .1) at (at-replace-at .replace-at .ensures))
+    laws.goes-stop (at-entry .args .w .now) _ (at-entry .args .p) (at-entry .args .i) (valueBy (at-entry .args .w .now) (at-entry .args .b)) (at-entry .pre .0) (at-entry .pre .1) (not (at-same-ident .same-ident .result)) (laws.value-is (at-entry .args .w .now) (at-entry .args .p) (at-entry .args .i) (valueBy (at-entry .args .w .now) (at-entry .args .b)) (at-same-ident .same-ident .result) (at-same-ident .same-ident .ensures)) (rw (at-n .n .given .1) at (numbers.puts-swapped (at-entry .args .w .now) (at-entry .args .p) (at-entry .args .i) (valueBy (at-entry .args .w .now) (at-entry .args .b)) (at-put-value .put-value .result) _ (valueO (numbered (stack (at-entry .args .w .now)) (at-entry .args .b))) (at-entry .pre .1) (at-entry .pre .3) (at-put-value .put-value .ensures)))
 
 same-length-2 : tie.Need-same-length-2
 same-length-2 c = search needs
@@ -62,22 +65,19 @@ returns-2 : tie.Need-returns-2
 returns-2 c =
     let at-landed = c .before .before in
     let at-enum-told = at-landed .before .before in
-    let at-replace-at = at-enum-told .before .before .before .before in
-    let at-same-ident = at-replace-at .before .before in
+    let at-put-value = at-enum-told .before .before .before .before in
+    let at-value-len = at-put-value .before .before in
+    let at-same-ident = at-value-len .before .before in
     let at-entry = at-same-ident .before .before .before in
-    let w = at-entry .args .w .now in
-    let a = at-entry .args in
-    let e : Tree = valueFrom w 2064 (a .at) (a .m) in
-    let k = at-entry .pre .3 in
-    let q = laws.value-is w (a .p) (a .i) e (at-same-ident .same-ident .result) (at-same-ident .same-ident .ensures ∙ sym (fates.same-is w (a .i) (at-entry .pre .1) (a .at) (a .m) (k .some))) in
-    laws.goes-on w _ (at-entry .args .p) (at-entry .args .i) e (at-entry .pre .0) (at-entry .pre .1) (not (at-same-ident .same-ident .result)) q (rw (at-enum-told .enum-told .given .1) at (at-replace-at .replace-at .ensures)) (at-landed .landed .ensures) (ap (λ (n : ℕ). a .i + n) (sym (run-count w 2064 (a .at) (a .m) (k .some) (k .whole))))
+    laws.goes-on (at-entry .args .w .now) _ (at-entry .args .p) (at-entry .args .i) (valueBy (at-entry .args .w .now) (at-entry .args .b)) (at-entry .pre .0) (at-entry .pre .1) (not (at-same-ident .same-ident .result)) (laws.value-is (at-entry .args .w .now) (at-entry .args .p) (at-entry .args .i) (valueBy (at-entry .args .w .now) (at-entry .args .b)) (at-same-ident .same-ident .result) (at-same-ident .same-ident .ensures)) (rw (at-enum-told .enum-told .given .1) at (numbers.puts-swapped (at-entry .args .w .now) (at-entry .args .p) (at-entry .args .i) (valueBy (at-entry .args .w .now) (at-entry .args .b)) (at-put-value .put-value .result) _ (valueO (numbered (stack (at-entry .args .w .now)) (at-entry .args .b))) (at-entry .pre .1) (at-entry .pre .3) (at-put-value .put-value .ensures))) (at-landed .landed .ensures) (ap (λ (n : ℕ). (at-entry .args .i) + n) (at-value-len .value-len .ensures .0 ∙ ap countO (at-entry .pre .3)))
 
 pub inline-value-spec : {M : Type 1} → statement M
 inline-value-spec =
     tie.close
     (tie.spec
     same-ident-requires
-    replace-at-requires
+    value-len-requires
+    put-value-requires
     enum-known-n
     enum-told
     add-landed

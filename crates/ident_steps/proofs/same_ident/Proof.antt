@@ -1,84 +1,32 @@
--- The first node of the value, by its two words. Assumes nothing.
-use mathlib.Core.Path.{refl}
-use Prim.Native.Nat.{_+_, _*_, _%_}
-use lib.ListN.{getD}
-use borrow.Author.Tests.{eq-eqb, ne-eqb}
+use native.Mathlib.Omega.{arith}
+use mathlib.Core.Logic.{inr}
+use Rattle.definition.specs.Scope.{valueO}
+use Rattle.scopes.specs.State.{stack}
+use Rattle.scope.specs.Handles.{numbered}
+use Rattle.ident_steps.specs.Steps.{valueBy}
+use Rattle.ident_steps.proofs.Fates as fates
 use borrow.Author.Needs.{needs}
 use Rattle.ident_steps.proofs.same_ident.Statement.{statement}
 use Rattle.ident_steps.proofs.same_ident.Tie as tie
 
-mul-if1 : tie.Need-mul-if1
-mul-if1 c = search needs
+ident-at-requires : tie.Need-ident-at-requires
+ident-at-requires c κs =
+    let at-entry = c .before in
+    (at-entry .pre .0 .good, at-entry .pre .1, inr (at-entry .pre .2))
 
-add-if1 : tie.Need-add-if1
-add-if1 c = search needs
+value-ident-requires : tie.Need-value-ident-requires
+value-ident-requires c κs =
+    let at-entry = c .before .before in
+    at-entry .pre .0 .good
 
-mul-if1-2 : tie.Need-mul-if1-2
-mul-if1-2 c = search needs
-
-shared-slice-read-if1 : tie.Need-shared-slice-read-if1
-shared-slice-read-if1 c = search needs
-
-mul-result : tie.Need-mul-result
-mul-result c = search needs
-
-add-result : tie.Need-add-result
-add-result c = search needs
-
-add-result-2 : tie.Need-add-result-2
-add-result-2 c = search needs
-
-mul-result-2 : tie.Need-mul-result-2
-mul-result-2 c = search needs
-
-shared-slice-read-result : tie.Need-shared-slice-read-result
-shared-slice-read-result c = search needs
-
-mul-result-3 : tie.Need-mul-result-3
-mul-result-3 c = search needs
-
-add-result-3 : tie.Need-add-result-3
-add-result-3 c = search needs
-
-add-result-4 : tie.Need-add-result-4
-add-result-4 c = search needs
-
-mul-result-4 : tie.Need-mul-result-4
-mul-result-4 c = search needs
-
-shared-slice-read-result-2 : tie.Need-shared-slice-read-result-2
-shared-slice-read-result-2 c = search needs
+cast-result : tie.Need-cast-result
+cast-result c = search needs
 
 returns : tie.Need-returns
 returns c =
-    let at-if1 = c .before .before in
-    let at-entry = at-if1 .before .before in
-    let w = at-entry .args .w .now in
-    rw (eq-eqb (getD w (2064 + at-entry .args .at * 2) 0 % 64) 21 (at-if1 .if1 .taken)) refl
-
-returns-2 : tie.Need-returns-2
-returns-2 c =
-    let at-entry = c .before .before in
-    let w = at-entry .args .w .now in
-    rw (ne-eqb (getD w (2064 + at-entry .args .at * 2) 0 % 64) 21 (c .if1 .left)) refl
+    let at-ident-at = c .before in
+    let at-entry = at-ident-at .before .before in
+    fates.same-is (at-entry .args .w .now) (at-entry .args .i) (at-ident-at .ident-at .result) (at-entry .pre .1) (at-ident-at .ident-at .ensures) (omega arith) (valueBy (at-entry .args .w .now) (at-entry .args .b)) (valueO (numbered (stack (at-entry .args .w .now)) (at-entry .args .b))) (at-entry .pre .3) (c .value-ident .result) (c .value-ident .ensures)
 
 pub same-ident-spec : {M : Type 1} → statement M
-same-ident-spec =
-    tie.close
-    (tie.spec
-    mul-if1
-    add-if1
-    mul-if1-2
-    shared-slice-read-if1
-    mul-result
-    add-result
-    add-result-2
-    mul-result-2
-    shared-slice-read-result
-    mul-result-3
-    add-result-3
-    add-result-4
-    mul-result-4
-    shared-slice-read-result-2
-    returns
-    returns-2)
+same-ident-spec = tie.close (tie.spec ident-at-requires value-ident-requires cast-result returns)

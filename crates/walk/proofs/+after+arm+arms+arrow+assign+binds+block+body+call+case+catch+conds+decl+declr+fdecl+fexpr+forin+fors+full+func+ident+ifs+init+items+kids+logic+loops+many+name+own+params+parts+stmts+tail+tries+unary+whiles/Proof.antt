@@ -138,7 +138,7 @@ use Rattle.walk.proofs.+after+arm+arms+arrow+assign+binds+block+body+ca
 use Rattle.walk.proofs.+after+arm+arms+arrow+assign+binds+block+body+call+case+catch+conds+decl+declr+fdecl+fexpr+forin+fors+full+func+ident+ifs+init+items+kids+logic+loops+many+name+own+params+parts+stmts+tail+tries+unary+whiles.Proof.Fors.{fors-calls, fors-write-kids-but-last-requires, fors-refused-requires, fors-same-length, fors-returns, fors-form-at-requires, fors-arity-at-requires, fors-cast-n, fors-add-loops, fors-add-loops-2, fors-loops-requires, fors-next-requires, fors-enum-known-j, fors-enum-told, fors-same-length-2, fors-returns-2, fors-store-barrier-requires, fors-same-length-3, fors-returns-3, fors-same-length-4, fors-returns-4}
 use Rattle.walk.proofs.+after+arm+arms+arrow+assign+binds+block+body+call+case+catch+conds+decl+declr+fdecl+fexpr+forin+fors+full+func+ident+ifs+init+items+kids+logic+loops+many+name+own+params+parts+stmts+tail+tries+unary+whiles.Proof.Full.{full-calls, full-refused-requires, full-returns, full-bare-requires, full-kind-at-requires, full-sub-ident, full-ident-requires, full-same-length, full-returns-2, full-add-result, full-same-length-2, full-returns-3, full-sub-own, full-own-requires, full-next-requires, full-enum-known-j, full-enum-told, full-same-length-3, full-returns-4, full-settled-requires, full-same-length-4, full-returns-5, full-sub-after, full-after-requires, full-same-length-5, full-returns-6}
 use Rattle.walk.proofs.+after+arm+arms+arrow+assign+binds+block+body+call+case+catch+conds+decl+declr+fdecl+fexpr+forin+fors+full+func+ident+ifs+init+items+kids+logic+loops+many+name+own+params+parts+stmts+tail+tries+unary+whiles.Proof.Func.{func-calls, func-slice-read-inl, func-slice-read-decl, func-slice-read-mode, func-slice-read-test, func-add-enter, func-enter-requires, func-refused-requires, func-same-length, func-returns, func-set-pat-mode-requires, func-add-params, func-params-requires, func-next-requires, func-enum-known-j, func-enum-told, func-same-length-2, func-returns-2, func-leave-requires, func-same-length-3, func-returns-3}
-use Rattle.walk.proofs.+after+arm+arms+arrow+assign+binds+block+body+call+case+catch+conds+decl+declr+fdecl+fexpr+forin+fors+full+func+ident+ifs+init+items+kids+logic+loops+many+name+own+params+parts+stmts+tail+tries+unary+whiles.Proof.Ident.{ident-calls, ident-constant-requires, ident-enum-known-at, ident-cast-inline-constant, ident-inline-constant-requires, ident-enum-told, ident-enum-told-2, ident-coded-requires, ident-same-length, ident-returns, ident-full-requires, ident-enum-told-3, ident-slice-read-if1, ident-ident-analysis-requires, ident-skip-requires, ident-same-length-2, ident-returns-2, ident-fate-requires, ident-enum-told-4, ident-skip-requires-2, ident-enum-told-5, ident-cast-inline-undefined, ident-inline-undefined-requires, ident-coded-requires-2, ident-enum-known-at-2, ident-cast-inline-value, ident-inline-value-requires, ident-enum-told-6, ident-enum-told-7, ident-coded-requires-3, ident-same-length-3, ident-returns-3, ident-logic-requires, ident-same-length-4, ident-returns-4, ident-same-length-5, ident-returns-5, ident-same-length-6, ident-returns-6, ident-same-length-7, ident-returns-7}
+use Rattle.walk.proofs.+after+arm+arms+arrow+assign+binds+block+body+call+case+catch+conds+decl+declr+fdecl+fexpr+forin+fors+full+func+ident+ifs+init+items+kids+logic+loops+many+name+own+params+parts+stmts+tail+tries+unary+whiles.Proof.Ident.{ident-calls, ident-constant-requires, ident-cast-inline-constant, ident-inline-constant-requires, ident-enum-told, ident-enum-told-2, ident-coded-requires, ident-same-length, ident-returns, ident-full-requires, ident-same-length-2, ident-returns-2, ident-slice-read-if2, ident-ident-analysis-requires, ident-skip-requires, ident-same-length-3, ident-returns-3, ident-fate-requires, ident-enum-told-3, ident-skip-requires-2, ident-enum-told-4, ident-cast-inline-undefined, ident-inline-undefined-requires, ident-coded-requires-2, ident-enum-known-b, ident-cast-inline-value, ident-inline-value-requires, ident-enum-told-5, ident-enum-told-6, ident-coded-requires-3, ident-same-length-4, ident-returns-4, ident-logic-requires, ident-same-length-5, ident-returns-5, ident-same-length-6, ident-returns-6, ident-same-length-7, ident-returns-7}
 use Rattle.walk.proofs.+after+arm+arms+arrow+assign+binds+block+body+call+case+catch+conds+decl+declr+fdecl+fexpr+forin+fors+full+func+ident+ifs+init+items+kids+logic+loops+many+name+own+params+parts+stmts+tail+tries+unary+whiles.Proof.Ifs.{ifs-calls, ifs-arity-at-requires, ifs-cast-n, ifs-add-result, ifs-same-length, ifs-returns, ifs-slice-read-old, ifs-set-in-test-requires, ifs-add-full, ifs-add-full-2, ifs-full-requires, ifs-next-requires, ifs-enum-known-j, ifs-enum-told, ifs-same-length-2, ifs-returns-2, ifs-set-in-test-requires-2, ifs-add-arms, ifs-sub-arms, ifs-arms-requires, ifs-same-length-3, ifs-returns-3}
 use Rattle.walk.proofs.+after+arm+arms+arrow+assign+binds+block+body+call+case+catch+conds+decl+declr+fdecl+fexpr+forin+fors+full+func+ident+ifs+init+items+kids+logic+loops+many+name+own+params+parts+stmts+tail+tries+unary+whiles.Proof.Init.{init-calls, init-slice-read-kind, init-name-requires, init-next-requires, init-same-length, init-returns, init-add-ident-at, init-ident-at-requires, init-add-skip, init-skip-requires, init-sub-stays, init-stays-requires, init-skip-requires-2, init-same-length-2, init-returns-2, init-declr-end-requires, init-same-length-3, init-returns-3, init-add-full, init-full-requires, init-next-requires-2, init-enum-told, init-enum-told-2, init-same-length-4, init-returns-4, init-skip-requires-3, init-sub-declr-end, init-declr-end-requires-2, init-same-length-5, init-returns-5}
 use Rattle.walk.proofs.+after+arm+arms+arrow+assign+binds+block+body+call+case+catch+conds+decl+declr+fdecl+fexpr+forin+fors+full+func+ident+ifs+init+items+kids+logic+loops+many+name+own+params+parts+stmts+tail+tries+unary+whiles.Proof.Items.{items-calls, items-form-at-requires, items-body-requires, items-same-length, items-returns, items-arity-at-requires, items-cast-n, items-add-result, items-same-length-2, items-returns-2, items-add-full, items-add-full-2, items-full-requires, items-next-requires, items-enum-known-j, items-enum-told, items-same-length-3, items-returns-3, items-add-stmts, items-sub-stmts, items-stmts-requires, items-same-length-4, items-returns-4}
@@ -672,7 +672,6 @@ pub +after+arm+arms+arrow+assign+binds+block+body+call+case+catch+conds+decl+dec
     (ident-at t)
     ident.Post
     (ident-constant-requires t)
-    (ident-enum-known-at t)
     (ident-cast-inline-constant t)
     (ident-inline-constant-requires t)
     (ident-enum-told t)
@@ -681,30 +680,29 @@ pub +after+arm+arms+arrow+assign+binds+block+body+call+case+catch+conds+decl+dec
     (ident-same-length t)
     (ident-returns t)
     (ident-full-requires t)
-    (ident-enum-told-3 t)
-    (ident-slice-read-if1 t)
-    (ident-ident-analysis-requires t)
-    (ident-skip-requires t)
     (ident-same-length-2 t)
     (ident-returns-2 t)
+    (ident-slice-read-if2 t)
+    (ident-ident-analysis-requires t)
+    (ident-skip-requires t)
+    (ident-same-length-3 t)
+    (ident-returns-3 t)
     (ident-fate-requires t)
-    (ident-enum-told-4 t)
+    (ident-enum-told-3 t)
     (ident-skip-requires-2 t)
-    (ident-enum-told-5 t)
+    (ident-enum-told-4 t)
     (ident-cast-inline-undefined t)
     (ident-inline-undefined-requires t)
     (ident-coded-requires-2 t)
-    (ident-enum-known-at-2 t)
+    (ident-enum-known-b t)
     (ident-cast-inline-value t)
     (ident-inline-value-requires t)
+    (ident-enum-told-5 t)
     (ident-enum-told-6 t)
-    (ident-enum-told-7 t)
     (ident-coded-requires-3 t)
-    (ident-same-length-3 t)
-    (ident-returns-3 t)
-    (ident-logic-requires t)
     (ident-same-length-4 t)
     (ident-returns-4 t)
+    (ident-logic-requires t)
     (ident-same-length-5 t)
     (ident-returns-5 t)
     (ident-same-length-6 t)
