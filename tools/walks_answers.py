@@ -29,7 +29,7 @@ USES = [
     ('use Rattle.walk_laws.proofs.Ways as ways', ['ways']),
     ('use Rattle.walk_laws.proofs.Declrs as declrs', ['declrs']),
     ('use Rattle.walk_laws.proofs.Idents as idents', ['idents']),
-    ('use Rattle.scope.specs.Handles.{held}', ['held']),
+    ('use Rattle.handles.specs.Handles.{held}', ['held']),
     ('use Rattle.ident_steps.specs.Steps.{valueBy, constantAt}', ['valueBy', 'constantAt']),
 ]
 

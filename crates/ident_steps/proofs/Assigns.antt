@@ -30,7 +30,7 @@ use Rattle.nodes.proofs.Words.{tree-whole}
 use Rattle.nodes.proofs.Walks.{second-child, skip-is}
 use Rattle.state.specs.State.{rest, abs, Ok}
 use Rattle.state.proofs.Fields.{becomes-ok, ok-self, ok-then}
-use Rattle.scope.specs.Handles.{ofBinding}
+use Rattle.handles.specs.Handles.{ofBinding}
 use Rattle.ident_steps.specs.Steps.{Goes, firstTest, firstF, swapF}
 use Rattle.ident_steps.specs.declared.Next.{Next}
 use Rattle.ident_steps.specs.declared.Next.the-variants.{At, Refused}

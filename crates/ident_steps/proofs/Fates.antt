@@ -19,8 +19,8 @@ use borrow.Author.Tests.{ne-eqb}
 use Rattle.scopes.specs.State.{nameOf, stack}
 use Rattle.nodes.specs.Nodes.{treeFrom}
 use Rattle.state.specs.State.{rest, abs}
-use Rattle.scope.specs.Handles.{ofBinding, held}
-use Rattle.scope.proofs.Numbers.{held-some}
+use Rattle.handles.specs.Handles.{ofBinding, held}
+use Rattle.handles.proofs.Numbers.{held-some}
 use Rattle.nodes.proofs.Trees.{count-some}
 use Rattle.ident_steps.specs.Steps.{stays, undefined, inlined, fateOf, fateAt, constantAt}
 use Rattle.ident_steps.proofs.Laws.{tree-num}

@@ -14,7 +14,7 @@ use Rattle.flat.specs.WalkF.{testRead}
 use Rattle.words.specs.Layout.{yes}
 use Rattle.scopes.specs.State.{stack, varTypeOf}
 use Rattle.state.specs.State.{abs, rest, modeOf, Ok, Turns}
-use Rattle.scope.specs.Handles.{numbered, held}
+use Rattle.handles.specs.Handles.{numbered, held}
 use Rattle.ident_steps.specs.declared.Next.{Next}
 use Rattle.ident_steps.specs.declared.Next.the-variants.{At, Refused}
 use Rattle.ident_steps.specs.declared.Found.{Found}

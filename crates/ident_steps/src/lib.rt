@@ -10,7 +10,7 @@ ghost use Rattle.words.specs.Layout.{nodeOf, yes, tree};
 ghost use Rattle.scopes.specs.State.{Good, Becomes, stack, scopeKindOf};
 ghost use Rattle.nodes.specs.Nodes.{Planted, Child, treeFrom, size};
 ghost use Rattle.state.specs.State.{abs, Act};
-ghost use Rattle.scope.specs.Handles.{held};
+ghost use Rattle.handles.specs.Handles.{held};
 ghost use Rattle.ident_steps.specs.Steps.{Goes, analysisF, costly, testStack, Fated, valueBy, Has, constantAt, Landed, swapF, valueF, constF, Restored};
 
 pub mod assign;

@@ -1,4 +1,4 @@
 -- What the proofs of several functions use.
+pub mod Given
 pub mod Moves
-pub mod Numbers
 pub mod Undefined

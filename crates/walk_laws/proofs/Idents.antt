@@ -21,8 +21,8 @@ use Rattle.flat.specs.WalkF.{WalksF, testRead, inlineValueF, foundF, identInlin
 use Rattle.ident_steps.specs.declared.Next.{Next}
 use Rattle.ident_steps.specs.declared.Next.the-variants.{At}
 use Rattle.ident_steps.specs.Steps as steps
-use Rattle.scope.specs.Handles.{held}
-use Rattle.scope.proofs.Numbers.{held-some, count-none}
+use Rattle.handles.specs.Handles.{held}
+use Rattle.handles.proofs.Numbers.{held-some, count-none}
 use Rattle.ident_steps.specs.declared.Found.{Found}
 use Rattle.ident_steps.specs.declared.Found.the-variants as found
 use Rattle.ident_steps.specs.Steps.{analysisF, Goes, Fate, stays, undefined, inlined, fateBy, fateOf, fateAt, constF, valueF, swapF}

@@ -25,8 +25,8 @@ use Rattle.nodes.specs.Nodes.{Planted, treeFrom, forestFrom}
 use Rattle.nodes.proofs.Loops.{Open, open-past, forest-here, forest-past}
 use Rattle.nodes.proofs.Words.{tree-whole, in-tree}
 use Rattle.state.specs.State.{rest, abs, Act}
-use Rattle.scope.specs.Handles.{treeO, ofBinding}
-use Rattle.scope.proofs.Numbers.{tree-in}
+use Rattle.handles.specs.Handles.{treeO, ofBinding}
+use Rattle.handles.proofs.Numbers.{tree-in}
 use Rattle.write_steps.specs.Answers.{numberOf, cheapAt}
 use Rattle.write_steps.proofs.Steps.{Step, step-act, act-step, step-as, step-none, step-then, step-stop, step-tree, act-tree, act-count, mark-step, record-step}
 use Rattle.write_steps.proofs.Shapes.{head-of}

@@ -14,8 +14,8 @@ use Rattle.scopes.specs.State.{stack}
 use Rattle.scopes.proofs.Split.{noBind}
 use Rattle.nodes.specs.Nodes.{Planted}
 use Rattle.state.specs.State.{rest, abs, Act}
-use Rattle.scope.specs.Handles.{bindingsOf, numbered}
-use Rattle.scope.proofs.Numbers.{number-some}
+use Rattle.handles.specs.Handles.{bindingsOf, numbered}
+use Rattle.handles.proofs.Numbers.{number-some}
 use Rattle.write_steps.proofs.Steps.{step-act, act-step, step-as, step-none}
 use Rattle.write_steps.proofs.Writing.{num-here}
 

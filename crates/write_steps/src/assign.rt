@@ -8,7 +8,7 @@ ghost use Rattle.definition.specs.Walk.{storeValue, assignFirst, assignLast};
 ghost use Rattle.words.specs.Layout.{tree, nodeOf};
 ghost use Rattle.nodes.specs.Nodes.{Planted, size};
 ghost use Rattle.state.specs.State.{abs, Act};
-ghost use Rattle.scope.specs.Handles.{valueAt};
+ghost use Rattle.scope.specs.Given.{valueAt};
 ghost use Rattle.write_steps.specs.Answers.{cheapAt};
 use super::number;
 use super::write_ident;

@@ -1,6 +1,6 @@
 -- Declared, and nothing is taken out. Assumes nothing.
-use Rattle.scope.proofs.Numbers as numbers
-use Rattle.scope.specs.Handles.{treeO}
+use Rattle.scope.proofs.Given as given
+use Rattle.handles.specs.Handles.{treeO}
 use mathlib.Core.Bool.{false}
 use Rattle.declare_steps.proofs.Acts as acts
 use Rattle.words.specs.Layout.{tree}
@@ -30,7 +30,7 @@ returns c =
     let at-n = c .before in
     let at-declare-m = at-n .before .before .before .before in
     let at-entry = at-declare-m .before .before .before in
-    ends.after-stop (typeOf (at-entry .args .kind)) (named (at-entry .args .x)) (at-entry .args .q) 0 (at-entry .args .i) (at-entry .args .j) (acts.moves-by (ends.bare-here (at-entry .args .x) (typeOf (at-entry .args .kind)) (tree (at-entry .args .w .now)) (at-entry .args .i) (rest (at-entry .args .w .now))) (acts.moves-stop (λ u. ret false) (rw (at-n .n .given .1) at (rw (numbers.init-none (treeO (tree (at-entry .args .w .now)) 0)) at (at-declare-m .declare-m .ensures)))))
+    ends.after-stop (typeOf (at-entry .args .kind)) (named (at-entry .args .x)) (at-entry .args .q) 0 (at-entry .args .i) (at-entry .args .j) (acts.moves-by (ends.bare-here (at-entry .args .x) (typeOf (at-entry .args .kind)) (tree (at-entry .args .w .now)) (at-entry .args .i) (rest (at-entry .args .w .now))) (acts.moves-stop (λ u. ret false) (rw (at-n .n .given .1) at (rw (given.init-none (treeO (tree (at-entry .args .w .now)) 0)) at (at-declare-m .declare-m .ensures)))))
 
 same-length-2 : tie.Need-same-length-2
 same-length-2 c = search needs
@@ -39,7 +39,7 @@ returns-2 : tie.Need-returns-2
 returns-2 c =
     let at-declare-m = c .before .before .before .before in
     let at-entry = at-declare-m .before .before .before in
-    let p = (rw (c .enum-told .given .1) at (rw (numbers.init-none (treeO (tree (at-entry .args .w .now)) 0)) at (at-declare-m .declare-m .ensures))) in
+    let p = (rw (c .enum-told .given .1) at (rw (given.init-none (treeO (tree (at-entry .args .w .now)) 0)) at (at-declare-m .declare-m .ensures))) in
     ends.after-kept (typeOf (at-entry .args .kind)) (named (at-entry .args .x)) (at-entry .args .q) 0 (at-entry .args .i) (at-entry .args .j) (at-entry .pre .1) (acts.moves-by (ends.bare-here (at-entry .args .x) (typeOf (at-entry .args .kind)) (tree (at-entry .args .w .now)) (at-entry .args .i) (rest (at-entry .args .w .now))) (acts.moves-then (λ u. ret false) p (acts.moves-self (p .ok .planted) false)))
 
 pub after-bare-spec : {M : Type 1} → statement M

@@ -1,8 +1,9 @@
 -- Declared, and then marked if its value is prevented. Assumes nothing.
 use mathlib.Core.Option.{Option}
 use Rattle.definition.specs.Scope.{preventedO}
-use Rattle.scope.specs.Handles.{treeO}
-use Rattle.scope.proofs.Numbers as numbers
+use Rattle.handles.specs.Handles.{treeO}
+use Rattle.handles.proofs.Numbers as numbers
+use Rattle.scope.proofs.Given as given
 use Rattle.declares.specs.declared.Init.the-variants.{Recorded}
 use mathlib.Core.Path.{sym, ap, _∙_}
 use mathlib.Core.List.{List}
@@ -60,7 +61,7 @@ returns c =
     let at-n = c .before in
     let at-declare-m = at-n .before .before .before .before in
     let at-entry = at-declare-m .before .before .before in
-    acts.moves-by (parts.cheap-then (at-entry .args .x) (typeOf (at-entry .args .kind)) (treeFrom (tree (at-entry .args .w .now)) (at-entry .args .e)) (rest (at-entry .args .w .now))) (acts.moves-stop (λ (u : Nothing) (s : St). when (isInlinePrevented (treeFrom (tree (at-entry .args .w .now)) (at-entry .args .e)) (s .stack)) (mark (preventInline (at-entry .args .x))) s) (rw (at-n .n .given .1) at (rw (sym (numbers.init-in (at-entry .args .w .now) (at-entry .args .e) Recorded (at-entry .pre .1))) at (at-declare-m .declare-m .ensures))))
+    acts.moves-by (parts.cheap-then (at-entry .args .x) (typeOf (at-entry .args .kind)) (treeFrom (tree (at-entry .args .w .now)) (at-entry .args .e)) (rest (at-entry .args .w .now))) (acts.moves-stop (λ (u : Nothing) (s : St). when (isInlinePrevented (treeFrom (tree (at-entry .args .w .now)) (at-entry .args .e)) (s .stack)) (mark (preventInline (at-entry .args .x))) s) (rw (at-n .n .given .1) at (rw (sym (given.init-in (at-entry .args .w .now) (at-entry .args .e) Recorded (at-entry .pre .1))) at (at-declare-m .declare-m .ensures))))
 
 same-length-2 : tie.Need-same-length-2
 same-length-2 c =
@@ -75,7 +76,7 @@ returns-2 c =
     let at-enum-told = at-is-inline-prevented .before .before in
     let at-declare-m = at-enum-told .before .before .before .before in
     let at-entry = at-declare-m .before .before .before in
-    let p = (rw (at-enum-told .enum-told .given .1) at (rw (sym (numbers.init-in (at-entry .args .w .now) (at-entry .args .e) Recorded (at-entry .pre .1))) at (at-declare-m .declare-m .ensures))) in
+    let p = (rw (at-enum-told .enum-told .given .1) at (rw (sym (given.init-in (at-entry .args .w .now) (at-entry .args .e) Recorded (at-entry .pre .1))) at (at-declare-m .declare-m .ensures))) in
     let e = at-is-inline-prevented .is-inline-prevented .ensures ∙ ap (λ (o : Option Tree). preventedO o (stack (at-declare-m .declare-m .last .0))) (ap (λ (ns : List Core). treeO ns (at-entry .args .e)) (p .nodes) ∙ numbers.tree-in (at-entry .args .w .now) (at-entry .args .e) (at-entry .pre .1)) ∙ ap (λ (st : Stack). isInlinePrevented (treeFrom (tree (at-entry .args .w .now)) (at-entry .args .e)) st) (sym (acts.rest-stack (at-declare-m .declare-m .last .0))) in
     acts.moves-by (parts.cheap-then (at-entry .args .x) (typeOf (at-entry .args .kind)) (treeFrom (tree (at-entry .args .w .now)) (at-entry .args .e)) (rest (at-entry .args .w .now))) (acts.moves-then (λ (u : Nothing) (s : St). when (isInlinePrevented (treeFrom (tree (at-entry .args .w .now)) (at-entry .args .e)) (s .stack)) (mark (preventInline (at-entry .args .x))) s) p (rw e at (at-prevent-if .prevent-if .ensures)))
 

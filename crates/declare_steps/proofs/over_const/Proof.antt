@@ -8,7 +8,7 @@ use Rattle.words.specs.Layout.{yes, tree}
 use Rattle.nodes.specs.Nodes.{treeFrom}
 use Rattle.look.proofs.Facts.{flag-set}
 use Rattle.state.specs.State.{rest}
-use Rattle.scope.proofs.Numbers as numbers
+use Rattle.handles.proofs.Numbers as numbers
 use Rattle.declare_steps.proofs.Parts as parts
 use Rattle.declare_steps.proofs.Acts as acts
 use borrow.Author.Needs.{needs}

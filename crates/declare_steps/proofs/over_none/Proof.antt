@@ -1,7 +1,7 @@
 -- A constant without a value is not declared. Assumes nothing.
-use Rattle.scope.proofs.Numbers as numbers
+use Rattle.scope.proofs.Given as given
 use Rattle.words.specs.Layout.{tree}
-use Rattle.scope.specs.Handles.{treeO}
+use Rattle.handles.specs.Handles.{treeO}
 use mathlib.Core.Path.{sym, ap, _∙_}
 use native.Mathlib.Omega.{arith}
 use lib.ListN.{getD}
@@ -38,7 +38,7 @@ returns-2 c =
     let at-type-of = at-declare-m .before .before in
     let at-if1 = at-type-of .before in
     let at-entry = at-if1 .before .before .before in
-    acts.moves-by (parts.none-declared (at-entry .args .x) (rest (at-entry .args .w .now)) (typeOf (at-type-of .type-of .result)) (at-type-of .type-of .ensures ∙ sym (parts.rest-kind (at-entry .args .w .now))) (ap isConst (parts.rest-kind (at-entry .args .w .now)) ∙ codes.const-no (getD (at-entry .args .w .now) 8 0) (omega (arith, at-if1 .if1)))) (rw (numbers.init-none (treeO (tree (at-entry .args .w .now)) 0)) at (at-declare-m .declare-m .ensures))
+    acts.moves-by (parts.none-declared (at-entry .args .x) (rest (at-entry .args .w .now)) (typeOf (at-type-of .type-of .result)) (at-type-of .type-of .ensures ∙ sym (parts.rest-kind (at-entry .args .w .now))) (ap isConst (parts.rest-kind (at-entry .args .w .now)) ∙ codes.const-no (getD (at-entry .args .w .now) 8 0) (omega (arith, at-if1 .if1)))) (rw (given.init-none (treeO (tree (at-entry .args .w .now)) 0)) at (at-declare-m .declare-m .ensures))
 
 pub over-none-spec : {M : Type 1} → statement M
 over-none-spec =

@@ -1,5 +1,5 @@
 -- Marked, or another `this`. Assumes nothing.
-use Rattle.scope.proofs.Numbers as numbers
+use Rattle.handles.proofs.Numbers as numbers
 use mathlib.Core.Path.{sym, ap, _∙_}
 use mathlib.Core.Bool.{not}
 use mathlib.Core.Option.{some}

@@ -1,5 +1,5 @@
 -- Declared again, or nothing. Assumes nothing.
-use Rattle.scope.proofs.Numbers as numbers
+use Rattle.scope.proofs.Given as given
 use Rattle.declares.specs.declared.Init.the-variants.{Recorded}
 use mathlib.Core.Path.{refl, sym, _∙_}
 use Rattle.declare_steps.proofs.Acts as acts
@@ -32,7 +32,7 @@ returns c =
     let at-if1 = at-declare-m .before .before in
     let at-is-ident = at-if1 .before in
     let at-entry = at-is-ident .before .before .before in
-    acts.moves-by (parts.ident-yes (at-entry .args .x) (typeOf (at-entry .args .kind)) (treeFrom (tree (at-entry .args .w .now)) (at-entry .args .e)) (rest (at-entry .args .w .now)) (sym (at-is-ident .is-ident .ensures) ∙ at-if1 .if1 .taken)) (rw (sym (numbers.init-in (at-entry .args .w .now) (at-entry .args .e) Recorded (at-entry .pre .1))) at (at-declare-m .declare-m .ensures))
+    acts.moves-by (parts.ident-yes (at-entry .args .x) (typeOf (at-entry .args .kind)) (treeFrom (tree (at-entry .args .w .now)) (at-entry .args .e)) (rest (at-entry .args .w .now)) (sym (at-is-ident .is-ident .ensures) ∙ at-if1 .if1 .taken)) (rw (sym (given.init-in (at-entry .args .w .now) (at-entry .args .e) Recorded (at-entry .pre .1))) at (at-declare-m .declare-m .ensures))
 
 same-length-2 : tie.Need-same-length-2
 same-length-2 c = refl

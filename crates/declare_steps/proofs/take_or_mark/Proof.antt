@@ -1,7 +1,7 @@
 -- Marked if the initialiser is prevented. Assumes nothing.
 use mathlib.Core.Option.{Option}
 use Rattle.definition.specs.Scope.{preventedO}
-use Rattle.scope.proofs.Numbers as numbers
+use Rattle.handles.proofs.Numbers as numbers
 use mathlib.Core.Path.{sym, ap, _∙_}
 use mathlib.Core.Bool.{false}
 use Rattle.inits.proofs.Init as init

@@ -6,8 +6,8 @@ use Rattle.definition.specs.Scope.{VarInfo, findBinding, valueO}
 use Rattle.scopes.specs.State.{stack}
 use Rattle.scopes.proofs.Split.{noBind}
 use Rattle.look.specs.Look.{kindO}
-use Rattle.scope.proofs.Numbers as numbers
-use Rattle.scope.specs.Handles.{numbered, bindingsOf}
+use Rattle.handles.proofs.Numbers as numbers
+use Rattle.handles.specs.Handles.{numbered, bindingsOf}
 use Rattle.ident_steps.proofs.Idents as idents
 use borrow.Author.Needs.{needs}
 use Rattle.ident_steps.proofs.costly.Statement.{statement}

@@ -4,8 +4,8 @@ use mathlib.Core.Logic.{inr}
 use mathlib.Core.Option.{none}
 use Rattle.definition.specs.Scope.{valueO}
 use Rattle.scopes.specs.State.{stack}
-use Rattle.scope.specs.Handles.{numbered, held}
-use Rattle.scope.proofs.Numbers as numbers
+use Rattle.handles.specs.Handles.{numbered, held}
+use Rattle.handles.proofs.Numbers as numbers
 use Rattle.ident_steps.proofs.Fates as fates
 use Rattle.ident_steps.proofs.fate.Statement.{statement}
 use Rattle.ident_steps.proofs.fate.Tie as tie

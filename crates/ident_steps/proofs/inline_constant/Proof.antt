@@ -2,8 +2,8 @@ use mathlib.Core.Path.{refl, ap, _∙_}
 use native.Mathlib.Omega.{arith}
 use Rattle.ident_steps.proofs.Laws as laws
 use Rattle.ident_steps.proofs.Fates as fates
-use Rattle.scope.proofs.Numbers as numbers
-use Rattle.scope.specs.Handles.{held}
+use Rattle.handles.proofs.Numbers as numbers
+use Rattle.handles.specs.Handles.{held}
 use Rattle.definition.specs.Tree.{countO}
 use Prim.Native.Nat.{ℕ, _+_, _-_}
 use Rattle.scopes.specs.State.{stack}

@@ -1,8 +1,8 @@
 use mathlib.Core.Path.{ap, _∙_}
 use native.Mathlib.Omega.{arith}
 use Rattle.ident_steps.proofs.Laws as laws
-use Rattle.scope.proofs.Numbers as numbers
-use Rattle.scope.specs.Handles.{numbered}
+use Rattle.handles.proofs.Numbers as numbers
+use Rattle.handles.specs.Handles.{numbered}
 use Rattle.definition.specs.Tree.{countO}
 use Prim.Native.Nat.{ℕ, _+_, _-_}
 use Rattle.scopes.specs.State.{stack}

@@ -2,7 +2,7 @@ use native.Mathlib.Omega.{arith}
 use mathlib.Core.Logic.{inr}
 use Rattle.definition.specs.Scope.{valueO}
 use Rattle.scopes.specs.State.{stack}
-use Rattle.scope.specs.Handles.{numbered}
+use Rattle.handles.specs.Handles.{numbered}
 use Rattle.ident_steps.specs.Steps.{valueBy}
 use Rattle.ident_steps.proofs.Fates as fates
 use borrow.Author.Needs.{needs}

@@ -1,4 +1,3 @@
-use Rattle.scope.proofs.Numbers as numbers
 use borrow.Author.Needs.{needs}
 use Rattle.scope.proofs.add_const.Statement.{statement}
 use Rattle.scope.proofs.add_const.Tie as tie

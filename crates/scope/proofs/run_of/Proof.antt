@@ -1,6 +1,6 @@
 use native.Mathlib.Omega.{arith}
 use Prim.Native.Nat.{_-_}
-use Rattle.scope.proofs.Numbers as numbers
+use Rattle.scope.proofs.Given as given
 use borrow.Author.Needs.{needs}
 use Rattle.scope.proofs.run_of.Statement.{statement}
 use Rattle.scope.proofs.run_of.Tie as tie
@@ -33,19 +33,19 @@ returns c =
     let at-entry = at-v .before .before .before in
     let w = at-entry .args .w .now in
     let i = at-v .v .given .0 .0 in
-    rw (at-v .v .given .1) (numbers.runs-tree (at-entry .pre) (at-in-tree .in-tree .ensures .0 (at-if1 .if1 .taken)) (c .skip .result - i) (omega (arith, c .skip .ensures .0)) (omega (arith, c .skip .ensures .0, c .skip .ensures .2)))
+    rw (at-v .v .given .1) (given.runs-tree (at-entry .pre) (at-in-tree .in-tree .ensures .0 (at-if1 .if1 .taken)) (c .skip .result - i) (omega (arith, c .skip .ensures .0)) (omega (arith, c .skip .ensures .0, c .skip .ensures .2)))
 
 returns-2 : tie.Need-returns-2
 returns-2 c =
     let at-entry = c .before .before .before in
-    rw (c .enum-told .given .1) (numbers.runs-none (at-entry .args .w .now))
+    rw (c .enum-told .given .1) (given.runs-none (at-entry .args .w .now))
 
 returns-3 : tie.Need-returns-3
 returns-3 c =
     let at-in-tree = c .before in
     let at-v = at-in-tree .before .before in
     let at-entry = at-v .before .before .before in
-    rw (at-v .v .given .1, at-in-tree .in-tree .ensures .1 (c .if1 .left)) (numbers.runs-none (at-entry .args .w .now))
+    rw (at-v .v .given .1, at-in-tree .in-tree .ensures .1 (c .if1 .left)) (given.runs-none (at-entry .args .w .now))
 
 pub run-of-spec : {M : Type 1} → statement M
 run-of-spec =

@@ -1,7 +1,7 @@
 use mathlib.Core.Path.{_≡_, refl, sym, ap, _∙_}
 use lib.ListN.{getD}
-use Rattle.scope.specs.Handles.{initO}
-use Rattle.scope.proofs.Numbers as numbers
+use Rattle.scope.specs.Given.{initO}
+use Rattle.scope.proofs.Given as given
 use borrow.Author.Needs.{needs}
 use Rattle.scope.proofs.sited.Statement.{statement}
 use Rattle.scope.proofs.sited.Tie as tie
@@ -15,7 +15,7 @@ returns c =
     let at-entry = at-in-tree .before .before in
     let w = at-entry .args .w .now in
     let h = at-in-tree .in-tree .ensures .0 (c .if1 .taken) in
-    (numbers.sited-in (at-entry .args .v) (at-entry .args .i) (getD w 0 0) h, numbers.init-in w (at-entry .args .i) (at-entry .args .v) h)
+    (given.sited-in (at-entry .args .v) (at-entry .args .i) (getD w 0 0) h, given.init-in w (at-entry .args .i) (at-entry .args .v) h)
 
 returns-2 : tie.Need-returns-2
 returns-2 c =

@@ -6,8 +6,8 @@ use Rattle.words.specs.Layout.{tree}
 use Rattle.nodes.specs.Nodes.{treeFrom}
 use Rattle.nodes.proofs.Apart.{becomes-planted}
 use Rattle.nodes.proofs.Splice.{inner-in}
-use Rattle.scope.specs.Handles.{treeO}
-use Rattle.scope.proofs.Numbers as numbers
+use Rattle.handles.specs.Handles.{treeO}
+use Rattle.handles.proofs.Numbers as numbers
 use Rattle.ident_steps.proofs.Assigns as assigns
 use borrow.Author.Needs.{needs}
 use Rattle.ident_steps.proofs.assign.first_assigned.Statement.{statement}

@@ -6,8 +6,8 @@ use Rattle.definition.specs.Scope.{VarInfo, isInlinePrevented, preventedO}
 use Rattle.scopes.specs.State.{stack}
 use Rattle.look.specs.Look.{nodeTree}
 use Rattle.inits.proofs.Init.{node-from}
-use Rattle.scope.specs.Handles.{numbered}
-use Rattle.scope.proofs.Numbers as numbers
+use Rattle.handles.specs.Handles.{numbered}
+use Rattle.handles.proofs.Numbers as numbers
 use Rattle.ident_steps.specs.Steps.{firstTest}
 use Rattle.ident_steps.proofs.Assigns as assigns
 use borrow.Author.Needs.{needs}

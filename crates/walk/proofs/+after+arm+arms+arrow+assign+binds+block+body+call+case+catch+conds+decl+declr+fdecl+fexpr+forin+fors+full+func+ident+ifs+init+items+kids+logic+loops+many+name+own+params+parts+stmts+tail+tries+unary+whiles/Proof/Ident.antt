@@ -13,7 +13,7 @@ use Rattle.walk_laws.proofs.Codes as codes
 use Rattle.walk_laws.proofs.Heres as heres
 use Rattle.walk_laws.proofs.Ways as ways
 use Rattle.walk_laws.proofs.Idents as idents
-use Rattle.scope.specs.Handles.{held}
+use Rattle.handles.specs.Handles.{held}
 use Rattle.ident_steps.specs.Steps.{valueBy, constantAt}
 use Rattle.ident_steps.proofs.constant.Reads as constant-reads
 use Rattle.ident_steps.proofs.fate.Reads as fate-reads

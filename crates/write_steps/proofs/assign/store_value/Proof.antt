@@ -6,8 +6,8 @@ use Rattle.tree.specs.Combine.{treeAt}
 use Rattle.scopes.specs.State.{stack}
 use Rattle.scopes.proofs.Split.{noBind}
 use Rattle.state.specs.State.{abs}
-use Rattle.scope.specs.Handles.{numbered, bindingsOf}
-use Rattle.scope.proofs.Numbers.{number-some}
+use Rattle.handles.specs.Handles.{numbered, bindingsOf}
+use Rattle.handles.proofs.Numbers.{number-some}
 use Rattle.write_steps.proofs.Writing.{num-here}
 use Rattle.write_steps.proofs.AssignLast.{store-none, store-held, store-kept}
 use borrow.Author.Needs.{needs}

@@ -5,7 +5,7 @@ use native.Mathlib.Omega.{arith}
 use Rattle.declares.specs.Kinds.{typeOf}
 use Rattle.write_steps.proofs.Declares.{turned-in, bound-needs, bound-act}
 use Rattle.declares.specs.declared.Init.the-variants.{Recorded}
-use Rattle.scope.proofs.Numbers.{init-in}
+use Rattle.scope.proofs.Given.{init-in}
 use borrow.Author.Needs.{needs}
 use Rattle.write_steps.proofs.declared.declare_bound.Statement.{statement}
 use Rattle.write_steps.proofs.declared.declare_bound.Tie as tie

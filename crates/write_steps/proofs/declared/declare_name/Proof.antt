@@ -6,8 +6,8 @@ use native.Mathlib.Omega.{arith}
 use Rattle.words.specs.Layout.{nodeOf, tree}
 use Rattle.write_steps.proofs.Shapes.{no-child, child-here, child-in}
 use Rattle.write_steps.proofs.Declares.{declare-none, declare-other, declare-off, declare-on}
-use Rattle.scope.specs.Handles.{treeO}
-use Rattle.scope.proofs.Numbers.{init-none}
+use Rattle.handles.specs.Handles.{treeO}
+use Rattle.scope.proofs.Given.{init-none}
 use borrow.Author.Needs.{needs}
 use Rattle.write_steps.proofs.declared.declare_name.Statement.{statement}
 use Rattle.write_steps.proofs.declared.declare_name.Tie as tie
