@@ -116,6 +116,8 @@ module _ (w : List ℕ) (g : Good w) where
     ccount = omega (arith, n3);
     vals = rw n1 (omega (arith, sum-zero (λ j. lenAt x j)));
     cvals = rw n3 (omega (arith, sum-zero (λ j. clenAt x j)));
+    live = omega (arith, n1, n3);
+    recorded = rw (n1, n3) (omega (arith, sum-zero (λ j. lenAt x j), sum-zero (λ j. clenAt x j)));
     fits = rw (no-heads, n1) refl;
     cfits = rw (no-heads, n3) refl;
     ids = rw n1 (λ k l. absurd (omega arith));

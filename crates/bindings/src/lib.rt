@@ -58,8 +58,8 @@ fn either(a: u32, b: u32) -> u32
 
 // What a `var` of a closed scope, whose record j is, leaves in the innermost scope: in place of its binding of the same name, or appended.
 fn hoist_var(w: &mut [u32], j: usize)
-    requires { ⌜ (Good (now w)) × (0 < getD (now w) 2 0) × (getD (now w) 1 0 ≤ j) × (j < 256) × (getD (now w) (4112 + j * 10) 0 < 256) × (getD (now w) (4112 + j * 10 + 1) 0 ≡ 1) ⌝ }
-    ensures { λ _. ⌜ (Becomes (now (w .entry)) (now (w .exit)) (hoistOne (recordAt (now (w .entry)) j) (stack (now (w .entry))))) × (Agree (4112 + j * 10 + 10) 6672 (now (w .entry)) (now (w .exit))) × (getD (now (w .exit)) 1 0 ≤ j + 1) ⌝ }
+    requires { ⌜ (Good (now w)) × (0 < getD (now w) 2 0) × (getD (now w) 1 0 ≤ j) × (j + getD (now w) 3 0 < 256) × (getD (now w) (4112 + j * 10) 0 < 256) × (getD (now w) (4112 + j * 10 + 1) 0 ≡ 1) ⌝ }
+    ensures { λ _. ⌜ (Becomes (now (w .entry)) (now (w .exit)) (hoistOne (recordAt (now (w .entry)) j) (stack (now (w .entry))))) × (Agree (4112 + j * 10 + 10) 6672 (now (w .entry)) (now (w .exit))) × (getD (now (w .exit)) 1 0 ≤ j + 1) × (getD (now (w .exit)) 3 0 ≡ getD (now (w .entry)) 3 0) ⌝ }
 {
     let x = w[layout::BINDINGS + j * 10] as u8;
     let alias = w[layout::BINDINGS + j * 10 + layout::ALIAS];
@@ -80,8 +80,8 @@ fn hoist_var(w: &mut [u32], j: usize)
 
 // A binding of a closed scope, whose record j is, goes up if it is a `var`.
 fn hoist_one(w: &mut [u32], j: usize)
-    requires { ⌜ (Good (now w)) × (0 < getD (now w) 2 0) × (getD (now w) 1 0 ≤ j) × (j < 256) × (getD (now w) (4112 + j * 10) 0 < 256) ⌝ }
-    ensures { λ _. ⌜ (Becomes (now (w .entry)) (now (w .exit)) (hoistOne (recordAt (now (w .entry)) j) (stack (now (w .entry))))) × (Agree (4112 + j * 10 + 10) 6672 (now (w .entry)) (now (w .exit))) × (getD (now (w .exit)) 1 0 ≤ j + 1) ⌝ }
+    requires { ⌜ (Good (now w)) × (0 < getD (now w) 2 0) × (getD (now w) 1 0 ≤ j) × (j + getD (now w) 3 0 < 256) × (getD (now w) (4112 + j * 10) 0 < 256) ⌝ }
+    ensures { λ _. ⌜ (Becomes (now (w .entry)) (now (w .exit)) (hoistOne (recordAt (now (w .entry)) j) (stack (now (w .entry))))) × (Agree (4112 + j * 10 + 10) 6672 (now (w .entry)) (now (w .exit))) × (getD (now (w .exit)) 1 0 ≤ j + 1) × (getD (now (w .exit)) 3 0 ≡ getD (now (w .entry)) 3 0) ⌝ }
 {
     if w[layout::BINDINGS + j * 10 + layout::KIND] == 1 {
         hoist_var(w, j);
@@ -90,7 +90,7 @@ fn hoist_one(w: &mut [u32], j: usize)
 
 // The bindings of a closed scope, whose records are those from a up to e, go up.
 fn hoist_all(w: &mut [u32], a: usize, e: usize)
-    requires { ⌜ (Good (now w)) × (0 < getD (now w) 2 0) × (getD (now w) 1 0 ≤ a) × (a ≤ e) × (e ≤ 256) × ((j : ℕ) → j < e → getD (now w) (4112 + j * 10) 0 < 256) ⌝ }
+    requires { ⌜ (Good (now w)) × (0 < getD (now w) 2 0) × (getD (now w) 1 0 ≤ a) × (a ≤ e) × (e + getD (now w) 3 0 ≤ 256) × ((j : ℕ) → j < e → getD (now w) (4112 + j * 10) 0 < 256) ⌝ }
     ensures { λ _. ⌜ Becomes (now (w .entry)) (now (w .exit)) (hoistUp (λ j. recordAt (now (w .entry)) j) a (e - a) (stack (now (w .entry)))) ⌝ }
 {
     let mut j = a;

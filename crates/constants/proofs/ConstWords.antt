@@ -11,7 +11,7 @@ use lib.Seq.{getD-set-same, getD-set-other}
 use Rattle.words.specs.Tab.{tab-zero, tab-suc, tab-ext, set-tab, same-or-not, sum-next}
 use Rattle.words.specs.Layout.{Agree, run, tree, beyond, coreFrom}
 use Rattle.words.proofs.Nodes.{beyond-same}
-use Rattle.scopes.specs.State.{heads, flags, binds, consts, constAt, clenAt, coff, crunAt, CFits, Good, Whole, valueOf, runOf}
+use Rattle.scopes.specs.State.{heads, flags, binds, consts, constAt, clenAt, off, coff, crunAt, CFits, Good, Whole, valueOf, runOf}
 use Rattle.scopes.proofs.Words.{heads-part, part-tree, part-coff, part-crun, whole-none}
 use Rattle.scopes.proofs.Grow.{part-off, part-run, part-binds, part-flags}
 use Rattle.records.specs.Steps.{Listed, Spliced}
@@ -59,15 +59,17 @@ module _ {w w′ : List ℕ} (g : Good w) (t : CKept w w′) where
   ckept-binds = rw n1 (part-binds w′ g (getD w 1 0) (omega arith) bs bt)
 
   module _ (c : ℕ) (is : getD w′ 3 0 ≡ c) where
-    pub ckept-good : c ≤ 256 → coff w′ c ≤ 512 → CFits (heads w) c → ((k : ℕ) → k < c → getD w′ (6672 + k * 2) 0 < 256) → ((k : ℕ) → k < c → Whole (crunAt w′ k)) → Good w′
+    pub ckept-good : getD w 1 0 + c ≤ 256 → off w (getD w 1 0) + coff w′ c ≤ 512 → CFits (heads w) c → ((k : ℕ) → k < c → getD w′ (6672 + k * 2) 0 < 256) → ((k : ℕ) → k < c → Whole (crunAt w′ k)) → Good w′
     ckept-good m v f i q = record {
       long = rw (t .size) (g .long);
       nodes = rw n0 (g .nodes);
       count = rw n1 (g .count);
       depth = rw n2 (g .depth);
-      ccount = rw is m;
+      ccount = rw is (omega arith);
       vals = rw (n1, part-off w′ g (getD w 1 0) (omega arith) bs bt (getD w 1 0) (omega arith)) (g .vals);
-      cvals = rw is v;
+      cvals = rw is (omega arith);
+      live = rw (n1, is) m;
+      recorded = rw (n1, is, part-off w′ g (getD w 1 0) (omega arith) bs bt (getD w 1 0) (omega arith)) v;
       fits = rw (ckept-heads, n1) (g .fits);
       cfits = rw (ckept-heads, is) f;
       ids = rw n1 (λ k h. rw (bt (4112 + k * 10) (omega arith) (omega arith)) (g .ids k h));
@@ -90,7 +92,7 @@ module _ {w w′ : List ℕ} (g : Good w) (t : CKept w w′) where
   }
 
 -- the value of constant k becomes the m nodes of the tree from node i on
-module _ (w v : List ℕ) (g : Good w) (k i m : ℕ) (h : k < getD w 3 0) (hi : i + m ≤ getD w 0 0) (hm : m + coff w (getD w 3 0) ≤ 512 + clenAt w k)
+module _ (w v : List ℕ) (g : Good w) (k i m : ℕ) (h : k < getD w 3 0) (hi : i + m ≤ getD w 0 0) (hm : m + (off w (getD w 1 0) + coff w (getD w 3 0)) ≤ 512 + clenAt w k)
     (s : Spliced w v 3088 (coff w k) (clenAt w k) (coff w (getD w 3 0)) i m) where
   abbrev len : ℕ → ℕ
   len j = 6672 + j * 2 + 1
@@ -110,24 +112,27 @@ module _ (w v : List ℕ) (g : Good w) (k i m : ℕ) (h : k < getD w 3 0) (hi : 
   tree-long : i + m ≤ 1024
   tree-long = omega (arith, g .nodes)
 
+  own : m + coff w (getD w 3 0) ≤ 512 + clenAt w k
+  own = omega arith
+
   out : (j : ℕ) → (j < 3088) ⊎ (4112 ≤ j) → (j ≡ 6672 + k * 2 + 1 → ⊥) → getD w′ j 0 ≡ getD w j 0
-  out = store.out 3088 len (omega arith) (omega arith) above alone w v (getD w 3 0) k i m h within (g .long) tree-long (g .cvals) hm s
+  out = store.out 3088 len (omega arith) (omega arith) above alone w v (getD w 3 0) k i m h within (g .long) tree-long (g .cvals) own s
 
   set-kept : CKept w w′
   set-kept = let l = g .ccount in record {
-    size = store.size 3088 len (omega arith) (omega arith) above alone w v (getD w 3 0) k i m h within (g .long) tree-long (g .cvals) hm s;
+    size = store.size 3088 len (omega arith) (omega arith) above alone w v (getD w 3 0) k i m h within (g .long) tree-long (g .cvals) own s;
     counts = λ j a b. out j (inl (omega arith)) (λ e. omega arith);
     nodes = λ j a b. out j (inl (omega arith)) (λ e. omega arith);
     bind = λ j a b. out j (inr (omega arith)) (λ e. omega arith);
     tail = λ j a b. out j (inr (omega arith)) (λ e. omega arith);
-    rest = store.stored-rest 3088 len (omega arith) (omega arith) above alone w v (getD w 3 0) k i m h within (g .long) tree-long (g .cvals) hm s;
+    rest = store.stored-rest 3088 len (omega arith) (omega arith) above alone w v (getD w 3 0) k i m h within (g .long) tree-long (g .cvals) own s;
   }
 
   run-this : crunAt w′ k ≡ run w 16 i m
-  run-this = store.run-this 3088 len (omega arith) (omega arith) above alone w v (getD w 3 0) k i m h within (g .long) tree-long (g .cvals) hm s
+  run-this = store.run-this 3088 len (omega arith) (omega arith) above alone w v (getD w 3 0) k i m h within (g .long) tree-long (g .cvals) own s
 
   run-other : (j : ℕ) → j < getD w 3 0 → (j ≡ k → ⊥) → crunAt w′ j ≡ crunAt w j
-  run-other = store.run-other 3088 len (omega arith) (omega arith) above alone w v (getD w 3 0) k i m h within (g .long) tree-long (g .cvals) hm s
+  run-other = store.run-other 3088 len (omega arith) (omega arith) above alone w v (getD w 3 0) k i m h within (g .long) tree-long (g .cvals) own s
 
   named : (j : ℕ) → getD w′ (6672 + j * 2) 0 ≡ getD w (6672 + j * 2) 0
   named j = out (6672 + j * 2) (inr (omega arith)) (λ e. omega arith)
@@ -136,7 +141,7 @@ module _ (w v : List ℕ) (g : Good w) (k i m : ℕ) (h : k < getD w 3 0) (hi : 
   n3 = out 3 (inl (omega arith)) (λ e. omega arith)
 
   set-good : runOf (valueOf (run w 16 i m)) ≡ run w 16 i m → Good w′
-  set-good q = ckept-good g set-kept (getD w 3 0) n3 (g .ccount) (store.vals-after 3088 len (omega arith) (omega arith) above alone w v (getD w 3 0) k i m h within (g .long) tree-long (g .cvals) hm s) (g .cfits) (λ j l. rw (named j) (g .cids j l))
+  set-good q = ckept-good g set-kept (getD w 3 0) n3 (g .live) (omega (arith, store.vals-after 3088 len (omega arith) (omega arith) above alone w v (getD w 3 0) k i m h within (g .long) tree-long (g .cvals) own s)) (g .cfits) (λ j l. rw (named j) (g .cids j l))
       (λ j l. ⊎-elim (λ (e : j ≡ k). rw (e, run-this) (record { one = q; names = store.run-names w i m (g .names) hi })) (λ (d : j ≡ k → ⊥). rw (run-other j l d) (g .cwhole j l)) (same-or-not j k))
 
   set-consts : consts w′ ≡ set (consts w) k (getD w (6672 + k * 2) 0, valueOf (run w 16 i m))
@@ -147,7 +152,7 @@ module _ (w v : List ℕ) (g : Good w) (k i m : ℕ) (h : k < getD w 3 0) (hi : 
   const-set q = ckept-listed g set-kept (set (consts w) k (getD w (6672 + k * 2) 0, valueOf (run w 16 i m))) (set-good q) set-consts
 
 -- a constant without a value is appended
-module _ (w : List ℕ) (g : Good w) (x : ℕ) (h : getD w 3 0 < 256) (z : 0 < getD w 2 0) (small : x < 256) where
+module _ (w : List ℕ) (g : Good w) (x : ℕ) (h : getD w 1 0 + getD w 3 0 < 256) (z : 0 < getD w 2 0) (small : x < 256) where
   abbrev c : ℕ
   c = getD w 3 0
 
@@ -193,7 +198,7 @@ module _ (w : List ℕ) (g : Good w) (x : ℕ) (h : getD w 3 0 < 256) (z : 0 < g
   run-old = part-crun y g c (omega arith) cs ct
 
   push-good : Good y
-  push-good = ckept-good g push-kept (c + 1) new-count (omega arith) (omega (arith, sum-next (λ j. clenAt y j) c, part-coff y g c (omega arith) cs ct c (omega arith), new-len, g .cvals)) (cfits-more w g z)
+  push-good = ckept-good g push-kept (c + 1) new-count (omega arith) (omega (arith, sum-next (λ j. clenAt y j) c, part-coff y g c (omega arith) cs ct c (omega arith), new-len, g .recorded)) (cfits-more w g z)
       (λ k l. ⊎-elim (λ (e : k ≡ c). rw (e, new-name) small) (λ (q : k < c). rw (ct (6672 + k * 2) (omega arith) (omega arith)) (g .cids k q)) (eq-or-lt-of-le (omega arith)))
       (λ k l. ⊎-elim (λ (e : k ≡ c). rw (e, run-new) whole-none) (λ (q : k < c). rw (run-old k q) (g .cwhole k q)) (eq-or-lt-of-le (omega arith)))
 

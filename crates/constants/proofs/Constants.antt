@@ -16,12 +16,12 @@ use Rattle.definition.specs.Scope.{VarInfo, Stack, constIn, putConst, addConst,
 use Rattle.words.specs.Tab.{tab, tab-zero, length-tab, getD-tab, take-tab, sum-part}
 use Rattle.words.specs.Layout.{run, coreFrom}
 use Rattle.words.proofs.Nodes.{run-length}
-use Rattle.scopes.specs.State.{Head, split, headAt, headsAt, heads, flags, binds, consts, stack, constAt, clenAt, coff, crunAt, CFits, Good, valueOf}
+use Rattle.scopes.specs.State.{Head, split, headAt, headsAt, heads, flags, binds, consts, stack, constAt, clenAt, off, coff, crunAt, CFits, Good, valueOf}
 use Rattle.scopes.proofs.Split.{tested}
 use Rattle.scopes.proofs.Grow.{some-head}
 use Rattle.records.specs.Steps.{Listed, over}
 use Rattle.constants.specs.Consts.{Own}
-use Rattle.records.proofs.Count.{total, nodesC, total-set, total-append, recorded-split, live-split, recorded-is, live-is, total-binds, total-consts, length-binds, length-consts, fits-binds, fits-consts, nodes-const}
+use Rattle.records.proofs.Count.{total, nodesB, nodesC, total-set, total-append, recorded-split, live-split, recorded-is, live-is, total-binds, total-consts, length-binds, length-consts, fits-binds, fits-consts, nodes-const}
 
 abbrev pub Const : Type 0
 Const = ℕ × Option Tree
@@ -240,7 +240,7 @@ module _ (w : List ℕ) (g : Good w) where
 -- a constant without a value was appended: what a value for it has to fit, and what it then is
 pub record Pushed (w u : List ℕ) (x : ℕ) : Type 0 where
   pub count : getD u 3 0 ≡ getD w 3 0 + 1
-  pub vals : coff u (getD u 3 0) ≡ coff w (getD w 3 0)
+  pub vals : off u (getD u 1 0) + coff u (getD u 3 0) ≡ off w (getD w 1 0) + coff w (getD w 3 0)
   pub set : (v : Option Tree) → set (consts u) (getD w 3 0) (getD u (6672 + getD w 3 0 * 2) 0, v) ≡ consts w ++ ((x, v) ∷ [])
 
 pub after-push : (w u : List ℕ) → Good w → (x : ℕ) → Listed w u (binds w) (consts w ++ ((x, none) ∷ [])) → Pushed w u x
@@ -249,6 +249,6 @@ after-push w u g x l =
     let name : getD u (6672 + getD w 3 0 * 2) 0 ≡ x = sym (ap (λ (c : Const). c .0) (const-there u (l .good) (getD w 3 0) (omega arith))) ∙ ap (λ (cs : List Const). getD cs (getD w 3 0) noConst .0) (l .consts) ∙ ap (λ (c : Const). c .0) (getD-at (consts w) (x, none) [] noConst (getD w 3 0) (length-consts w g)) in
     record {
       count = n;
-      vals = sym (total-consts u (l .good)) ∙ ap (total nodesC) (l .consts) ∙ total-append nodesC (consts w) ((x, none) ∷ []) ∙ omega (arith, total-consts w g);
+      vals = omega (arith, total-consts u (l .good), ap (total nodesC) (l .consts), total-append nodesC (consts w) ((x, none) ∷ []), total-consts w g, total-binds u (l .good), ap (total nodesB) (l .binds), total-binds w g);
       set = λ v. rw (name, l .consts) (set-at (consts w) (x, none) [] (x, v) (getD w 3 0) (length-consts w g));
     }

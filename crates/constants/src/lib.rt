@@ -6,7 +6,7 @@ ghost use mathlib.Core.Option.{none};
 ghost use lib.ListN.{getD, set};
 ghost use Rattle.definition.specs.Scope.{hasConstant, addConst};
 ghost use Rattle.words.specs.Layout.{run};
-ghost use Rattle.scopes.specs.State.{Good, split, stack, heads, flags, binds, consts, coff, valueOf, runOf};
+ghost use Rattle.scopes.specs.State.{Good, split, stack, heads, flags, binds, consts, off, coff, valueOf, runOf};
 ghost use Rattle.records.specs.Steps.{Listed, Grown};
 ghost use Rattle.constants.specs.Consts.{Found, Own};
 use records::Constant;
@@ -64,7 +64,7 @@ fn own_const(w: &[u32], x: u8) -> usize
 
 // Constant k gets as its value the m nodes of the tree from node i on.
 fn set_const(w: &mut [u32], k: usize, i: usize, m: usize)
-    requires { ⌜ (Good (now w)) × (k < getD (now w) 3 0) × (i + m ≤ getD (now w) 0 0) × (m + coff (now w) (getD (now w) 3 0) ≤ 512 + getD (now w) (6672 + k * 2 + 1) 0) × (runOf (valueOf (run (now w) 16 i m)) ≡ run (now w) 16 i m) ⌝ }
+    requires { ⌜ (Good (now w)) × (k < getD (now w) 3 0) × (i + m ≤ getD (now w) 0 0) × (m + (off (now w) (getD (now w) 1 0) + coff (now w) (getD (now w) 3 0)) ≤ 512 + getD (now w) (6672 + k * 2 + 1) 0) × (runOf (valueOf (run (now w) 16 i m)) ≡ run (now w) 16 i m) ⌝ }
     ensures { λ _. ⌜ Listed (now (w .entry)) (now (w .exit)) (binds (now (w .entry))) (set (consts (now (w .entry))) k (getD (now (w .entry)) (6672 + k * 2) 0, valueOf (run (now (w .entry)) 16 i m))) ⌝ }
 {
     let n = w[layout::CONSTANT_COUNT] as usize;
@@ -77,7 +77,7 @@ fn set_const(w: &mut [u32], k: usize, i: usize, m: usize)
 
 // Appends a constant without a value to the innermost scope.
 fn push_const(w: &mut [u32], x: u8)
-    requires { ⌜ (Good (now w)) × (getD (now w) 3 0 < 256) × (0 < getD (now w) 2 0) ⌝ }
+    requires { ⌜ (Good (now w)) × (getD (now w) 1 0 + getD (now w) 3 0 < 256) × (0 < getD (now w) 2 0) ⌝ }
     ensures { λ _. ⌜ Listed (now (w .entry)) (now (w .exit)) (binds (now (w .entry))) (consts (now (w .entry)) ++ ((x, none) ∷ [])) ⌝ }
 {
     let c = w[layout::CONSTANT_COUNT] as usize;

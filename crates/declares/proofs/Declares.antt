@@ -14,7 +14,7 @@ use Rattle.definition.specs.Tree.{countO}
 use Rattle.definition.specs.Scope.{VarInfo, Scope, Stack, VarType, findIn, hasIn, isSome, changeIn, change, onBindings, append, fresh, redeclare, withValue, valueO, valuesIn, recordedNodes, live, prevent, preventOne, preventInline, preventInlineO, findBindingFromCurrent, valueIs, declare, kept, initOf, identOf, preventedO, shouldPreventInlineBecauseOfScope, aliasFrom, idxValO, idxVal, placeOr, inLoop, isParam, paramO, barred}
 use Rattle.definition.specs.Scope as def
 use Rattle.words.specs.Tab.{sum-part}
-use Rattle.scopes.specs.State.{Good, Becomes, binds, stack, bindAt, lenAt, off, valueOf}
+use Rattle.scopes.specs.State.{Good, Becomes, binds, stack, bindAt, lenAt, off, coff, valueOf}
 use Rattle.scopes.proofs.Split as laws
 use Rattle.records.specs.Steps.{over, putAt}
 use Rattle.records.proofs.Count.{depth-is, nodesB, total-append, length-binds, recorded-is, values-in, nodes-bind}
@@ -162,7 +162,7 @@ module _ (w : List ℕ) (g : Good w) (z : 0 < getD w 2 0) (b : VarInfo) where
     deep-after : 0 < getD u 2 0
     deep-after = omega (arith, depth-is u, ap length (t .is), append-depth b (stack w), depth-is w)
 
-    pub vals-after : off u (getD u 1 0) ≤ recordedNodes (stack w) + countO (b .value)
+    pub vals-after : off u (getD u 1 0) + coff u (getD u 3 0) ≤ recordedNodes (stack w) + countO (b .value)
     vals-after = omega (arith, recorded-is u (t .good), ap recordedNodes (t .is), recorded-append b (stack w) deep)
 
     pub last-valued : (v : Option Tree) → putAt u (getD w 1 0) (withValue v (bindAt u (getD w 1 0))) ≡ append (withValue v b) (stack w)

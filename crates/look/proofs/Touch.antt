@@ -103,6 +103,8 @@ module _ {w w′ : List ℕ} (g : Good w) (t : Touched w w′) where
     ccount = rw (count 3 (omega arith)) (g .ccount);
     vals = rw (count 1 (omega arith), off-same (getD w 1 0) (g .count)) (g .vals);
     cvals = rw (count 3 (omega arith), part-coff w′ g (getD w 3 0) (omega arith) cstore (const (getD w 3 0) (g .ccount)) (getD w 3 0) (omega arith)) (g .cvals);
+    live = rw (count 1 (omega arith), count 3 (omega arith)) (g .live);
+    recorded = rw (count 1 (omega arith), count 3 (omega arith), off-same (getD w 1 0) (g .count), part-coff w′ g (getD w 3 0) (omega arith) cstore (const (getD w 3 0) (g .ccount)) (getD w 3 0) (omega arith)) (g .recorded);
     fits = rw (count 2 (omega arith), count 1 (omega arith)) (fits-same (getD w 2 0) (getD w 1 0) (g .depth) (g .fits));
     cfits = rw (count 2 (omega arith), count 3 (omega arith)) (cfits-same (getD w 2 0) (getD w 3 0) (g .depth) (g .cfits));
     ids = rw (count 1 (omega arith)) (λ k l. let c = g .count in rw (name k (omega arith)) (g .ids k l));

@@ -72,6 +72,8 @@ module _ {w w′ : List ℕ} (g : Good w) (a : Beside w w′) where
         ccount = rw three (g .ccount);
         vals = rw (one, runs-off g runs-same (getD w 1 0) (g .count)) (g .vals);
         cvals = rw (three, part-coff w′ g (getD w 3 0) (omega arith) (λ j x y. a .high j (omega arith)) (λ j x y. a .high j (omega arith)) (getD w 3 0) (omega arith)) (g .cvals);
+        live = rw (one, three) (g .live);
+        recorded = rw (one, three, runs-off g runs-same (getD w 1 0) (g .count), part-coff w′ g (getD w 3 0) (omega arith) (λ j x y. a .high j (omega arith)) (λ j x y. a .high j (omega arith)) (getD w 3 0) (omega arith)) (g .recorded);
         fits = rw (heads-same, one) (g .fits);
         cfits = rw (heads-same, three) (g .cfits);
         ids = rw one (λ k h. rw (a .high (4112 + k * 10) (omega arith)) (g .ids k h));

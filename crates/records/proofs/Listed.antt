@@ -8,14 +8,14 @@ use Prim.Native.Nat.{ℕ, suc, _+_, _-_, _*_, _≤_, _<_}
 use native.Mathlib.Omega.{arith}
 use lib.ListN.{length, getD, set, length-set}
 use lib.Dec.{ltb}
-use borrow.Author.Tests.{ltb-false}
+use borrow.Author.Tests.{le-ltb, ltb-false}
 use Rattle.tree.specs.Tree.{Tree, Core, noCore}
 use Rattle.definition.specs.Tree.{countO}
 use Rattle.definition.specs.Scope.{VarInfo, Stack, change, withValue, recordedNodes, live}
 use Rattle.words.specs.Tab.{tab, tab-ext, length-tab, getD-tab, set-tab, same-or-not, sum-part}
 use Rattle.words.specs.Layout.{yes, Agree, run, nodeOf, tree}
 use Rattle.words.proofs.Nodes.{run-length, tree-length, tree-at}
-use Rattle.scopes.specs.State.{Good, Others, Becomes, split, heads, flags, binds, consts, stack, bindAt, lenAt, off, runAt, valueOf, runOf, varTypeOf, aliasAt, place}
+use Rattle.scopes.specs.State.{Good, Others, Becomes, split, heads, flags, binds, consts, stack, bindAt, lenAt, off, coff, runAt, valueOf, runOf, varTypeOf, aliasAt, place}
 use Rattle.scopes.proofs.Split as laws
 use Rattle.scopes.proofs.Words.{Kept, kept-heads, kept-flags, kept-consts, kept-tree, kept-good, bind-eq}
 use Rattle.records.specs.Steps.{Listed, Still, Spliced, over, putAt, Grown}
@@ -119,11 +119,15 @@ module _ (w : List ℕ) (g : Good w) (k i m : ℕ) (h : k < getD w 1 0) (q : run
   pub over-value : over (change x (withValue (valueOf (run w 16 i m))) (stack w)) ≡ (ltb 512 (recordedNodes (stack w) - lenAt w k + m) || ltb 256 (live (stack w) + 0))
   over-value = ap over (change-at w k h x (withValue (valueOf (run w 16 i m))) e) ∙ over-put w k h g (withValue (valueOf (run w 16 i m)) (bindAt w k)) ∙ ap (λ (n : ℕ). ltb 512 (recordedNodes (stack w) - lenAt w k + n) || ltb 256 (live (stack w) + 0)) (count-tree w i m q)
 
-pub over-same : (st : Stack) → over st ≡ (ltb 512 (recordedNodes st - 0 + 0) || ltb 256 (live st + 0))
-over-same st = let a : recordedNodes st - 0 + 0 ≡ recordedNodes st = omega arith in let b : live st + 0 ≡ live st = omega arith in rw (a, b) refl
+-- good words are within row 9: a step to them is not refused
+pub good-under : (w : List ℕ) → Good w → over (stack w) ≡ false
+good-under w g = rw (le-ltb 512 (recordedNodes (stack w)) (omega (arith, recorded-is w g, g .recorded)), le-ltb 256 (live (stack w)) (omega (arith, live-is w g, g .live))) refl
+
+pub done-under : {w w′ : List ℕ} {st : Stack} → Becomes w w′ st → Grown w w′ st Done
+done-under {w} {w′} b = (b, sym (ap over (b .is)) ∙ good-under w′ (b .good))
 
 -- the value of binding k becomes the m nodes of the tree from node i on
-module _ (w v : List ℕ) (g : Good w) (k i m : ℕ) (h : k < getD w 1 0) (hi : i + m ≤ getD w 0 0) (hm : m + off w (getD w 1 0) ≤ 512 + lenAt w k)
+module _ (w v : List ℕ) (g : Good w) (k i m : ℕ) (h : k < getD w 1 0) (hi : i + m ≤ getD w 0 0) (hm : m + (off w (getD w 1 0) + coff w (getD w 3 0)) ≤ 512 + lenAt w k)
     (s : Spliced w v 2064 (off w k) (lenAt w k) (off w (getD w 1 0)) i m) where
   abbrev len : ℕ → ℕ
   len j = 4112 + j * 10 + 8
@@ -143,28 +147,31 @@ module _ (w v : List ℕ) (g : Good w) (k i m : ℕ) (h : k < getD w 1 0) (hi : 
   tree-long : i + m ≤ 1024
   tree-long = omega (arith, g .nodes)
 
+  own : m + off w (getD w 1 0) ≤ 512 + lenAt w k
+  own = omega arith
+
   out : (j : ℕ) → (j < 2064) ⊎ (3088 ≤ j) → (j ≡ 4112 + k * 10 + 8 → ⊥) → getD w′ j 0 ≡ getD w j 0
-  out = store.out 2064 len (omega arith) (omega arith) above alone w v (getD w 1 0) k i m h within (g .long) tree-long (g .vals) hm s
+  out = store.out 2064 len (omega arith) (omega arith) above alone w v (getD w 1 0) k i m h within (g .long) tree-long (g .vals) own s
 
   aside : (j f : ℕ) → f < 10 → (f ≡ 8 → ⊥) → getD w′ (4112 + j * 10 + f) 0 ≡ getD w (4112 + j * 10 + f) 0
   aside j f l d = out (4112 + j * 10 + f) (inr (omega arith)) (λ e. omega arith)
 
   value-kept : Kept w w′
   value-kept = let l = g .count in record {
-    size = store.size 2064 len (omega arith) (omega arith) above alone w v (getD w 1 0) k i m h within (g .long) tree-long (g .vals) hm s;
+    size = store.size 2064 len (omega arith) (omega arith) above alone w v (getD w 1 0) k i m h within (g .long) tree-long (g .vals) own s;
     counts = λ j a b. out j (inl (omega arith)) (λ e. omega arith);
     nodes = λ j a b. out j (inl (omega arith)) (λ e. omega arith);
     cstore = λ j a b. out j (inr (omega arith)) (λ e. omega arith);
     tail = λ j a b. out j (inr (omega arith)) (λ e. omega arith);
     flag = λ j a. aside j 9 (omega arith) (λ e. omega arith);
-    rest = store.stored-rest 2064 len (omega arith) (omega arith) above alone w v (getD w 1 0) k i m h within (g .long) tree-long (g .vals) hm s;
+    rest = store.stored-rest 2064 len (omega arith) (omega arith) above alone w v (getD w 1 0) k i m h within (g .long) tree-long (g .vals) own s;
   }
 
   run-this : runAt w′ k ≡ run w 16 i m
-  run-this = store.run-this 2064 len (omega arith) (omega arith) above alone w v (getD w 1 0) k i m h within (g .long) tree-long (g .vals) hm s
+  run-this = store.run-this 2064 len (omega arith) (omega arith) above alone w v (getD w 1 0) k i m h within (g .long) tree-long (g .vals) own s
 
   run-other : (j : ℕ) → j < getD w 1 0 → (j ≡ k → ⊥) → runAt w′ j ≡ runAt w j
-  run-other = store.run-other 2064 len (omega arith) (omega arith) above alone w v (getD w 1 0) k i m h within (g .long) tree-long (g .vals) hm s
+  run-other = store.run-other 2064 len (omega arith) (omega arith) above alone w v (getD w 1 0) k i m h within (g .long) tree-long (g .vals) own s
 
   named : (j : ℕ) → getD w′ (4112 + j * 10) 0 ≡ getD w (4112 + j * 10) 0
   named j = out (4112 + j * 10) (inr (omega arith)) (λ e. omega arith)
@@ -176,7 +183,7 @@ module _ (w v : List ℕ) (g : Good w) (k i m : ℕ) (h : k < getD w 1 0) (hi : 
 
   value-good : runOf (valueOf (run w 16 i m)) ≡ run w 16 i m → Good w′
   value-good q =
-      kept-good g value-kept (store.vals-after 2064 len (omega arith) (omega arith) above alone w v (getD w 1 0) k i m h within (g .long) tree-long (g .vals) hm s) (λ j l. rw (named j) (g .ids j l))
+      kept-good g value-kept (omega (arith, store.vals-after 2064 len (omega arith) (omega arith) above alone w v (getD w 1 0) k i m h within (g .long) tree-long (g .vals) own s)) (λ j l. rw (named j) (g .ids j l))
       (λ j l. ⊎-elim (λ (e : j ≡ k). rw (e, run-this) (record { one = q; names = store.run-names w i m (g .names) hi })) (λ (d : j ≡ k → ⊥). rw (run-other j l d) (g .whole j l)) (same-or-not j k))
 
   pub valued : runOf (valueOf (run w 16 i m)) ≡ run w 16 i m → Listed w w′ (set (binds w) k (withValue (valueOf (run w 16 i m)) (bindAt w k))) (consts w)

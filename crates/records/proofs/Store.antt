@@ -70,8 +70,8 @@ module _ (base : ℕ) (len : ℕ → ℕ) where
     off-high : (j : ℕ) → k < j → offs w′ j + getD w (len k) 0 ≡ offs w j + m
     off-high j l = sum-one (λ q. getD w′ (len q) 0) (λ q. getD w (len q) 0) k j l (λ q a d. len-other q d) ∙ ap (λ (q : ℕ). offs w j + q) len-this
 
-    pub vals-after : offs w′ n ≤ 512
-    vals-after = omega (arith, off-high n h)
+    pub vals-after : offs w′ n + getD w (len k) 0 ≡ offs w n + m
+    vals-after = off-high n h
 
     store : (j : ℕ) → j < 4112 → getD w′ j 0 ≡ getD v j 0
     store j l = getD-set-other v (len k) j m 0 (λ e. omega (arith, above k))

@@ -96,12 +96,23 @@ pub fn live(w: &[u32]) -> usize
     w[layout::BINDING_COUNT] as usize + w[layout::CONSTANT_COUNT] as usize
 }
 
+// Are there more nodes than row 9 allows once old nodes give way to m: there can be only where m are more.
+fn nodes_pass(w: &[u32], old: usize, m: usize) -> bool
+    requires { ⌜ (Good (now w)) × (old ≤ recordedNodes (stack (now w))) × (m ≤ 1024) ⌝ }
+    ensures { λ r. ⌜ r ≡ ltb 512 (recordedNodes (stack (now (w .entry))) - old + m) ⌝ }
+{
+    if m <= old {
+        return false;
+    }
+    512 < recorded_nodes(w) - old + m
+}
+
 // Is row 9 passed once old nodes give way to m, and there are `more` records more.
 pub fn passes(w: &[u32], old: usize, m: usize, more: usize) -> bool
     requires { ⌜ (Good (now w)) × (old ≤ recordedNodes (stack (now w))) × (m ≤ 1024) × (more ≤ 1) ⌝ }
     ensures { λ r. ⌜ r ≡ (ltb 512 (recordedNodes (stack (now (w .entry))) - old + m) || ltb 256 (live (stack (now (w .entry))) + more)) ⌝ }
 {
-    if 512 < recorded_nodes(w) - old + m {
+    if nodes_pass(w, old, m) {
         return true;
     }
     256 < live(w) + more
@@ -109,7 +120,7 @@ pub fn passes(w: &[u32], old: usize, m: usize, more: usize) -> bool
 
 // Binding k gets as its value the m nodes of the tree from node i on, which are one tree or none.
 pub fn set_run(w: &mut [u32], k: usize, i: usize, m: usize)
-    requires { ⌜ (Good (now w)) × (k < getD (now w) 1 0) × (i + m ≤ getD (now w) 0 0) × (m + off (now w) (getD (now w) 1 0) ≤ 512 + getD (now w) (4112 + k * 10 + 8) 0) × (runOf (valueOf (run (now w) 16 i m)) ≡ run (now w) 16 i m) ⌝ }
+    requires { ⌜ (Good (now w)) × (k < getD (now w) 1 0) × (i + m ≤ getD (now w) 0 0) × (m + (off (now w) (getD (now w) 1 0) + coff (now w) (getD (now w) 3 0)) ≤ 512 + getD (now w) (4112 + k * 10 + 8) 0) × (runOf (valueOf (run (now w) 16 i m)) ≡ run (now w) 16 i m) ⌝ }
     ensures { λ _. ⌜ (Listed (now (w .entry)) (now (w .exit)) (set (binds (now (w .entry))) k (withValue (valueOf (run (now (w .entry)) 16 i m)) (bindAt (now (w .entry)) k))) (consts (now (w .entry)))) × (Agree (4112 + k * 10 + 10) 6672 (now (w .entry)) (now (w .exit))) ⌝ }
 {
     let n = w[layout::BINDING_COUNT] as usize;
@@ -127,9 +138,6 @@ pub fn record_value(w: &mut [u32], x: u8, i: usize, m: usize) -> Step
 {
     let k1 = find_binding(w, x);
     if k1 == 0 {
-        if passes(w, 0, 0, 0) {
-            return Step::Refused(9);
-        }
         return Step::Done;
     }
     let k = k1 - 1;

@@ -9,11 +9,11 @@ use lib.Dec.{ltb}
 use lib.Seq.{getD-set-same, set-set}
 use Rattle.definition.specs.Tree.{countO}
 use Rattle.definition.specs.Scope.{VarInfo, recordedNodes, live}
-use Rattle.words.specs.Tab.{tab-zero, sum-part}
+use Rattle.words.specs.Tab.{tab-zero}
 use Rattle.words.specs.Layout.{run, coreFrom}
 use Rattle.scopes.specs.State.{Good, bindAt, binds, consts, stack, lenAt}
 use Rattle.records.specs.Steps.{Listed, over, putAt}
-use Rattle.records.proofs.Count.{length-binds, recorded-is, nodes-bind}
+use Rattle.records.proofs.Count.{length-binds, length-consts}
 use Rattle.records.proofs.Listed.{bind-there, over-put, listed-then}
 
 -- a value of no node
@@ -33,12 +33,9 @@ twice {w} {u} {v} k b f h g one two =
 pub listed-count : {w u : List ℕ} (k : ℕ) (b : VarInfo) → Good w → Listed w u (set (binds w) k b) (consts w) → getD u 1 0 ≡ getD w 1 0
 listed-count {w} {u} k b g l = sym (length-binds u (l .good)) ∙ ap length (l .binds) ∙ simp length-set (length-binds w g)
 
+pub listed-ccount : {w u : List ℕ} {bs : List VarInfo} → Good w → Listed w u bs (consts w) → getD u 3 0 ≡ getD w 3 0
+listed-ccount {w} {u} g l = sym (length-consts u (l .good)) ∙ ap length (l .consts) ∙ length-consts w g
+
 -- a binding declared again, with a value of n nodes
 pub over-re : (w : List ℕ) (g : Good w) (k n : ℕ) (h : k < getD w 1 0) (c : VarInfo) → countO (c .value) ≡ n → over (putAt w k c) ≡ (ltb 512 (recordedNodes (stack w) - lenAt w k + n) || ltb 256 (live (stack w) + 0))
 over-re w g k n h c e = over-put w k h g c ∙ ap (λ (m : ℕ). ltb 512 (recordedNodes (stack w) - lenAt w k + m) || ltb 256 (live (stack w) + 0)) e
-
-pub over-kept : (w : List ℕ) (g : Good w) (k : ℕ) (h : k < getD w 1 0) (c : VarInfo) → c .value ≡ bindAt w k .value → over (putAt w k c) ≡ (ltb 512 (recordedNodes (stack w) - 0 + 0) || ltb 256 (live (stack w) + 0))
-over-kept w g k h c e =
-    let p = sum-part (λ j. lenAt w j) k (getD w 1 0) h in
-    let q : recordedNodes (stack w) - lenAt w k + lenAt w k ≡ recordedNodes (stack w) - 0 + 0 = omega (arith, recorded-is w g) in
-    over-re w g k (lenAt w k) h c (ap countO e ∙ nodes-bind w g k h) ∙ ap (λ (m : ℕ). ltb 512 m || ltb 256 (live (stack w) + 0)) q

@@ -80,14 +80,11 @@ pub fn redeclare_as(w: &mut [u32], k: usize, i: usize, m: usize, prevented: u32,
     Step::Done
 }
 
-// Binding k is declared again, and keeps its value.
+// Binding k is declared again, and keeps its value: nothing more is recorded.
 pub fn redeclare_seen(w: &mut [u32], k: usize, prevented: u32, undef: u32) -> Step
     requires { ⌜ (Good (now w)) × (k < getD (now w) 1 0) ⌝ }
     ensures { λ r. ⌜ Grown (now (w .entry)) (now (w .exit)) (putAt (now (w .entry)) k (redeclare (yes prevented) (yes undef) (bindAt (now (w .entry)) k .value) (bindAt (now (w .entry)) k))) r ⌝ }
 {
-    if passes(w, 0, 0, 0) {
-        return Step::Refused(9);
-    }
     remark(w, k, prevented, undef);
     Step::Done
 }

@@ -56,6 +56,8 @@ module _ {w u : List ℕ} (l : Loaded w) (f : Fields w u) where
     ccount = rw (f .constants) (omega arith);
     vals = rw (f .bindings) (omega arith);
     cvals = rw (f .constants) (omega arith);
+    live = rw (f .bindings, f .constants) (omega arith);
+    recorded = rw (f .bindings, f .constants) (omega arith);
     fits = rw (f .scopes) (f .bindings);
     cfits = rw (f .scopes) (f .constants);
     ids = λ k h. absurd (omega (arith, f .bindings, h));

@@ -29,7 +29,7 @@ unfolding headsAt
 some-head w zero h = absurd (omega arith)
 some-head w (suc d) h = let e : suc d - 1 ≡ d = omega arith in rw e refl
 
-module _ (w u v : List ℕ) (g : Good w) (h : getD w 1 0 < 256) (z : 0 < getD w 2 0) (id kind alias reads prevented undef sensitive hoisted : ℕ) (small : id < 256)
+module _ (w u v : List ℕ) (g : Good w) (h : getD w 1 0 + getD w 3 0 < 256) (z : 0 < getD w 2 0) (id kind alias reads prevented undef sensitive hoisted : ℕ) (small : id < 256)
     (one : Put5 w u (4112 + getD w 1 0 * 10) id kind alias reads prevented) (two : Put5 u v (4112 + getD w 1 0 * 10 + 5) undef sensitive hoisted 0 0) where
   abbrev n : ℕ
   n = getD w 1 0
@@ -96,6 +96,9 @@ module _ (w u v : List ℕ) (g : Good w) (h : getD w 1 0 < 256) (z : 0 < getD w 
   abbrev ct : Agree 6672 (6672 + getD w 3 0 * 2) w w′
   ct = λ j a b. out j (inr (omega arith)) (λ e. omega arith)
 
+  pub pushed-consts : getD w′ 3 0 ≡ getD w 3 0
+  pushed-consts = out 3 (inl (omega arith)) (λ e. omega arith)
+
   size : length w′ ≡ length w
   size = simp length-set (two .size ∙ one .size)
 
@@ -115,6 +118,8 @@ module _ (w u v : List ℕ) (g : Good w) (h : getD w 1 0 < 256) (z : 0 < getD w 
     ccount = rw (out 3 (inl (omega arith)) (λ e. omega arith)) (g .ccount);
     vals = rw count (omega (arith, sum-next (λ q. lenAt w′ q) n, off-old n (omega arith), len-new, g .vals));
     cvals = rw (out 3 (inl (omega arith)) (λ e. omega arith), part-coff w′ g (getD w 3 0) (omega arith) cs ct (getD w 3 0) (omega arith)) (g .cvals);
+    live = rw (count, pushed-consts) (omega arith);
+    recorded = rw (count, pushed-consts, part-coff w′ g (getD w 3 0) (omega arith) cs ct (getD w 3 0) (omega arith)) (omega (arith, sum-next (λ q. lenAt w′ q) n, off-old n (omega arith), len-new, g .recorded));
     fits = rw (heads-new, count) push-fits;
     cfits = rw (heads-new, out 3 (inl (omega arith)) (λ e. omega arith)) (g .cfits);
     ids = rw count (λ k l. ⊎-elim
@@ -254,6 +259,8 @@ module _ (w u v : List ℕ) (g : Good w) (h : getD w 2 0 < 32) (kind : ℕ) (one
     ccount = rw n3 (g .ccount);
     vals = rw (n1, part-off x g (getD w 1 0) (omega arith) ov ob (getD w 1 0) (omega arith)) (g .vals);
     cvals = rw (n3, part-coff x g (getD w 3 0) (omega arith) ow oc (getD w 3 0) (omega arith)) (g .cvals);
+    live = rw (n1, n3) (g .live);
+    recorded = rw (n1, n3, part-off x g (getD w 1 0) (omega arith) ov ob (getD w 1 0) (omega arith), part-coff x g (getD w 3 0) (omega arith) ow oc (getD w 3 0) (omega arith)) (g .recorded);
     fits = rw (heads-open, n1) (omega (arith, start-at), rw start-at (g .fits));
     cfits = rw (heads-open, n3) (omega (arith, cstart-at), rw cstart-at (g .cfits));
     ids = rw n1 (λ k l. rw (ob (4112 + k * 10) (omega arith) (omega arith)) (g .ids k l));

@@ -111,6 +111,8 @@ module _ (w u : List ℕ) (g : Good w) (d : ℕ) (is : getD w 2 0 ≡ d + 1) (z 
     ccount = omega (arith, n3, cfits .0, g .ccount);
     vals = rw (n1, part-off x g n (fits .0) ov ob n (omega arith)) (omega (arith, sum-le (λ j. lenAt w j) n (getD w 1 0) (fits .0), g .vals));
     cvals = rw (n3, part-coff x g c (cfits .0) ow oc c (omega arith)) (omega (arith, sum-le (λ j. clenAt w j) c (getD w 3 0) (cfits .0), g .cvals));
+    live = omega (arith, n1, n3, fits .0, cfits .0, g .live);
+    recorded = rw (n1, n3, part-off x g n (fits .0) ov ob n (omega arith), part-coff x g c (cfits .0) ow oc c (omega arith)) (omega (arith, sum-le (λ j. lenAt w j) n (getD w 1 0) (fits .0), sum-le (λ j. clenAt w j) c (getD w 3 0) (cfits .0), g .recorded));
     fits = rw (heads-are, n1) (rw (head-word 1 (omega arith)) (fits .1));
     cfits = rw (heads-are, n3) (rw (head-word 2 (omega arith)) (cfits .1));
     ids = rw n1 (λ k l. rw (ob (4112 + k * 10) (omega arith) (omega arith)) (g .ids k (omega (arith, fits .0))));
@@ -127,6 +129,9 @@ module _ (w u : List ℕ) (g : Good w) (d : ℕ) (is : getD w 2 0 ≡ d + 1) (z 
     rw n1 (part-binds x g n (fits .0) ov ob ∙ sym (take-tab n (getD w 1 0) (λ k. bindAt w k) (fits .0))),
     rw n3 (part-consts x g c (cfits .0) ow oc ∙ sym (take-tab c (getD w 3 0) (λ k. constAt w k) (cfits .0))),
   )
+
+  pub dropped-consts : getD x 3 0 ≤ getD w 3 0
+  dropped-consts = omega (arith, n3, cfits .0)
 
   pub dropped-past : Agree 4112 6672 w x
   dropped-past j a b = low j (omega arith) (inl (omega arith))

@@ -152,16 +152,18 @@ module _ {w w′ : List ℕ} (g : Good w) (t : Kept w w′) where
   kept-others : Others w w′
   kept-others = record { low = λ j a b. t .counts j (omega arith) b; high = λ j a b. t .tail j (omega arith) b }
 
-  -- the bindings' values are within their limit and whole, and their names below 256
-  pub kept-good : off w′ (getD w 1 0) ≤ 512 → ((k : ℕ) → k < getD w 1 0 → getD w′ (4112 + k * 10) 0 < 256) → ((k : ℕ) → k < getD w 1 0 → Whole (runAt w′ k)) → Good w′
+  -- the values are within their limit, those of bindings whole, and the bindings' names below 256
+  pub kept-good : off w′ (getD w 1 0) + coff w (getD w 3 0) ≤ 512 → ((k : ℕ) → k < getD w 1 0 → getD w′ (4112 + k * 10) 0 < 256) → ((k : ℕ) → k < getD w 1 0 → Whole (runAt w′ k)) → Good w′
   kept-good o i v = record {
     long = rw (t .size) (g .long);
     nodes = rw (t .counts 0 (omega arith) (omega arith)) (g .nodes);
     count = rw (t .counts 1 (omega arith) (omega arith)) (g .count);
     depth = rw (t .counts 2 (omega arith) (omega arith)) (g .depth);
     ccount = rw (t .counts 3 (omega arith) (omega arith)) (g .ccount);
-    vals = rw (t .counts 1 (omega arith) (omega arith)) o;
+    vals = rw (t .counts 1 (omega arith) (omega arith)) (omega arith);
     cvals = rw (t .counts 3 (omega arith) (omega arith), part-coff w′ g (getD w 3 0) (omega arith) (t .cstore) kept-const (getD w 3 0) (omega arith)) (g .cvals);
+    live = rw (t .counts 1 (omega arith) (omega arith), t .counts 3 (omega arith) (omega arith)) (g .live);
+    recorded = rw (t .counts 1 (omega arith) (omega arith), t .counts 3 (omega arith) (omega arith), part-coff w′ g (getD w 3 0) (omega arith) (t .cstore) kept-const (getD w 3 0) (omega arith)) o;
     fits = rw (kept-heads, t .counts 1 (omega arith) (omega arith)) (g .fits);
     cfits = rw (kept-heads, t .counts 3 (omega arith) (omega arith)) (g .cfits);
     ids = rw (t .counts 1 (omega arith) (omega arith)) i;
@@ -199,7 +201,7 @@ module _ {w w′ : List ℕ} (g : Good w) (r : Runs w w′) where
       (run-same w w′ 2064 (off w k) (lenAt w k) 512 (omega (arith, sum-part (λ j. lenAt w j) k (getD w 1 0) h, g .vals)) (λ j a b. r .store j a (omega arith)))
 
   pub runs-good : Kept w w′ → Good w′
-  runs-good t = kept-good g t (rw (runs-off (getD w 1 0) (g .count)) (g .vals)) (λ k h. let l = g .count in rw (r .ids k (omega arith)) (g .ids k h)) (λ k h. rw (runs-at k h) (g .whole k h))
+  runs-good t = kept-good g t (rw (runs-off (getD w 1 0) (g .count)) (g .recorded)) (λ k h. let l = g .count in rw (r .ids k (omega arith)) (g .ids k h)) (λ k h. rw (runs-at k h) (g .whole k h))
 
 -- a binding by its fields, and by its words
 pub bind-eq : {a a′ d d′ : ℕ} {b b′ : VarType} {c c′ : Option VarType} {e e′ f f′ h h′ i i′ : Bool} {v v′ : Option Tree} → a ≡ a′ → b ≡ b′ → c ≡ c′ → d ≡ d′ → e ≡ e′ → f ≡ f′ → v ≡ v′ → h ≡ h′ → i ≡ i′

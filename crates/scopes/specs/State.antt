@@ -171,6 +171,9 @@ pub record Good (w : List ℕ) : Type 0 where
   pub ccount : getD w 3 0 ≤ 256
   pub vals : off w (getD w 1 0) ≤ 512
   pub cvals : coff w (getD w 3 0) ≤ 512
+  -- row 9: bindings and constants together
+  pub live : getD w 1 0 + getD w 3 0 ≤ 256
+  pub recorded : off w (getD w 1 0) + coff w (getD w 3 0) ≤ 512
   pub fits : Fits (heads w) (getD w 1 0)
   pub cfits : CFits (heads w) (getD w 3 0)
   pub ids : (k : ℕ) → k < getD w 1 0 → getD w (4112 + k * 10) 0 < 256

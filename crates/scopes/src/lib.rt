@@ -214,8 +214,8 @@ pub fn append_record(
     sensitive: u32,
     hoisted: u32,
 )
-    requires { ⌜ (Good (now w)) × (getD (now w) 1 0 < 256) × (0 < getD (now w) 2 0) ⌝ }
-    ensures { λ _. ⌜ (Becomes (now (w .entry)) (now (w .exit)) (append (bareOf id kind alias reads prevented undef sensitive hoisted) (stack (now (w .entry))))) × (Agree (4112 + getD (now (w .entry)) 1 0 * 10 + 10) 6672 (now (w .entry)) (now (w .exit))) × (getD (now (w .exit)) 1 0 ≡ getD (now (w .entry)) 1 0 + 1) ⌝ }
+    requires { ⌜ (Good (now w)) × (getD (now w) 1 0 + getD (now w) 3 0 < 256) × (0 < getD (now w) 2 0) ⌝ }
+    ensures { λ _. ⌜ (Becomes (now (w .entry)) (now (w .exit)) (append (bareOf id kind alias reads prevented undef sensitive hoisted) (stack (now (w .entry))))) × (Agree (4112 + getD (now (w .entry)) 1 0 * 10 + 10) 6672 (now (w .entry)) (now (w .exit))) × (getD (now (w .exit)) 1 0 ≡ getD (now (w .entry)) 1 0 + 1) × (getD (now (w .exit)) 3 0 ≡ getD (now (w .entry)) 3 0) ⌝ }
 {
     let n = w[layout::BINDING_COUNT] as usize;
     put5(
@@ -241,7 +241,7 @@ pub fn append_record(
 
 // Appends a binding that was not read yet.
 pub fn push(w: &mut [u32], id: u8, kind: u32, alias: u32, prevented: u32, undef: u32)
-    requires { ⌜ (Good (now w)) × (getD (now w) 1 0 < 256) × (0 < getD (now w) 2 0) ⌝ }
+    requires { ⌜ (Good (now w)) × (getD (now w) 1 0 + getD (now w) 3 0 < 256) × (0 < getD (now w) 2 0) ⌝ }
     ensures { λ _. ⌜ Becomes (now (w .entry)) (now (w .exit)) (append (fresh id (varTypeOf kind) (aliasAt alias) (yes prevented) (yes undef) none) (stack (now (w .entry)))) ⌝ }
 {
     append_record(w, id, kind, alias, 0, prevented, undef, 0, 0);
@@ -263,7 +263,7 @@ pub fn open(w: &mut [u32], kind: u32)
 // Drops the innermost of two or more scopes with its records; what was unresolved in it is unresolved above.
 pub fn drop_scope(w: &mut [u32])
     requires { ⌜ (Good (now w)) × (1 < getD (now w) 2 0) ⌝ }
-    ensures { λ _. ⌜ (Becomes (now (w .entry)) (now (w .exit)) (dropInner (stack (now (w .entry))))) × (Agree 4112 6672 (now (w .entry)) (now (w .exit))) × (getD (now (w .exit)) 1 0 ≡ getD (now (w .entry)) (7184 + (getD (now (w .entry)) 2 0 - 1) * 4 + 1) 0) ⌝ }
+    ensures { λ _. ⌜ (Becomes (now (w .entry)) (now (w .exit)) (dropInner (stack (now (w .entry))))) × (Agree 4112 6672 (now (w .entry)) (now (w .exit))) × (getD (now (w .exit)) 1 0 ≡ getD (now (w .entry)) (7184 + (getD (now (w .entry)) 2 0 - 1) * 4 + 1) 0) × (getD (now (w .exit)) 3 0 ≤ getD (now (w .entry)) 3 0) ⌝ }
 {
     let d = w[layout::SCOPE_COUNT] as usize - 1;
     let n = w[layout::SCOPES + d * 4 + layout::FIRST_BINDING];

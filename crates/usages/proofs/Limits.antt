@@ -19,7 +19,6 @@ use Rattle.records.specs.declared.Step.the-variants.{Done, Refused}
 use Rattle.records.proofs.Count.{live-is}
 use Rattle.look.proofs.Facts.{or-true}
 use Rattle.look.proofs.Out as out
-use Rattle.usages.specs.Rows.{Ruled}
 
 -- a binding more
 live-append : (b : VarInfo) (s : Scope) (st : Stack) → live (append b (s ∷ st)) ≡ live (s ∷ st) + 1
@@ -51,10 +50,6 @@ becomes-then f a b = record {
 
 pub still : {w w′ : List ℕ} {st : Stack} → Becomes w w′ st → Still w w′
 still b = record { good = b .good; tree = b .tree; others = b .others; rest = b .rest }
-
-pub stepped : {w w′ : List ℕ} {st : Stack} (r : Step) → Becomes w w′ st → Ruled (stack w′) r → Grown w w′ st r
-stepped Done b e = (b, sym (ap over (b .is)) ∙ e)
-stepped (Refused n) b e = (e .0, sym (ap over (b .is)) ∙ e .1, still b)
 
 pub refused : (w : List ℕ) (st : Stack) → Good w → over st ≡ true → Grown w w st (Refused 9)
 refused w st g e = (refl, e, still (becomes-self w g))

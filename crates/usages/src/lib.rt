@@ -9,9 +9,8 @@ ghost use Rattle.tree.specs.Base.{pick};
 ghost use Rattle.definition.specs.Scope.{preventInline, preventInlineOfParams, addRead, addWrite};
 ghost use Rattle.words.specs.Layout.{yes, nodeOf, tree};
 ghost use Rattle.scopes.specs.State.{Good, Becomes, stack};
-ghost use Rattle.records.specs.Steps.{over, Grown};
+ghost use Rattle.records.specs.Steps.{Grown};
 ghost use Rattle.look.specs.Answers.{writeBound, writeFree, writeTo};
-ghost use Rattle.usages.specs.Rows.{Ruled};
 use look::has_constant;
 use look::read_prevents_inlining;
 use look::scope_for;
@@ -20,33 +19,9 @@ use markers::mark::count_read;
 use markers::mark::prevent_inline_of_params;
 use markers::mark::set_defined;
 use records::Step;
-use records::live;
-use records::recorded_nodes;
 use scopes::prevent_inline;
 use scopes::push;
 use words::layout;
-
-// Row 9: do the recorded values, or the live bindings and constants, pass their limit.
-pub fn past_limits(w: &[u32]) -> bool
-    requires { ⌜ Good (now w) ⌝ }
-    ensures { λ r. ⌜ r ≡ over (stack (now (w .entry))) ⌝ }
-{
-    if 512 < recorded_nodes(w) {
-        return true;
-    }
-    256 < live(w)
-}
-
-// The answer to that.
-pub fn within_records(w: &[u32]) -> Step
-    requires { ⌜ Good (now w) ⌝ }
-    ensures { λ r. ⌜ Ruled (stack (now (w .entry))) r ⌝ }
-{
-    if past_limits(w) {
-        return Step::Refused(9);
-    }
-    Step::Done
-}
 
 // Marks by x where the test says so.
 fn prevent_if(w: &mut [u32], x: u8, test: bool)
@@ -104,17 +79,17 @@ fn write_free(w: &mut [u32], x: u8, force: bool) -> Step
     ensures { λ r. ⌜ Grown (now (w .entry)) (now (w .exit)) (writeFree x force (stack (now (w .entry)))) r ⌝ }
 {
     if has_constant(w, x) {
-        return within_records(w);
+        return Step::Done;
     }
     if w[layout::SCOPE_COUNT] == 0 {
-        return within_records(w);
+        return Step::Done;
     }
     if 256 <= w[layout::BINDING_COUNT] + w[layout::CONSTANT_COUNT] {
         return Step::Refused(9);
     }
     let p = flag(force);
     push(w, x, 1, 0, p, 0);
-    within_records(w)
+    Step::Done
 }
 
 // Is a write far from its binding, or forced, and x not marked before.
@@ -139,7 +114,7 @@ fn write_to(w: &mut [u32], x: u8, force: bool, marked: bool) -> Step
     if s.bound {
         let far = far_or(s.current, force, marked);
         write_bound(w, x, far);
-        return within_records(w);
+        return Step::Done;
     }
     write_free(w, x, force)
 }

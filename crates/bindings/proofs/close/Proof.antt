@@ -87,7 +87,7 @@ hoist-all-requires c κs =
     let u = at-drop-scope .drop-scope .last .0 in
     let e = at-drop-scope .drop-scope .ensures in
     let z : 1 < getD w 2 0 = omega arith in
-    (e .0 .good, ends.still-deep w u (at-entry .pre) z (e .0 .is), omega (arith, e .2), top.top-fits w (at-entry .pre) (omega arith), at-entry .pre .count, λ j l. rw (e .1 (4112 + j * 10) (omega arith) (omega (arith, at-entry .pre .count))) (at-entry .pre .ids j l))
+    (e .0 .good, ends.still-deep w u (at-entry .pre) z (e .0 .is), omega (arith, e .2), top.top-fits w (at-entry .pre) (omega arith), omega (arith, e .3, at-entry .pre .live), λ j l. rw (e .1 (4112 + j * 10) (omega arith) (omega (arith, at-entry .pre .count))) (at-entry .pre .ids j l))
 
 same-length-2 : tie.Need-same-length-2
 same-length-2 c =

@@ -14,7 +14,7 @@ use Rattle.bindings.proofs.hoist_all.Statement.{statement}
 use Rattle.bindings.proofs.hoist_all.Tie as tie
 
 abbrev Inv-loop : tie.InvT-loop
-Inv-loop w₀ a e j₀ w j = (a ≤ j) × (j ≤ e) × (getD w 1 0 ≤ j) × Agree (4112 + j * 10) 6672 w₀ w × Becomes w₀ w (hoistUp (λ i. recordAt w₀ i) a (j - a) (stack w₀)) × (length w ≡ length w₀)
+Inv-loop w₀ a e j₀ w j = (a ≤ j) × (j ≤ e) × (getD w 1 0 ≤ j) × Agree (4112 + j * 10) 6672 w₀ w × Becomes w₀ w (hoistUp (λ i. recordAt w₀ i) a (j - a) (stack w₀)) × (length w ≡ length w₀) × (getD w 3 0 ≡ getD w₀ 3 0)
 
 abbrev μ-loop : tie.MeasureT-loop
 μ-loop w₀ a e j₀ w j = e - j
@@ -24,7 +24,7 @@ loop-holds c =
     let at-entry = c .before in
     let w = at-entry .args .w .now in
     let e : at-entry .args .a - at-entry .args .a ≡ 0 = omega arith in
-    (omega arith, at-entry .pre .3, at-entry .pre .2, λ i l h. refl, rw e (becomes-self w (stack w) (at-entry .pre .0) refl), refl)
+    (omega arith, at-entry .pre .3, at-entry .pre .2, λ i l h. refl, rw e (becomes-self w (stack w) (at-entry .pre .0) refl), refl, refl)
 
 hoist-one-requires : tie.Need-hoist-one-requires Inv-loop μ-loop
 hoist-one-requires c κs =
@@ -38,7 +38,7 @@ hoist-one-requires c κs =
     let w = at-loop .loop .w in
     let d = depth-is w ∙ refl in
     let s = ap length (i .4 .is) ∙ length-up (λ k. recordAt w₀ k) a (j - a) (stack w₀) in
-    (i .4 .good, omega (arith, depth-is w, depth-is w₀, s, at-entry .pre .1), i .2, omega (arith, at-entry .pre .4), rw (i .3 (4112 + j * 10) (omega arith) (omega arith)) (at-entry .pre .5 j (at-loop-test .loop-test .taken)))
+    (i .4 .good, omega (arith, depth-is w, depth-is w₀, s, at-entry .pre .1), i .2, omega (arith, at-entry .pre .4, i .6), rw (i .3 (4112 + j * 10) (omega arith) (omega (arith, at-entry .pre .4))) (at-entry .pre .5 j (at-loop-test .loop-test .taken)))
 
 add-j : tie.Need-add-j Inv-loop μ-loop
 add-j c = search needs
@@ -59,8 +59,8 @@ loop-again c =
     let e = at-hoist-one .hoist-one .ensures in
     let n : j + 1 - a ≡ suc (j - a) = omega arith in
     let q : a + (j - a) ≡ j = omega arith in
-    let s : hoistOne (recordAt w j) (stack w) ≡ hoistUp (λ k. recordAt w₀ k) a (j + 1 - a) (stack w₀) = rw (n, q, record-same w₀ w j (λ k l h. i .3 k l (omega arith)), i .4 .is) refl in
-    (omega arith, omega arith, e .2, λ k l h. e .1 k (omega arith) h ∙ i .3 k (omega arith) h, becomes-then (i .4) (rw s at (e .0)), at-hoist-one .hoist-one .kept .0 ∙ i .5)
+    let s : hoistOne (recordAt w j) (stack w) ≡ hoistUp (λ k. recordAt w₀ k) a (j + 1 - a) (stack w₀) = rw (n, q, record-same w₀ w j (λ k l h. i .3 k l (omega (arith, at-entry .pre .4))), i .4 .is) refl in
+    (omega arith, omega arith, e .2, λ k l h. e .1 k (omega arith) h ∙ i .3 k (omega arith) h, becomes-then (i .4) (rw s at (e .0)), at-hoist-one .hoist-one .kept .0 ∙ i .5, e .3 ∙ i .6)
 
 same-length : tie.Need-same-length Inv-loop μ-loop
 same-length c =

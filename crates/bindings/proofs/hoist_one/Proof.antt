@@ -39,7 +39,7 @@ returns-2 : tie.Need-returns-2
 returns-2 c =
     let at-entry = c .before .before .before in
     let w = at-entry .args .w .now in
-    (becomes-self w (hoistOne (recordAt w (at-entry .args .j)) (stack w)) (at-entry .pre .0) (sym (hoist-none-is (recordAt w (at-entry .args .j)) (stack w) (no-var (getD w (4112 + at-entry .args .j * 10 + 1) 0) (c .if1 .left)))), λ i a b. refl, omega arith)
+    (becomes-self w (hoistOne (recordAt w (at-entry .args .j)) (stack w)) (at-entry .pre .0) (sym (hoist-none-is (recordAt w (at-entry .args .j)) (stack w) (no-var (getD w (4112 + at-entry .args .j * 10 + 1) 0) (c .if1 .left)))), λ i a b. refl, omega arith, refl)
 
 pub hoist-one-spec : {M : Type 1} → statement M
 hoist-one-spec =

@@ -10,7 +10,7 @@ use Rattle.definition.specs.Scope.{VarInfo, withValue, append}
 use Rattle.scopes.specs.State.{bindAt, stack}
 use Rattle.records.specs.Steps.{refill}
 use Rattle.rewrites.proofs.Top as top
-use Rattle.rewrites.proofs.Again.{run-none, twice, listed-count}
+use Rattle.rewrites.proofs.Again.{run-none, twice, listed-count, listed-ccount}
 use Rattle.bindings.proofs.Hoist.{gone, bare-gone, refill-gone, gone-there, gone-absent}
 use borrow.Author.Needs.{needs}
 use Rattle.bindings.proofs.hoist_var.Statement.{statement}
@@ -127,7 +127,7 @@ set-run-requires c κs =
     let at-entry = at-if1 .before .before .before .before .before .before .before .before .before .before .before .before .before .before in
     let w = at-entry .args .w .now in
     let g = at-entry .pre .0 in
-    (g, at-if1 .if1 .taken, omega arith, omega (arith, g .vals), rw (run-none w 0) refl)
+    (g, at-if1 .if1 .taken, omega arith, omega (arith, g .recorded), rw (run-none w 0) refl)
 
 rewrite-requires : tie.Need-rewrite-requires
 rewrite-requires c κs =
@@ -171,6 +171,7 @@ returns c =
       gone-there w j x p refl (at-entry .pre .5) mark r h (at-own-binding .own-binding .ensures) all,
       λ i a b. at-rewrite .rewrite .ensures .1 i (omega arith) b ∙ at-set-run .set-run .ensures .1 i (omega arith) b,
       omega (arith, listed-count r (gone w j x p refl (at-entry .pre .5) mark) g all, at-entry .pre .2),
+      listed-ccount g all,
     )
 
 same-length-2 : tie.Need-same-length-2
@@ -192,7 +193,7 @@ returns-2 c =
     let mark = at-either .either .ensures ∙ ap (λ (b : Bool). b || yes (getD w (4112 + j * 10 + 4) 0)) (ap yes (at-either .before .before .flag-at .ensures) ∙ sym (top.unres-at w g (at-entry .pre .1) x (at-entry .pre .4))) in
     let e = at-append-record .append-record .ensures in
     let s = gone-absent w j x p refl (at-entry .pre .5) mark r (at-if1 .if1 .left) (at-own-binding .own-binding .ensures) ∙ ap (λ (c : VarInfo). append c (stack w)) (sym (bare-gone w j x p refl (at-entry .pre .5) mark)) in
-    (rw s (e .0), λ i a b. e .1 i (omega arith) b, omega (arith, e .2))
+    (rw s (e .0), λ i a b. e .1 i (omega arith) b, omega (arith, e .2), e .3)
 
 pub hoist-var-spec : {M : Type 1} → statement M
 hoist-var-spec =

@@ -69,13 +69,12 @@ returns-2 c =
     let at-passes = at-if1 .before in
     let at-entry = at-passes .before .before .before .before in
     let w = at-entry .args .w .now in
-    let o = consts.over-cpush w (at-entry .pre .0) (at-entry .args .x, valueOf (run w 16 (at-entry .args .i) (at-entry .args .m))) (at-entry .pre .1) ∙ ap (λ (n : ℕ). ltb 512 (recordedNodes (stack w) - 0 + n) || ltb 256 (live (stack w) + 1)) (listed.count-tree w (at-entry .args .i) (at-entry .args .m) (at-entry .pre .3)) ∙ sym (at-passes .passes .ensures) in
     let u = at-push-const .push-const .last .0 in
     let t = consts.after-push w u (at-entry .pre .0) (at-entry .args .x) (at-push-const .push-const .ensures) in
     let e = listed.same-nodes w u (at-push-const .push-const .ensures .tree) in
     let same = listed.same-run w u (at-entry .args .i) (at-entry .args .m) (at-push-const .push-const .ensures .tree) (at-entry .pre .2) in
     let l = rw (t .set (valueOf (run u 16 (at-entry .args .i) (at-entry .args .m))), same) at (at-set-const .set-const .ensures) in
-    (listed.listed-becomes (split (heads w) (flags w) (binds w) (consts w ++ ((at-entry .args .x, valueOf (run w 16 (at-entry .args .i) (at-entry .args .m))) ∷ []))) refl (listed.listed-then (at-push-const .push-const .ensures) (rw (at-push-const .push-const .ensures .binds) at l)), o ∙ at-if1 .if1 .left)
+    listed.done-under (listed.listed-becomes (split (heads w) (flags w) (binds w) (consts w ++ ((at-entry .args .x, valueOf (run w 16 (at-entry .args .i) (at-entry .args .m))) ∷ []))) refl (listed.listed-then (at-push-const .push-const .ensures) (rw (at-push-const .push-const .ensures .binds) at l)))
 
 pub append-const-spec : {M : Type 1} → statement M
 append-const-spec =

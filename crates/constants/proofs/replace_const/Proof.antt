@@ -77,9 +77,7 @@ returns-2 c =
     let at-passes = at-if1 .before in
     let at-entry = at-passes .before .before .before .before in
     let w = at-entry .args .w .now in
-    let part = sums.sum-part (λ j. clenAt w j) (at-entry .args .k) (getD w 3 0) (at-entry .pre .1) in
-    let o = consts.over-cput w (at-entry .pre .0) (at-entry .args .k) (getD w (6672 + at-entry .args .k * 2) 0, valueOf (run w 16 (at-entry .args .i) (at-entry .args .m))) (at-entry .pre .1) ∙ ap (λ (n : ℕ). ltb 512 (recordedNodes (stack w) - clenAt w (at-entry .args .k) + n) || ltb 256 (live (stack w) + 0)) (listed.count-tree w (at-entry .args .i) (at-entry .args .m) (at-entry .pre .3)) ∙ sym (at-passes .passes .ensures) in
-    (listed.listed-becomes (split (heads w) (flags w) (binds w) (set (consts w) (at-entry .args .k) (getD w (6672 + at-entry .args .k * 2) 0, valueOf (run w 16 (at-entry .args .i) (at-entry .args .m))))) refl (at-set-const .set-const .ensures), o ∙ at-if1 .if1 .left)
+    listed.done-under (listed.listed-becomes (split (heads w) (flags w) (binds w) (set (consts w) (at-entry .args .k) (getD w (6672 + at-entry .args .k * 2) 0, valueOf (run w 16 (at-entry .args .i) (at-entry .args .m))))) refl (at-set-const .set-const .ensures))
 
 pub replace-const-spec : {M : Type 1} → statement M
 replace-const-spec =

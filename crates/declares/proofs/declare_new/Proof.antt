@@ -88,13 +88,12 @@ returns-2 c =
     let a = at-entry .args in
     let v : Option Tree = valueOf (run w 16 (a .i) (a .m)) in
     let new = fresh (a .x) (varTypeOf (a .kind)) (aliasAt (a .alias)) (yes (a .prevented)) (yes (a .undef)) v in
-    let o = declares.over-append w g (at-entry .pre .1) new ∙ ap (λ (n : ℕ). ltb 512 (recordedNodes (stack w) - 0 + n) || ltb 256 (live (stack w) + 1)) (listed.count-tree w (a .i) (a .m) (at-entry .pre .3)) ∙ sym (at-passes .passes .ensures) in
     let u = at-append-record .append-record .last .0 in
     let e = at-append-record .append-record .ensures in
     let bare = bareOf (a .x) (a .kind) (a .alias) 0 (a .prevented) (a .undef) 0 0 in
     let same = listed.same-run w u (a .i) (a .m) (e .0 .tree) (at-entry .pre .2) in
     let s : append new (stack w) ≡ putAt u (getD w 1 0) (withValue (valueOf (run u 16 (a .i) (a .m))) (bindAt u (getD w 1 0))) = rw same (sym (declares.last-valued w g (at-entry .pre .1) bare u (e .0) (e .2) v)) in
-    (becomes-then (e .0) (listed.listed-becomes (append new (stack w)) s (at-set-run .set-run .ensures .0)), o ∙ at-if1 .if1 .left)
+    listed.done-under (becomes-then (e .0) (listed.listed-becomes (append new (stack w)) s (at-set-run .set-run .ensures .0)))
 
 pub declare-new-spec : {M : Type 1} → statement M
 declare-new-spec =

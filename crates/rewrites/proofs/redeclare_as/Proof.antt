@@ -102,13 +102,11 @@ returns-2 c =
     let w = at-entry .args .w .now in
     let g = at-entry .pre .0 in
     let k = at-entry .args .k in
-    let part = sums.sum-part (λ j. lenAt w j) k (getD w 1 0) (at-entry .pre .1) in
     let v : Option Tree = valueOf (run w 16 (at-entry .args .i) (at-entry .args .m)) in
     let new = redeclare (yes (at-entry .args .prevented)) (yes (at-entry .args .undef)) v (bindAt w k) in
-    let o = again.over-re w g k (at-entry .args .m) (at-entry .pre .1) new (listed.count-tree w (at-entry .args .i) (at-entry .args .m) (at-entry .pre .3)) ∙ sym (at-passes .passes .ensures) in
     let f : VarInfo → VarInfo = λ b. redeclare (yes (at-entry .args .prevented)) (yes (at-entry .args .undef)) (b .value) b in
     let both = twice k (withValue v (bindAt w k)) f (at-entry .pre .1) g (at-set-run .set-run .ensures .0) (at-remark .remark .ensures) in
-    (listed.listed-becomes (putAt w k new) refl both, o ∙ at-if1 .if1 .left)
+    listed.done-under (listed.listed-becomes (putAt w k new) refl both)
 
 pub redeclare-as-spec : {M : Type 1} → statement M
 redeclare-as-spec =

@@ -58,6 +58,7 @@ returns c =
       grow.pushed (a .w .now) (at-put5 .put5 .last .0) (at-put52 .put52 .last .0) (at-entry .pre .0) (at-entry .pre .1) (at-entry .pre .2) (a .id) (a .kind) (a .alias) (a .reads) (a .prevented) (a .undef) (a .sensitive) (a .hoisted) (omega arith) (at-put5 .put5 .ensures) (at-put52 .put52 .ensures),
       grow.pushed-past (a .w .now) (at-put5 .put5 .last .0) (at-put52 .put52 .last .0) (at-entry .pre .0) (at-entry .pre .1) (at-entry .pre .2) (a .id) (a .kind) (a .alias) (a .reads) (a .prevented) (a .undef) (a .sensitive) (a .hoisted) (omega arith) (at-put5 .put5 .ensures) (at-put52 .put52 .ensures),
       grow.count (a .w .now) (at-put5 .put5 .last .0) (at-put52 .put52 .last .0) (at-entry .pre .0) (at-entry .pre .1) (at-entry .pre .2) (a .id) (a .kind) (a .alias) (a .reads) (a .prevented) (a .undef) (a .sensitive) (a .hoisted) (omega arith) (at-put5 .put5 .ensures) (at-put52 .put52 .ensures),
+      grow.pushed-consts (a .w .now) (at-put5 .put5 .last .0) (at-put52 .put52 .last .0) (at-entry .pre .0) (at-entry .pre .1) (at-entry .pre .2) (a .id) (a .kind) (a .alias) (a .reads) (a .prevented) (a .undef) (a .sensitive) (a .hoisted) (omega arith) (at-put5 .put5 .ensures) (at-put52 .put52 .ensures),
     )
 
 pub append-record-spec : {M : Type 1} → statement M

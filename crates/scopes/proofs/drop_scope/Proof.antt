@@ -93,7 +93,7 @@ returns c =
     let at-entry = at-merge .before .before .before .before .before .before in
     let w = at-entry .args .w .now in
     let d = getD w 2 0 - 1 in
-    (shrink.dropped w (at-merge .merge .last .0) (at-entry .pre .0) d (omega arith) (omega arith) (at-merge .merge .ensures), shrink.dropped-past w (at-merge .merge .last .0) (at-entry .pre .0) d (omega arith) (omega arith) (at-merge .merge .ensures), shrink.n1 w (at-merge .merge .last .0) (at-entry .pre .0) d (omega arith) (omega arith) (at-merge .merge .ensures))
+    (shrink.dropped w (at-merge .merge .last .0) (at-entry .pre .0) d (omega arith) (omega arith) (at-merge .merge .ensures), shrink.dropped-past w (at-merge .merge .last .0) (at-entry .pre .0) d (omega arith) (omega arith) (at-merge .merge .ensures), shrink.n1 w (at-merge .merge .last .0) (at-entry .pre .0) d (omega arith) (omega arith) (at-merge .merge .ensures), shrink.dropped-consts w (at-merge .merge .last .0) (at-entry .pre .0) d (omega arith) (omega arith) (at-merge .merge .ensures))
 
 pub drop-scope-spec : {M : Type 1} → statement M
 drop-scope-spec =

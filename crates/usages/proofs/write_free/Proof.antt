@@ -7,6 +7,7 @@ use borrow.Author.Needs.{needs}
 use Rattle.definition.specs.Scope.{fresh, vVar, hasConstant, append}
 use Rattle.scopes.specs.State.{stack}
 use Rattle.look.specs.Answers.{writeFree}
+use Rattle.records.proofs.Listed.{done-under}
 use Rattle.usages.proofs.Limits as limits
 use Rattle.usages.proofs.write_free.Statement.{statement}
 use Rattle.usages.proofs.write_free.Tie as tie
@@ -14,41 +15,33 @@ use Rattle.usages.proofs.write_free.Tie as tie
 has-constant-requires : tie.Need-has-constant-requires
 has-constant-requires c κs = search needs
 
-within-records-requires : tie.Need-within-records-requires
-within-records-requires c κs = search needs
-
 same-length : tie.Need-same-length
 same-length c = search needs
 
 returns : tie.Need-returns
 returns c =
-    let at-if1 = c .before .before in
-    let at-has-constant = at-if1 .before in
+    let at-has-constant = c .before in
     let at-entry = at-has-constant .before .before .before in
     let w = at-entry .args .w .now in
     let x = at-entry .args .x in
-    let e : hasConstant x (stack w) ≡ true = sym (at-has-constant .has-constant .ensures) ∙ at-if1 .if1 .taken in
-    limits.stepped {w = at-entry .args .w .now} {st = writeFree (at-entry .args .x) (at-entry .args .force) (stack (at-entry .args .w .now))} (c .within-records .result) (rw e (limits.becomes-self w (at-entry .pre))) (c .within-records .ensures)
+    let e : hasConstant x (stack w) ≡ true = sym (at-has-constant .has-constant .ensures) ∙ c .if1 .taken in
+    done-under {w = w} {st = writeFree (at-entry .args .x) (at-entry .args .force) (stack (at-entry .args .w .now))} (rw e (limits.becomes-self w (at-entry .pre)))
 
 slice-read-if2 : tie.Need-slice-read-if2
 slice-read-if2 c = search needs
-
-within-records-requires-2 : tie.Need-within-records-requires-2
-within-records-requires-2 c κs = search needs
 
 same-length-2 : tie.Need-same-length-2
 same-length-2 c = search needs
 
 returns-2 : tie.Need-returns-2
 returns-2 c =
-    let at-if2 = c .before .before in
-    let at-if1 = at-if2 .before .before in
+    let at-if1 = c .before .before in
     let at-has-constant = at-if1 .before in
     let at-entry = at-has-constant .before .before .before in
     let w = at-entry .args .w .now in
     let x = at-entry .args .x in
     let e : hasConstant x (stack w) ≡ false = sym (at-has-constant .has-constant .ensures) ∙ at-if1 .if1 .left in
-    limits.stepped {w = at-entry .args .w .now} {st = writeFree (at-entry .args .x) (at-entry .args .force) (stack (at-entry .args .w .now))} (c .within-records2 .result) (rw (e, limits.no-scope (fresh x vVar none (at-entry .args .force) false none) w (at-if2 .if2 .taken)) (limits.becomes-self w (at-entry .pre))) (c .within-records2 .ensures)
+    done-under {w = w} {st = writeFree (at-entry .args .x) (at-entry .args .force) (stack (at-entry .args .w .now))} (rw (e, limits.no-scope (fresh x vVar none (at-entry .args .force) false none) w (c .if2 .taken)) (limits.becomes-self w (at-entry .pre)))
 
 slice-read-if3 : tie.Need-slice-read-if3
 slice-read-if3 c = search needs
@@ -78,15 +71,12 @@ flag-requires c κs = search needs
 push-requires : tie.Need-push-requires
 push-requires c κs = search needs
 
-within-records-requires-3 : tie.Need-within-records-requires-3
-within-records-requires-3 c κs = search needs
-
 same-length-4 : tie.Need-same-length-4
 same-length-4 c = search needs
 
 returns-4 : tie.Need-returns-4
 returns-4 c =
-    let at-push = c .before .before .before .before in
+    let at-push = c .before .before in
     let at-flag = at-push .before .before in
     let at-if1 = at-flag .before .before .before .before .before .before in
     let at-has-constant = at-if1 .before in
@@ -94,18 +84,16 @@ returns-4 c =
     let w = at-entry .args .w .now in
     let x = at-entry .args .x in
     let e : hasConstant x (stack w) ≡ false = sym (at-has-constant .has-constant .ensures) ∙ at-if1 .if1 .left in
-    limits.stepped {w = at-entry .args .w .now} {st = writeFree (at-entry .args .x) (at-entry .args .force) (stack (at-entry .args .w .now))} (c .within-records3 .result) (rw e (rw (at-flag .flag .ensures) at (at-push .push .ensures))) (c .within-records3 .ensures)
+    done-under {w = w} {st = writeFree (at-entry .args .x) (at-entry .args .force) (stack (at-entry .args .w .now))} (rw e (rw (at-flag .flag .ensures) at (at-push .push .ensures)))
 
 pub write-free-spec : {M : Type 1} → statement M
 write-free-spec =
     tie.close
     (tie.spec
     has-constant-requires
-    within-records-requires
     same-length
     returns
     slice-read-if2
-    within-records-requires-2
     same-length-2
     returns-2
     slice-read-if3
@@ -115,6 +103,5 @@ write-free-spec =
     returns-3
     flag-requires
     push-requires
-    within-records-requires-3
     same-length-4
     returns-4)

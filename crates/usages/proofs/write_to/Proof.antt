@@ -6,7 +6,7 @@ use Rattle.definition.specs.Scope.{scopeFor}
 use Rattle.scopes.specs.State.{stack}
 use Rattle.usages.proofs.Again as again
 use Rattle.look.specs.Answers.{writeTo}
-use Rattle.usages.proofs.Limits as limits
+use Rattle.records.proofs.Listed.{done-under}
 use Rattle.usages.proofs.write_to.Statement.{statement}
 use Rattle.usages.proofs.write_to.Tie as tie
 
@@ -19,15 +19,12 @@ far-or-requires c κs = search needs
 write-bound-requires : tie.Need-write-bound-requires
 write-bound-requires c κs = search needs
 
-within-records-requires : tie.Need-within-records-requires
-within-records-requires c κs = search needs
-
 same-length : tie.Need-same-length
 same-length c = search needs
 
 returns : tie.Need-returns
 returns c =
-    let at-write-bound = c .before .before .before .before in
+    let at-write-bound = c .before .before in
     let at-far-or = at-write-bound .before .before in
     let at-if1 = at-far-or .before in
     let at-scope-for = at-if1 .before in
@@ -39,7 +36,7 @@ returns c =
     let m = at-entry .args .marked in
     let far : Bool = not (scopeFor true x (stack w) .1) || force in
     let marks = rw (at-far-or .far-or .ensures ∙ ap (λ (h : Bool). (not h || force) && not m) (at-scope-for .scope-for .ensures .1)) at (at-write-bound .write-bound .ensures) in
-    limits.stepped {w = at-entry .args .w .now} {st = writeTo (at-entry .args .x) (at-entry .args .force) (stack (at-entry .args .w .now))} (c .within-records .result) (rw (e, sym (again.not-again x far m (stack w) (at-entry .pre .1))) marks) (c .within-records .ensures)
+    done-under {w = w} {st = writeTo (at-entry .args .x) (at-entry .args .force) (stack (at-entry .args .w .now))} (rw (e, sym (again.not-again x far m (stack w) (at-entry .pre .1))) marks)
 
 write-free-requires : tie.Need-write-free-requires
 write-free-requires c κs = search needs
@@ -65,7 +62,6 @@ write-to-spec =
     scope-for-requires
     far-or-requires
     write-bound-requires
-    within-records-requires
     same-length
     returns
     write-free-requires
