@@ -17,6 +17,8 @@ use Rattle.words.specs.Tab.{sum-part}
 use Rattle.scopes.specs.State.{Good, Becomes, binds, stack, bindAt, lenAt, off, coff, valueOf}
 use Rattle.scopes.proofs.Split as laws
 use Rattle.records.specs.Steps.{over, putAt}
+use Rattle.words.specs.Layout.{run}
+use Rattle.words.proofs.Nodes.{run-length}
 use Rattle.records.proofs.Count.{depth-is, nodesB, total-append, length-binds, recorded-is, values-in, nodes-bind}
 use Rattle.records.proofs.Listed.{bind-there, over-put, change-at, becomes-then}
 use Rattle.rewrites.specs.Own.{Own}
@@ -167,6 +169,14 @@ module _ (w : List ℕ) (g : Good w) (z : 0 < getD w 2 0) (b : VarInfo) where
 
     pub last-valued : (v : Option Tree) → putAt u (getD w 1 0) (withValue v (bindAt u (getD w 1 0))) ≡ append (withValue v b) (stack w)
     last-valued v = ap (λ (c : VarInfo). putAt u (getD w 1 0) (withValue v c)) (last-bind u (t .good) deep-after (getD w 1 0) is b (stack w) (t .is) deep) ∙ last-put u (t .good) deep-after (getD w 1 0) is b (stack w) (t .is) deep (withValue v b)
+
+-- no nodes are no value
+no-value : (xs : List Core) → length xs ≡ 0 → valueOf xs ≡ none
+no-value [] e = refl
+no-value (x ∷ xs) e = absurd (omega arith)
+
+pub run-no-value : (w : List ℕ) (i m : ℕ) → m ≡ 0 → valueOf (run w 16 i m) ≡ none
+run-no-value w i m e = no-value (run w 16 i m) (run-length w 16 i m ∙ e)
 
 -- the value after a declaration, by the run of its nodes
 kept-at : (v : Init) (xs : List Core) → Sized v (length xs) → (old : Option Tree) → kept (initAt v xs) old ≡ pick (isSeen v) old (valueOf xs)

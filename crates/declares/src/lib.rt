@@ -95,6 +95,9 @@ fn declare_new(
     }
     let n = w[layout::BINDING_COUNT] as usize;
     append_record(w, x, kind, alias, 0, prevented, undef, 0, 0);
+    if m == 0 {
+        return Step::Done;
+    }
     set_run(w, n, i, m);
     Step::Done
 }

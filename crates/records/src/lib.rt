@@ -12,6 +12,7 @@ ghost use Rattle.scopes.specs.State.{Good, stack, binds, consts, bindAt, off, c
 ghost use Rattle.records.specs.Steps.{Spliced, Listed, Grown};
 use scopes::find_binding;
 use scopes::offset;
+use scopes::offset_from;
 use words::layout;
 use words::shift;
 
@@ -125,7 +126,7 @@ pub fn set_run(w: &mut [u32], k: usize, i: usize, m: usize)
 {
     let n = w[layout::BINDING_COUNT] as usize;
     let at = offset(w, k);
-    let end = offset(w, n);
+    let end = offset_from(w, k, at, n);
     let old = w[layout::BINDINGS + k * 10 + layout::LENGTH] as usize;
     splice(w, layout::VALUES, at, old, end, i, m);
     w[layout::BINDINGS + k * 10 + layout::LENGTH] = m as u32;

@@ -188,18 +188,26 @@ pub fn prevent_inline(w: &mut [u32], x: u8)
     }
 }
 
+// How many nodes the values before binding e have, if those before binding k have `at`.
+pub fn offset_from(w: &[u32], k: usize, at: usize, e: usize) -> usize
+    requires { ⌜ (Good (now w)) × (k ≤ e) × (e ≤ getD (now w) 1 0) × (at ≡ off (now w) k) × (at ≤ 512) ⌝ }
+    ensures { λ r. ⌜ (r ≡ off (now (w .entry)) e) × (r ≤ 512) ⌝ }
+{
+    let mut sum = at;
+    let mut j = k;
+    while j < e {
+        sum += w[layout::BINDINGS + j * 10 + layout::LENGTH] as usize;
+        j += 1;
+    }
+    sum
+}
+
 // How many nodes the values before binding k have.
 pub fn offset(w: &[u32], k: usize) -> usize
     requires { ⌜ (Good (now w)) × (k ≤ getD (now w) 1 0) ⌝ }
     ensures { λ r. ⌜ (r ≡ off (now (w .entry)) k) × (r ≤ 512) ⌝ }
 {
-    let mut at: usize = 0;
-    let mut j: usize = 0;
-    while j < k {
-        at += w[layout::BINDINGS + j * 10 + layout::LENGTH] as usize;
-        j += 1;
-    }
-    at
+    offset_from(w, 0, 0, k)
 }
 
 // Appends a binding without a value, by its words, to the innermost scope.

@@ -1,15 +1,15 @@
 -- Appended without a value, which is then overwritten. Assumes nothing.
 use Prim.Native.Nat.{ℕ, _+_, _-_}
-use mathlib.Core.Path.{_≡_, refl, sym, ap, _∙_}
+use mathlib.Core.Path.{_≡_, refl, sym, ap, _∙_, subst}
 use native.Mathlib.Omega.{arith}
 use lib.ListN.{getD}
 use mathlib.Core.Option.{Option}
 use mathlib.Core.Bool.{_||_}
 use lib.Dec.{ltb}
 use Rattle.tree.specs.Tree.{Tree}
-use Rattle.definition.specs.Scope.{fresh, append, recordedNodes, live, withValue}
+use Rattle.definition.specs.Scope.{Stack, fresh, append, recordedNodes, live, withValue}
 use Rattle.words.specs.Layout.{yes, run}
-use Rattle.scopes.specs.State.{varTypeOf, aliasAt, bareOf, bindAt, stack, valueOf}
+use Rattle.scopes.specs.State.{Becomes, varTypeOf, aliasAt, bareOf, bindAt, stack, valueOf}
 use Rattle.records.specs.Steps.{putAt}
 use Rattle.records.proofs.Listed.{becomes-then}
 use Rattle.records.proofs.Listed as listed
@@ -54,9 +54,24 @@ append-record-requires c κs =
     let r = listed.room (recordedNodes (stack w) - 0 + a .m) (live (stack w) + 1) (sym (at-passes .passes .ensures) ∙ at-if1 .if1 .left) in
     (g, omega (arith, r .1, count.live-is w g), at-entry .pre .1)
 
+same-length-2 : tie.Need-same-length-2
+same-length-2 c =
+    let at-append-record = c .before .before .before in
+    at-append-record .append-record .kept .0
+
+returns-2 : tie.Need-returns-2
+returns-2 c =
+    let at-append-record = c .before .before .before in
+    let at-entry = at-append-record .before .before .before .before .before .before .before in
+    let w = at-entry .args .w .now in
+    let a = at-entry .args in
+    let none-is = ap (λ (v : Option Tree). append (fresh (a .x) (varTypeOf (a .kind)) (aliasAt (a .alias)) (yes (a .prevented)) (yes (a .undef)) v) (stack w)) (declares.run-no-value w (a .i) (a .m) (c .if2 .taken)) in
+    let u = at-append-record .append-record .last .0 in
+    listed.done-under (subst (λ (st : Stack). Becomes w u st) (sym none-is) (at-append-record .append-record .ensures .0))
+
 set-run-requires : tie.Need-set-run-requires
 set-run-requires c κs =
-    let at-append-record = c .before .before .before in
+    let at-append-record = c .before .before .before .before in
     let at-if1 = at-append-record .before .before .before in
     let at-passes = at-if1 .before in
     let at-entry = at-passes .before .before .before in
@@ -70,16 +85,16 @@ set-run-requires c κs =
     let same = listed.same-run w u (a .i) (a .m) (e .0 .tree) (at-entry .pre .2) in
     (e .0 .good, omega (arith, e .2), omega (arith, listed.same-nodes w u (e .0 .tree), at-entry .pre .2), omega (arith, r .0, declares.vals-after w g (at-entry .pre .1) bare u (e .0) (e .2)), rw same (at-entry .pre .3))
 
-same-length-2 : tie.Need-same-length-2
-same-length-2 c =
+same-length-3 : tie.Need-same-length-3
+same-length-3 c =
     let at-set-run = c .before .before in
-    let at-append-record = at-set-run .before .before .before .before in
+    let at-append-record = at-set-run .before .before .before .before .before in
     at-set-run .set-run .kept .0 ∙ at-append-record .append-record .kept .0
 
-returns-2 : tie.Need-returns-2
-returns-2 c =
+returns-3 : tie.Need-returns-3
+returns-3 c =
     let at-set-run = c .before .before in
-    let at-append-record = at-set-run .before .before .before .before in
+    let at-append-record = at-set-run .before .before .before .before .before in
     let at-if1 = at-append-record .before .before .before in
     let at-passes = at-if1 .before in
     let at-entry = at-passes .before .before .before in
@@ -105,6 +120,8 @@ declare-new-spec =
     slice-read-n
     cast-n
     append-record-requires
-    set-run-requires
     same-length-2
-    returns-2)
+    returns-2
+    set-run-requires
+    same-length-3
+    returns-3)

@@ -17,8 +17,11 @@ cast-n c = search needs
 offset-requires : tie.Need-offset-requires
 offset-requires c κs = search needs
 
-offset-requires-2 : tie.Need-offset-requires-2
-offset-requires-2 c κs = search needs
+offset-from-requires : tie.Need-offset-from-requires
+offset-from-requires c κs =
+    let at-offset = c .before in
+    let at-entry = at-offset .before .before .before .before in
+    (at-entry .pre .0, omega (arith, at-entry .pre .1), omega arith, at-offset .offset .ensures .0, at-offset .offset .ensures .1)
 
 mul-old : tie.Need-mul-old
 mul-old c = search needs
@@ -44,14 +47,14 @@ cast-old c =
 
 splice-requires : tie.Need-splice-requires
 splice-requires c κs =
-    let at-offset2 = c .before .before in
-    let at-offset = at-offset2 .before .before in
+    let at-offset-from = c .before .before in
+    let at-offset = at-offset-from .before .before in
     let at-entry = at-offset .before .before .before .before in
     let w = at-entry .args .w .now in
     let part = sums.sum-part (λ j. lenAt w j) (at-entry .args .k) (getD w 1 0) (at-entry .pre .1) in
     let a = at-offset .offset .ensures .0 in
-    let b = at-offset2 .offset2 .ensures .0 in
-    (at-entry .pre .0 .long, omega arith, omega arith, omega (arith, at-entry .pre .0 .nodes, at-entry .pre .2), omega (arith, at-offset .offset .ensures .0), omega (arith, at-offset2 .offset2 .ensures .1), omega (arith, at-entry .pre .3))
+    let b = at-offset-from .offset-from .ensures .0 in
+    (at-entry .pre .0 .long, omega arith, omega arith, omega (arith, at-entry .pre .0 .nodes, at-entry .pre .2), omega (arith, at-offset .offset .ensures .0), omega (arith, at-offset-from .offset-from .ensures .1), omega (arith, at-entry .pre .3))
 
 cast-w : tie.Need-cast-w
 cast-w c = search needs
@@ -79,11 +82,11 @@ same-length c =
 returns : tie.Need-returns
 returns c =
     let at-splice = c .before .before in
-    let at-offset2 = at-splice .before .before .before in
-    let at-offset = at-offset2 .before .before in
+    let at-offset-from = at-splice .before .before .before in
+    let at-offset = at-offset-from .before .before in
     let at-entry = at-offset .before .before .before .before in
     let w = at-entry .args .w .now in
-    let s = rw (at-offset .offset .ensures .0, at-offset2 .offset2 .ensures .0) at (at-splice .splice .ensures) in
+    let s = rw (at-offset .offset .ensures .0, at-offset-from .offset-from .ensures .0) at (at-splice .splice .ensures) in
     (listed.valued w (at-splice .splice .last .0) (at-entry .pre .0) (at-entry .args .k) (at-entry .args .i) (at-entry .args .m) (at-entry .pre .1) (at-entry .pre .2) (at-entry .pre .3) s (at-entry .pre .4), listed.valued-past w (at-splice .splice .last .0) (at-entry .pre .0) (at-entry .args .k) (at-entry .args .i) (at-entry .args .m) (at-entry .pre .1) (at-entry .pre .2) (at-entry .pre .3) s)
 
 pub set-run-spec : {M : Type 1} → statement M
@@ -93,7 +96,7 @@ set-run-spec =
     slice-read-n
     cast-n
     offset-requires
-    offset-requires-2
+    offset-from-requires
     mul-old
     add-old
     add-old-2

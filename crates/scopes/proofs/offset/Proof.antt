@@ -1,91 +1,19 @@
--- The sum of the earlier lengths. Assumes nothing.
-use Prim.Native.Nat.{_-_, _≤_}
-use mathlib.Core.Path.{_≡_, sym}
+-- From the first binding on. Assumes nothing.
+use mathlib.Core.Path.{sym}
 use native.Mathlib.Omega.{arith}
-use lib.ListN.{getD}
 use Rattle.words.specs.Tab as sums
-use Rattle.scopes.specs.State.{off, lenAt}
+use Rattle.scopes.specs.State.{lenAt}
 use borrow.Author.Needs.{needs}
 use Rattle.scopes.proofs.offset.Statement.{statement}
 use Rattle.scopes.proofs.offset.Tie as tie
 
-abbrev Inv-loop : tie.InvT-loop
-Inv-loop w k at₀ j₀ at j = (j ≤ k) × (at ≡ off w j) × (at ≤ 512)
+offset-from-requires : tie.Need-offset-from-requires
+offset-from-requires c κs =
+    let at-entry = c .before in
+    (at-entry .pre .0, omega arith, at-entry .pre .1, sym (sums.sum-zero (λ i. lenAt (at-entry .args .w .now) i)), omega arith)
 
-abbrev μ-loop : tie.MeasureT-loop
-μ-loop w k at₀ j₀ at j = k - j
-
-loop-holds : tie.Need-loop-holds Inv-loop μ-loop
-loop-holds c = (omega arith, sym (sums.sum-zero (λ i. lenAt (c .args .w .now) i)), omega arith)
-
-mul-at : tie.Need-mul-at Inv-loop μ-loop
-mul-at c = search needs
-
-add-at : tie.Need-add-at Inv-loop μ-loop
-add-at c = search needs
-
-add-at-2 : tie.Need-add-at-2 Inv-loop μ-loop
-add-at-2 c = search needs
-
-mul-at-2 : tie.Need-mul-at-2 Inv-loop μ-loop
-mul-at-2 c = search needs
-
-shared-slice-read-at : tie.Need-shared-slice-read-at Inv-loop μ-loop
-shared-slice-read-at c = search needs
-
-cast-at : tie.Need-cast-at Inv-loop μ-loop
-cast-at c =
-    let at-loop = c .before .before in
-    let at-entry = at-loop .before in
-    let w = at-entry .args .w .now in
-    let part = sums.sum-part (λ i. lenAt w i) (at-loop .loop .j) (getD w 1 0) (omega arith) in
-    omega (arith, at-entry .pre .0 .vals)
-
-add-at-3 : tie.Need-add-at-3 Inv-loop μ-loop
-add-at-3 c =
-    let at-loop = c .before .before in
-    let at-entry = at-loop .before in
-    let w = at-entry .args .w .now in
-    let part = sums.sum-part (λ i. lenAt w i) (at-loop .loop .j) (getD w 1 0) (omega arith) in
-    omega (arith, at-entry .pre .0 .vals)
-
-add-j : tie.Need-add-j Inv-loop μ-loop
-add-j c = search needs
-
-loop-less : tie.Need-loop-less Inv-loop μ-loop
-loop-less c = search needs
-
-loop-again : tie.Need-loop-again Inv-loop μ-loop
-loop-again c =
-    let at-loop = c .before .before in
-    let at-entry = at-loop .before in
-    let w = at-entry .args .w .now in
-    let part = sums.sum-part (λ i. lenAt w i) (at-loop .loop .j) (getD w 1 0) (omega arith) in
-    let next = sums.sum-next (λ i. lenAt w i) (at-loop .loop .j) in
-    (omega arith, omega arith, omega (arith, at-entry .pre .0 .vals))
-
-returns : tie.Need-returns Inv-loop μ-loop
-returns c =
-    let at-loop = c .before in
-    let at-entry = at-loop .before in
-    let e : at-loop .loop .j ≡ at-entry .args .k = omega arith in
-    (rw e at (at-loop .loop .inv .1), at-loop .loop .inv .2)
+returns : tie.Need-returns
+returns c = c .offset-from .ensures
 
 pub offset-spec : {M : Type 1} → statement M
-offset-spec =
-    tie.close
-    (tie.spec
-    Inv-loop
-    μ-loop
-    loop-holds
-    mul-at
-    add-at
-    add-at-2
-    mul-at-2
-    shared-slice-read-at
-    cast-at
-    add-at-3
-    add-j
-    loop-less
-    loop-again
-    returns)
+offset-spec = tie.close (tie.spec offset-from-requires returns)
