@@ -5,13 +5,13 @@ use mathlib.Core.Bool.{Bool, false}
 use mathlib.Core.Option.{Option, none, some}
 use Prim.Native.Nat.{ℕ, zero, suc, _+_, _≤_, _<_}
 use lib.Dec.{ltb}
-use lib.ListN.{length, getD, getElem?}
+use lib.ListN.{length, getElem?}
 use Rattle.tree.specs.Base.{pick}
 use Rattle.tree.specs.Tree.{Tree, node, nil, Core}
-use Rattle.definition.specs.Scope.{VarInfo, Stack, valueO}
+use Rattle.definition.specs.Scope.{VarInfo, Stack}
 use Rattle.definition.specs.Tree.{countO}
 use Rattle.words.specs.Layout.{tree, run}
-use Rattle.scopes.specs.State.{stack, valueOf, runOf, Whole}
+use Rattle.scopes.specs.State.{Whole}
 use Rattle.nodes.specs.Nodes.{treeFrom, valueFrom, Swapped}
 use Rattle.nodes.specs.declared.Step.{Step}
 use Rattle.nodes.specs.declared.Step.the-variants.{Done}

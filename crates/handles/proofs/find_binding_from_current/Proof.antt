@@ -1,4 +1,4 @@
-use mathlib.Core.Path.{_≡_, refl, sym, ap, _∙_}
+use mathlib.Core.Path.{refl, sym, ap, _∙_}
 use Rattle.handles.proofs.Numbers as numbers
 use borrow.Author.Needs.{needs}
 use Rattle.handles.proofs.find_binding_from_current.Statement.{statement}

@@ -1,6 +1,5 @@
 use Rattle.handles.proofs.Numbers as numbers
 use native.Mathlib.Omega.{arith}
-use Prim.Native.Nat.{_-_}
 use mathlib.Core.Path.{sym, ap, _∙_}
 use Rattle.definition.specs.Tree.{countO}
 use borrow.Author.Needs.{needs}

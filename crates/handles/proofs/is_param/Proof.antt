@@ -1,4 +1,4 @@
-use mathlib.Core.Path.{_≡_, refl, sym, ap, _∙_}
+use mathlib.Core.Path.{refl, sym, ap, _∙_}
 use native.Mathlib.Omega.{arith}
 use Rattle.definition.specs.Scope.{VarInfo, isParam}
 use Rattle.handles.specs.Handles.{ofBinding}

@@ -1,6 +1,5 @@
 use Rattle.handles.proofs.Numbers as numbers
 use native.Mathlib.Omega.{arith}
-use Prim.Native.Nat.{_-_}
 use Rattle.nodes.specs.Nodes.{valueFrom}
 use Rattle.nodes.specs.declared.Step.the-variants.{Refused}
 use borrow.Author.Needs.{needs}

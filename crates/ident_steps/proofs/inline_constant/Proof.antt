@@ -5,7 +5,7 @@ use Rattle.ident_steps.proofs.Fates as fates
 use Rattle.handles.proofs.Numbers as numbers
 use Rattle.handles.specs.Handles.{held}
 use Rattle.definition.specs.Tree.{countO}
-use Prim.Native.Nat.{ℕ, _+_, _-_}
+use Prim.Native.Nat.{ℕ, _+_}
 use Rattle.scopes.specs.State.{stack}
 use mathlib.Core.Logic.{inr}
 use mathlib.Core.Bool.{true}

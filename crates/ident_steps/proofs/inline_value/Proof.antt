@@ -4,7 +4,7 @@ use Rattle.ident_steps.proofs.Laws as laws
 use Rattle.handles.proofs.Numbers as numbers
 use Rattle.handles.specs.Handles.{numbered}
 use Rattle.definition.specs.Tree.{countO}
-use Prim.Native.Nat.{ℕ, _+_, _-_}
+use Prim.Native.Nat.{ℕ, _+_}
 use Rattle.scopes.specs.State.{stack}
 use mathlib.Core.Bool.{not}
 use Rattle.definition.specs.Scope.{valueO}
