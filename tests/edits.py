@@ -5,8 +5,9 @@ import os
 import re
 import sys
 
-# a need that fails only with another one, or because the function has other needs now, is no fact
-OTHER = ('was not admitted', 'that can be named from here', 'is not in scope')
+# what the prover says of a need that does not hold; of one that fails with another, or because the function has other needs now, it says
+# something else
+FACTS = ('the two types', 'does not follow', 'no proof of', 'no occurrence of', 'but this has type')
 
 
 def named(edit):
@@ -19,7 +20,7 @@ def refused(log, crate, function):
     path = r'proofs/%s\+?%s/Proof\.antt:\d+:\d+: error: (.*)' % re.match(r'(.*?)(\w+)$', function.replace('::', '/')).groups()
     for line in log:
         m = re.search(path, line)
-        if m and not any(text in m.group(1) for text in OTHER):
+        if m and any(text in m.group(1) for text in FACTS):
             return True
         if line.startswith('fn %s::%s: no proof' % (crate, function)) and '`search` does not close' in line:
             return True
