@@ -20,7 +20,7 @@ use Rattle.scopes.specs.State.{nameOf, stack}
 use Rattle.nodes.specs.Nodes.{treeFrom}
 use Rattle.state.specs.State.{rest, abs}
 use Rattle.handles.specs.Handles.{ofBinding, held}
-use Rattle.handles.proofs.Numbers.{held-some}
+use Rattle.handles.proofs.Numbers.{held-some, count-none}
 use Rattle.nodes.proofs.Trees.{count-some}
 use Rattle.ident_steps.specs.Steps.{stays, undefined, inlined, fateOf, fateAt, constantAt}
 use Rattle.ident_steps.proofs.Laws.{tree-num}
@@ -34,13 +34,9 @@ pub fate-value : (o : Option VarInfo) → ofBinding varInlinePrevented o ≡ fal
 fate-value none e t q = absurd (omega (arith, ap countO q, count-some t))
 fate-value (some b) e t q = rw (e, q) refl
 
-no-value : (v : Option Tree) → countO v ≡ 0 → v ≡ none
-no-value none z = refl
-no-value (some t) z = absurd (omega (arith, count-some t))
-
 pub fate-none : (o : Option VarInfo) → ofBinding varInlinePrevented o ≡ false → countO (valueO o) ≡ 0 → fateOf o ≡ pick (ofBinding (λ v. v .isUndefined) o) undefined stays
 fate-none none e z = refl
-fate-none (some b) e z = rw (e, no-value (b .value) z) refl
+fate-none (some b) e z = rw (e, count-none (b .value) z) refl
 
 module _ (w : List ℕ) (i x : ℕ) (l : i < getD w 0 0) (n : x ≡ nodeOf w i .num) where
   name : nodeAt (abs w) i .num ≡ x
