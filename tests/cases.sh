@@ -1,11 +1,11 @@
 #!/usr/bin/env bash
-# The tables of crates/cases are what tools/vectors.py writes from the vectors.
+# The tables of crates/laws_vectors are what tools/vectors.py writes from the vectors.
 set -u
 cd "$(dirname "$0")/.." || exit 1
 out=$(mktemp -d)
 trap 'rm -rf "$out"' EXIT
-cp crates/cases/specs/{Vector,Play}.antt crates/cases/specs/Calls*.antt "$out"
-if python3 tools/vectors.py tests/vectors/small.txt "$out" && diff -r "$out" crates/cases/specs; then
+cp crates/laws_vectors/specs/{Vector,Play}.antt crates/laws_vectors/specs/Calls*.antt "$out"
+if python3 tools/vectors.py tests/vectors/small.txt "$out" && diff -r "$out" crates/laws_vectors/specs; then
     echo "1 passed, 0 failed"
 else
     echo "0 passed, 1 failed"

@@ -1,5 +1,5 @@
 #!/usr/bin/env python3
-"""Tree files through the C entry of crates/copy and through the program show, against a reader written from document 01 alone.
+"""Tree files through the C entry of crates/file_copy and through the program show, against a reader written from document 01 alone.
 
   tests/treefile.py DRIVER SHOW
 

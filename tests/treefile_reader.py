@@ -1,7 +1,7 @@
 """A reader of tree files written from document 01 alone: which of rows 2 to 7 refuses a file, or 0.
 
 The kinds are regular expressions over the kinds of the children, in document 01's own notation; nothing here follows the definitions of
-crates/format.
+crates/def_file.
 """
 import re
 import struct

@@ -1,8 +1,8 @@
 #!/usr/bin/env python3
-"""Sequences of calls of scope.rs, for the program crates/calls, and tables in which the checker computes the definition on them.
+"""Sequences of calls of scope.rs, for the program crates/scope_calls, and tables in which the checker computes the definition on them.
 
-  tools/calls.py script crates/calls/stdin
-  tools/calls.py tables crates/calls/stdin crates/calls/stdout crates/cases/specs
+  tools/calls.py script crates/scope_calls/stdin
+  tools/calls.py tables crates/scope_calls/stdin crates/scope_calls/stdout crates/laws_vectors/specs
 
 The first writes the program's input: seeded random sequences, and some at the limits. The second takes what the program printed, and
 writes Calls0.antt, Calls1.antt, .. with a theorem for each table that the definition says the same; older ones there are removed.
@@ -28,7 +28,7 @@ HEAD = """-- Sequences {first} to {last} of {count}: calls and what they leave, 
 use mathlib.Core.Path.{{_≡_, refl}}
 use mathlib.Core.List.{{List, [], _∷_}}
 use Prim.Native.Nat.{{ℕ}}
-use Rattle.cases.specs.Play.{{Played, p, wrong}}
+use Rattle.laws_vectors.specs.Play.{{Played, p, wrong}}
 """
 
 

@@ -1,7 +1,7 @@
 #!/usr/bin/env python3
 """Writes the vectors of a text file as tables that the checker computes the definition on.
 
-  tools/vectors.py tests/vectors/small.txt crates/cases/specs
+  tools/vectors.py tests/vectors/small.txt crates/laws_vectors/specs
 
 A vector in the text file is a line `file HEX`, a line `runs N`, then what the program prints (document 01), up to an empty line:
 `refused N`, or a head line, a line for each node and a line for each root binding. The tables go to Part0.antt, Part1.antt, ..
@@ -19,7 +19,7 @@ HEAD = """-- Vectors {first} to {last} of {count}: files and answers, in numbers
 use mathlib.Core.Path.{{_≡_, refl}}
 use mathlib.Core.List.{{List, [], _∷_}}
 use Prim.Native.Nat.{{ℕ}}
-use Rattle.cases.specs.Vector.{{Vector, v, wrong}}
+use Rattle.laws_vectors.specs.Vector.{{Vector, v, wrong}}
 """
 
 

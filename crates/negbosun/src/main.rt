@@ -3,14 +3,14 @@
 ghost use mathlib.Core.Path.{_≡_};
 ghost use Prim.Native.Nat.{_+_, _*_, _≤_};
 ghost use lib.ListN.{length};
-use format::Raw;
-use parts::fields::raw_at;
-use parts::fields::u32_at;
+use def_file::Raw;
+use file_fields::fields::raw_at;
+use file_fields::fields::u32_at;
 use pass::negbosun_inline;
 use pass::negbosun_roots;
 
 // Room for the largest readable file, 32 + 16 * 1,024 + 4 * 256 + 4,096 bytes, and one byte more. A longer input is read to its end, and
-// refused as the whole of it would be (crates/answers/specs/Long.antt, CutAlike): rows 2 and 3 look at the header alone, and a length above
+// refused as the whole of it would be (crates/pass_answers/specs/Long.antt, CutAlike): rows 2 and 3 look at the header alone, and a length above
 // what row 3 leaves is row 4's, cut or not.
 fn room() -> [u8; 21537]
     ensures { λ r. ⌜ 21537 ≡ length r ⌝ }

@@ -7,39 +7,39 @@ use native.Mathlib.Omega.{arith}
 use borrow.Author.Tests.{leb-true}
 use lib.Dec.{leb}
 use lib.ListN.{length, getD}
-use Rattle.tree.specs.Base.{toNat}
-use Rattle.tree.specs.Tree.{Core, plant, firstT}
+use Rattle.def_tree.specs.Base.{toNat}
+use Rattle.def_tree.specs.Tree.{Core, plant, firstT}
 use Rattle.words.specs.Layout.{tree}
 use Rattle.words.specs.Moved.{Cleared}
 use Rattle.words.proofs.Nodes.{tree-length}
-use Rattle.format.specs.declared.Raw.{Raw}
-use Rattle.format.specs.Script.{Script}
-use Rattle.format.specs.Core.{Out, back}
-use Rattle.format.specs.Read.{Read, bad, script, read}
-use Rattle.format.specs.Write.{file}
-use Rattle.roundtrip.specs.Fits.{Bytes}
-use Rattle.treefile.specs.Idents.{Listed}
-use Rattle.writer.specs.declared.Written.{Written}
-use Rattle.writer.specs.declared.Written.the-variants as Written
-use Rattle.writer.specs.Written.{Answer as Said, refused as no-room, wrote, says, inRoom, written as writes, left as leaves, resultBytes, Wrote}
-use Rattle.writer.proofs.Tied.{wrote-file}
-use Rattle.definition.specs.Script.{rootOf}
-use Rattle.definition.specs.Entry.{Entry, refused, passed, written, entry}
-use Rattle.definition.specs.Walk.{rootMarks}
-use Rattle.flat.specs.WalkF.{OutcomeF, refusedF}
-use Rattle.flat.specs.PassF.{answerF, passF, entryReadF, entryF}
-use Rattle.flat.proofs.File.{entry-same}
-use Rattle.scopes.specs.State.{stack}
-use Rattle.nodes.specs.Nodes.{Planted}
-use Rattle.nodes.proofs.Trees.{count-some, length-flat}
-use Rattle.copy.specs.Copy.{WordsAre}
-use Rattle.run.specs.declared.Ran.{Ran}
-use Rattle.run.specs.declared.Ran.the-variants as Ran
-use Rattle.answers.specs.declared.Inlined.{Inlined}
-use Rattle.run.specs.Run.{outcome}
-use Rattle.run.specs.Inline.{readRuns, Final, FileIs}
-use Rattle.answers.specs.Entry.{enough, numbers, left, InlineIs}
-use Rattle.run.proofs.Files.{node-count}
+use Rattle.def_file.specs.declared.Raw.{Raw}
+use Rattle.def_file.specs.Script.{Script}
+use Rattle.def_file.specs.Core.{Out, back}
+use Rattle.def_file.specs.Read.{Read, bad, script, read}
+use Rattle.def_file.specs.Write.{file}
+use Rattle.laws_roundtrip.specs.Fits.{Bytes}
+use Rattle.file_read.specs.Idents.{Listed}
+use Rattle.file_write.specs.declared.Written.{Written}
+use Rattle.file_write.specs.declared.Written.the-variants as Written
+use Rattle.file_write.specs.Written.{Answer as Said, refused as no-room, wrote, says, inRoom, written as writes, left as leaves, resultBytes, Wrote}
+use Rattle.file_write.proofs.Tied.{wrote-file}
+use Rattle.def_pass.specs.Script.{rootOf}
+use Rattle.def_pass.specs.Entry.{Entry, refused, passed, written, entry}
+use Rattle.def_pass.specs.Walk.{rootMarks}
+use Rattle.laws_flat.specs.WalkF.{OutcomeF, refusedF}
+use Rattle.laws_flat.specs.PassF.{answerF, passF, entryReadF, entryF}
+use Rattle.laws_flat.proofs.File.{entry-same}
+use Rattle.words_scopes.specs.State.{stack}
+use Rattle.words_nodes.specs.Nodes.{Planted}
+use Rattle.words_nodes.proofs.Trees.{count-some, length-flat}
+use Rattle.file_copy.specs.Copy.{WordsAre}
+use Rattle.pass_run.specs.declared.Ran.{Ran}
+use Rattle.pass_run.specs.declared.Ran.the-variants as Ran
+use Rattle.pass_answers.specs.declared.Inlined.{Inlined}
+use Rattle.pass_run.specs.Run.{outcome}
+use Rattle.pass_run.specs.Inline.{readRuns, Final, FileIs}
+use Rattle.pass_answers.specs.Entry.{enough, numbers, left, InlineIs}
+use Rattle.pass_run.proofs.Files.{node-count}
 
 -- the test of row 1, and what passed it
 differ : false ≡ true → ⊥

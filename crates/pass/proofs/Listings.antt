@@ -6,26 +6,26 @@ use Prim.Native.Nat.{ℕ}
 use native.Mathlib.Omega.{arith}
 use lib.ListN.{length, getD}
 use Rattle.words.specs.Moved.{Cleared}
-use Rattle.format.specs.declared.Raw.{Raw}
-use Rattle.format.specs.Script.{zeroNode}
-use Rattle.format.specs.Read.{Read, bad, script, read}
-use Rattle.writer.specs.declared.Written.{Written}
-use Rattle.writer.specs.declared.Written.the-variants as Written
-use Rattle.definition.specs.Script.{Root, Answer, rootOf, passFile}
-use Rattle.definition.specs.Walk.{rootMarks}
-use Rattle.flat.specs.WalkF.{OutcomeF, refusedF}
-use Rattle.flat.specs.PassF.{answerF, passF, passReadF, passFileF}
-use Rattle.flat.proofs.File.{file-same}
-use Rattle.scopes.specs.State.{stack}
-use Rattle.copy.specs.Copy.{WordsAre}
-use Rattle.run.specs.declared.Ran.{Ran}
-use Rattle.run.specs.declared.Ran.the-variants as Ran
-use Rattle.answers.specs.declared.Roots.{Roots}
-use Rattle.run.specs.Inline.{readRuns, Final, FileIs}
-use Rattle.answers.specs.Entry.{enough}
-use Rattle.roots.specs.Listing.{Known, rootsIn, Listing, refused, listed, inRoom, left, SaysSo, WroteRoots}
-use Rattle.answers.specs.Roots.{answered, listing, numbers, RootsIs}
-use Rattle.run.proofs.Files.{is-found, node-count}
+use Rattle.def_file.specs.declared.Raw.{Raw}
+use Rattle.def_file.specs.Script.{zeroNode}
+use Rattle.def_file.specs.Read.{Read, bad, script, read}
+use Rattle.file_write.specs.declared.Written.{Written}
+use Rattle.file_write.specs.declared.Written.the-variants as Written
+use Rattle.def_pass.specs.Script.{Root, Answer, rootOf, passFile}
+use Rattle.def_pass.specs.Walk.{rootMarks}
+use Rattle.laws_flat.specs.WalkF.{OutcomeF, refusedF}
+use Rattle.laws_flat.specs.PassF.{answerF, passF, passReadF, passFileF}
+use Rattle.laws_flat.proofs.File.{file-same}
+use Rattle.words_scopes.specs.State.{stack}
+use Rattle.file_copy.specs.Copy.{WordsAre}
+use Rattle.pass_run.specs.declared.Ran.{Ran}
+use Rattle.pass_run.specs.declared.Ran.the-variants as Ran
+use Rattle.pass_answers.specs.declared.Roots.{Roots}
+use Rattle.pass_run.specs.Inline.{readRuns, Final, FileIs}
+use Rattle.pass_answers.specs.Entry.{enough}
+use Rattle.pass_roots.specs.Listing.{Known, rootsIn, Listing, refused, listed, inRoom, left, SaysSo, WroteRoots}
+use Rattle.pass_answers.specs.Roots.{answered, listing, numbers, RootsIs}
+use Rattle.pass_run.proofs.Files.{is-found, node-count}
 
 -- how it ends, by row 1
 listing-by : (n words : ℕ) (bs : List ℕ) (room : ℕ) (p : Bool) → enough n words ≡ p → listing n words bs room ≡ elim p [ false ↦ refused 1 | true ↦ answered room (passReadF n (read bs)) ]

@@ -5,20 +5,20 @@ use mathlib.Core.Option.{Option, none, some}
 use Prim.Native.Nat.{ℕ, _+_, _≤_, _<_}
 use native.Mathlib.Omega.{arith}
 use lib.ListN.{getD}
-use Rattle.tree.specs.Tree.{Tree}
-use Rattle.definition.specs.Scope as def
+use Rattle.def_tree.specs.Tree.{Tree}
+use Rattle.def_pass.specs.Scope as def
 use Rattle.words.specs.Layout.{tree, run}
-use Rattle.tree.specs.Tree.{count}
-use Rattle.scopes.specs.State.{valueOf}
-use Rattle.nodes.specs.Nodes.{Planted, treeFrom}
-use Rattle.nodes.proofs.Splice.{subtree-value, subtree-one}
-use Rattle.inits.proofs.Init.{run-none, none-one}
-use Rattle.declares.specs.declared.Init.{Init}
-use Rattle.declares.specs.declared.Init.the-variants.{NoInit, Recorded, Seen}
-use Rattle.inits.specs.Inits.{initFrom, Sited}
-use Rattle.inits.proofs.Init.{run-none, none-one}
-use Rattle.handles.specs.Handles.{treeO}
-use Rattle.handles.proofs.Numbers.{tree-in}
+use Rattle.def_tree.specs.Tree.{count}
+use Rattle.words_scopes.specs.State.{valueOf}
+use Rattle.words_nodes.specs.Nodes.{Planted, treeFrom}
+use Rattle.words_nodes.proofs.Splice.{subtree-value, subtree-one}
+use Rattle.scope_declare.proofs.Init.{run-none, none-one}
+use Rattle.scope_define.specs.declared.Init.{Init}
+use Rattle.scope_define.specs.declared.Init.the-variants.{NoInit, Recorded, Seen}
+use Rattle.scope_declare.specs.Inits.{initFrom, Sited}
+use Rattle.scope_declare.proofs.Init.{run-none, none-one}
+use Rattle.scope_var_info.specs.Handles.{treeO}
+use Rattle.scope_var_info.proofs.Numbers.{tree-in}
 use Rattle.scope.specs.Given.{initO, Runs}
 
 -- the nodes of a value that is given

@@ -5,18 +5,18 @@ use mathlib.Core.Bool.{Bool, true, false}
 use Prim.Native.Nat.{ℕ}
 use native.Mathlib.Omega.{arith}
 use lib.ListN.{length, getD}
-use Rattle.tree.specs.Combine.{Res, stop, done, Nothing, andThen}
-use Rattle.definition.specs.Scope.{Stack}
-use Rattle.definition.specs.Walk.{St, M, setStack, mark, grow}
+use Rattle.def_tree.specs.Combine.{Res, stop, done, Nothing, andThen}
+use Rattle.def_pass.specs.Scope.{Stack}
+use Rattle.def_pass.specs.Walk.{St, M, setStack, mark, grow}
 use Rattle.words.specs.Layout.{tree}
 use Rattle.words.proofs.Nodes.{tree-length}
-use Rattle.scopes.specs.State.{Becomes, stack}
-use Rattle.records.specs.Steps.{Still, Grown, over}
-use Rattle.records.specs.declared.Step.{Step}
-use Rattle.records.specs.declared.Step.the-variants.{Done, Refused}
-use Rattle.nodes.specs.Nodes.{Planted}
-use Rattle.state.specs.State.{Ok, rest}
-use Rattle.state.proofs.Fields.{becomes-rest, becomes-ok, count-kept, ok-self, ok-then}
+use Rattle.words_scopes.specs.State.{Becomes, stack}
+use Rattle.scope_values.specs.Steps.{Still, Grown, over}
+use Rattle.scope_values.specs.declared.Step.{Step}
+use Rattle.scope_values.specs.declared.Step.the-variants.{Done, Refused}
+use Rattle.words_nodes.specs.Nodes.{Planted}
+use Rattle.words_state.specs.State.{Ok, rest}
+use Rattle.words_state.proofs.Fields.{becomes-rest, becomes-ok, count-kept, ok-self, ok-then}
 use Rattle.scope.specs.Steps.{doneOf, Moves}
 
 pub still-ok : {w u : List ℕ} → Planted w → length u ≡ length w → Still w u → Ok w u

@@ -4,15 +4,15 @@ use mathlib.Core.List.{List}
 use mathlib.Core.Bool.{Bool, true, false, _&&_, not}
 use Prim.Native.Nat.{ℕ}
 use lib.ListN.{getD}
-use Rattle.tree.specs.Tree.{Tree}
-use Rattle.definition.specs.Scope.{VarType, isVar, declare}
-use Rattle.definition.specs.Walk.{St, grow, declareM, noValue}
+use Rattle.def_tree.specs.Tree.{Tree}
+use Rattle.def_pass.specs.Scope.{VarType, isVar, declare}
+use Rattle.def_pass.specs.Walk.{St, grow, declareM, noValue}
 use Rattle.words.specs.Layout.{yes}
-use Rattle.scopes.specs.State.{varTypeOf}
-use Rattle.declares.specs.declared.Init.{Init}
-use Rattle.declares.specs.declared.Init.the-variants.{NoInit, Recorded, Seen}
-use Rattle.state.specs.State.{rest}
-use Rattle.inits.specs.Inits.{initFrom, hasNone}
+use Rattle.words_scopes.specs.State.{varTypeOf}
+use Rattle.scope_define.specs.declared.Init.{Init}
+use Rattle.scope_define.specs.declared.Init.the-variants.{NoInit, Recorded, Seen}
+use Rattle.words_state.specs.State.{rest}
+use Rattle.scope_declare.specs.Inits.{initFrom, hasNone}
 use Rattle.scope.specs.Steps.{named}
 
 -- the visitor's fields

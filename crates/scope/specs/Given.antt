@@ -4,13 +4,13 @@ use mathlib.Core.List.{List}
 use mathlib.Core.Option.{Option, none, some}
 use Prim.Native.Nat.{ℕ, _+_, _≤_}
 use lib.ListN.{getD}
-use Rattle.tree.specs.Tree.{Tree, Core}
-use Rattle.definition.specs.Scope as def
+use Rattle.def_tree.specs.Tree.{Tree, Core}
+use Rattle.def_pass.specs.Scope as def
 use Rattle.words.specs.Layout.{run}
-use Rattle.scopes.specs.State.{valueOf, runOf}
-use Rattle.declares.specs.declared.Init.{Init}
-use Rattle.inits.specs.Inits.{initFrom}
-use Rattle.handles.specs.Handles.{treeO}
+use Rattle.words_scopes.specs.State.{valueOf, runOf}
+use Rattle.scope_define.specs.declared.Init.{Init}
+use Rattle.scope_declare.specs.Inits.{initFrom}
+use Rattle.scope_var_info.specs.Handles.{treeO}
 use Rattle.scope.specs.declared.Value.{Value}
 use Rattle.scope.specs.declared.Value.the-variants.{Nothing, At}
 

@@ -2,13 +2,13 @@
 use mathlib.Core.Path.{_≡_}
 use mathlib.Core.List.{List}
 use Prim.Native.Nat.{ℕ}
-use Rattle.tree.specs.Tree.{Tree, node, nil}
-use Rattle.tree.specs.Combine.{Res, stop, done, Nothing}
-use Rattle.definition.specs.Walk.{St}
+use Rattle.def_tree.specs.Tree.{Tree, node, nil}
+use Rattle.def_tree.specs.Combine.{Res, stop, done, Nothing}
+use Rattle.def_pass.specs.Walk.{St}
 use Rattle.words.specs.Layout.{tree}
-use Rattle.state.specs.State.{Ok}
-use Rattle.records.specs.declared.Step.{Step}
-use Rattle.records.specs.declared.Step.the-variants.{Done, Refused}
+use Rattle.words_state.specs.State.{Ok}
+use Rattle.scope_values.specs.declared.Step.{Step}
+use Rattle.scope_values.specs.declared.Step.the-variants.{Done, Refused}
 
 -- the name of a declarator: only its number is looked at
 abbrev pub named : ℕ → Tree

@@ -1,61 +1,61 @@
 // scope.rs, item by item, as its callers see it: each function asks only that the words stand for a state, and says what it does in terms of that
-// state. The look-ups are in crates/handles; a node or a value that the state has not is answered as none.
+// state. The look-ups are in crates/scope_var_info; a node or a value that the state has not is answered as none.
 ghost use mathlib.Core.Path.{_≡_};
 ghost use mathlib.Core.Bool.{_&&_, not};
 ghost use mathlib.Core.List.{_∷_};
 ghost use lib.Dec.{leb};
 ghost use lib.ListN.{length};
-ghost use Rattle.definition.specs.Scope.{newScope, declare, isVar, addConst, change, defined, withValue};
-ghost use Rattle.definition.specs.Walk.{declareM};
+ghost use Rattle.def_pass.specs.Scope.{newScope, declare, isVar, addConst, change, defined, withValue};
+ghost use Rattle.def_pass.specs.Walk.{declareM};
 ghost use Rattle.words.specs.Layout.{tree};
-ghost use Rattle.scopes.specs.State.{Good, stack, scopeKindOf};
-ghost use Rattle.records.specs.Steps.{Limited, Grown};
-ghost use Rattle.declares.specs.Kinds.{typeOf};
-ghost use Rattle.nodes.specs.Nodes.{Planted, treeFrom, size};
-ghost use Rattle.state.specs.State.{rest};
-ghost use Rattle.inits.specs.Inits.{initFrom, Sited, hasNone};
-ghost use Rattle.handles.specs.Handles.{treeO};
+ghost use Rattle.words_scopes.specs.State.{Good, stack, scopeKindOf};
+ghost use Rattle.scope_values.specs.Steps.{Limited, Grown};
+ghost use Rattle.scope_define.specs.Kinds.{typeOf};
+ghost use Rattle.words_nodes.specs.Nodes.{Planted, treeFrom, size};
+ghost use Rattle.words_state.specs.State.{rest};
+ghost use Rattle.scope_declare.specs.Inits.{initFrom, Sited, hasNone};
+ghost use Rattle.scope_var_info.specs.Handles.{treeO};
 ghost use Rattle.scope.specs.Given.{initO, valueAt, Runs};
 ghost use Rattle.scope.specs.Steps.{named, doneOf, Moves};
-pub use bindings::Scope;
-pub use bindings::ScopeKind;
-pub use bindings::close;
-pub use bindings::open_scope;
-pub use declares::Init;
-pub use declares::VarDeclKind;
-pub use declares::VarType;
-pub use handles::find_binding;
-pub use handles::find_binding_from_current;
-pub use handles::find_constant;
-pub use handles::has_same_this;
-pub use handles::idx_val;
-use handles::in_tree;
-pub use handles::is_inline_prevented;
-pub use handles::is_param;
-pub use handles::is_undefined;
-pub use handles::put_constant;
-pub use handles::put_value;
-pub use handles::value_ident;
-pub use handles::value_kind;
-pub use handles::value_len;
-pub use handles::var_inline_prevented;
-use inits::no_value;
-pub use look::Count;
-pub use look::has_constant;
-pub use look::ident_prevented;
-pub use look::read_cnt;
-pub use look::read_prevents_inlining;
-pub use look::scope_for;
-pub use look::should_prevent_inline_because_of_scope;
-pub use look::write_prevents_inline;
-pub use markers::mark::mark_this_sensitive;
-pub use markers::mark::prevent_inline_of_params;
-pub use markers::mark::store_inline_barrier;
-use nodes::skip;
-use records::Step;
-pub use scopes::prevent_inline;
-pub use usages::add_read;
-pub use usages::add_write;
+pub use scope_child::Scope;
+pub use scope_child::ScopeKind;
+pub use scope_child::close;
+pub use scope_child::open_scope;
+pub use scope_define::Init;
+pub use scope_define::VarDeclKind;
+pub use scope_define::VarType;
+pub use scope_var_info::find_binding;
+pub use scope_var_info::find_binding_from_current;
+pub use scope_var_info::find_constant;
+pub use scope_var_info::has_same_this;
+pub use scope_var_info::idx_val;
+use scope_var_info::in_tree;
+pub use scope_var_info::is_inline_prevented;
+pub use scope_var_info::is_param;
+pub use scope_var_info::is_undefined;
+pub use scope_var_info::put_constant;
+pub use scope_var_info::put_value;
+pub use scope_var_info::value_ident;
+pub use scope_var_info::value_kind;
+pub use scope_var_info::value_len;
+pub use scope_var_info::var_inline_prevented;
+use scope_declare::no_value;
+pub use scope_find::Count;
+pub use scope_find::has_constant;
+pub use scope_find::ident_prevented;
+pub use scope_find::read_cnt;
+pub use scope_find::read_prevents_inlining;
+pub use scope_find::scope_for;
+pub use scope_find::should_prevent_inline_because_of_scope;
+pub use scope_find::write_prevents_inline;
+pub use scope_marks::mark::mark_this_sensitive;
+pub use scope_marks::mark::prevent_inline_of_params;
+pub use scope_marks::mark::store_inline_barrier;
+use words_nodes::skip;
+use scope_values::Step;
+pub use words_scopes::prevent_inline;
+pub use scope_read_write::add_read;
+pub use scope_read_write::add_write;
 use words::layout;
 
 // A value that is recorded: none, or the tree that begins at a node.
@@ -78,7 +78,7 @@ pub fn open_kind(w: &mut [u32], kind: u32) -> Step
     if 32 <= w[layout::SCOPE_COUNT] {
         return Step::Refused(8);
     }
-    scopes::open(w, kind);
+    words_scopes::open(w, kind);
     Step::Done
 }
 
@@ -99,7 +99,7 @@ pub fn declare(w: &mut [u32], x: u8, v: Init, i: usize, undefined: bool, kind: V
     ensures { λ r. ⌜ Grown (now (w .entry)) (now (w .exit)) (declare x (initO v (treeO (tree (now (w .entry))) i)) undefined (typeOf kind) (stack (now (w .entry)))) r ⌝ }
 {
     let e = sited(w, v, i);
-    inits::declare(w, x, e, i, undefined, kind)
+    scope_declare::declare(w, x, e, i, undefined, kind)
 }
 
 // declare's is_undefined.
@@ -126,7 +126,7 @@ pub fn declare_m(w: &mut [u32], x: u8, v: Init, i: usize, is_change: bool, kind:
 {
     let e = sited(w, v, i);
     let undefined = undefined_now(w, e, is_change);
-    inits::declare(w, x, e, i, undefined, kind)
+    scope_declare::declare(w, x, e, i, undefined, kind)
 }
 
 // constants.insert: x is a constant of the current scope.
@@ -137,7 +137,7 @@ pub fn add_const(w: &mut [u32], x: u8, v: Value) -> Step
     let e = run_of(w, v);
     let at = e.at;
     let len = e.len;
-    constants::add_const(w, x, at, len)
+    scope_constants::add_const(w, x, at, len)
 }
 
 // The nodes of a value.
@@ -165,7 +165,7 @@ pub fn record_value(w: &mut [u32], x: u8, v: Value) -> Step
     let e = run_of(w, v);
     let at = e.at;
     let len = e.len;
-    records::record_value(w, x, at, len)
+    scope_values::record_value(w, x, at, len)
 }
 
 // The innermost binding of x gets its first value.
@@ -176,5 +176,5 @@ pub fn first_value(w: &mut [u32], x: u8, v: Value) -> Step
     let e = run_of(w, v);
     let at = e.at;
     let len = e.len;
-    declares::first_value(w, x, at, len)
+    scope_define::first_value(w, x, at, len)
 }

@@ -5,12 +5,12 @@ use Prim.Native.Nat.{ℕ, zero, suc, _+_, _≤_, _<_}
 use native.Mathlib.Omega.{arith}
 use lib.ListN.{length, take, drop, length-take, length-drop, length-append, take-append-drop}
 use lib.Seq.{drop-drop, length-take-le}
-use Rattle.tree.specs.Tree.{Tree, Forest, nil, cons, Core, lengthF, count, counts, flat, flats, plant, takeF, dropF}
-use Rattle.tree.specs.Combine as TreeWalks
-use Rattle.tree.specs.Combine.{Res, stop, done, M, andThen, ret, Flat, treeAt, forestAt, Walk, Walks, carry, skip, splitF}
-use Rattle.tree.proofs.Place.{onto, past, pasts, length-past, length-pasts, onto-past, onto-pasts, take-onto, drop-onto, onto-append, length-onto, at, drop-here, drops-here, tree-here, forest-here, plant-flats, appendF}
-use Rattle.tree.proofs.Sims.{Sim, SimF, sim-skip, sim-split, landT, landF, Ends}
-use Rattle.tree.proofs.Whole.{Whole, whole-drop, length-takeF, length-dropF, flats-take-drop, unplant, whole-onto, length-appendF}
+use Rattle.def_tree.specs.Tree.{Tree, Forest, nil, cons, Core, lengthF, count, counts, flat, flats, plant, takeF, dropF}
+use Rattle.def_tree.specs.Combine as TreeWalks
+use Rattle.def_tree.specs.Combine.{Res, stop, done, M, andThen, ret, Flat, treeAt, forestAt, Walk, Walks, carry, skip, splitF}
+use Rattle.def_tree.proofs.Place.{onto, past, pasts, length-past, length-pasts, onto-past, onto-pasts, take-onto, drop-onto, onto-append, length-onto, at, drop-here, drops-here, tree-here, forest-here, plant-flats, appendF}
+use Rattle.def_tree.proofs.Sims.{Sim, SimF, sim-skip, sim-split, landT, landF, Ends}
+use Rattle.def_tree.proofs.Whole.{Whole, whole-drop, length-takeF, length-dropF, flats-take-drop, unplant, whole-onto, length-appendF}
 use Rattle.shape.specs.Shape.{Room, Shape}
 
 -- a list as what stands behind its first nodes, the last one first

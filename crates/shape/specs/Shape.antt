@@ -3,8 +3,8 @@ use mathlib.Core.Path.{_≡_}
 use mathlib.Core.List.{List}
 use Prim.Native.Nat.{ℕ, _+_, _≤_, _<_}
 use lib.ListN.{length, take, drop}
-use Rattle.tree.specs.Tree.{Core, lengthF, count, counts, plant}
-use Rattle.tree.specs.Combine.{Flat, treeAt, forestAt}
+use Rattle.def_tree.specs.Tree.{Core, lengthF, count, counts, plant}
+use Rattle.def_tree.specs.Combine.{Flat, treeAt, forestAt}
 
 -- n trees begin at i
 pub record Room (xs : List Core) (n i : ℕ) : Type 0 where

@@ -2,11 +2,11 @@
 ghost use mathlib.Core.Path.{_≡_};
 ghost use Prim.Native.Nat.{_+_, _*_, _≤_};
 ghost use lib.ListN.{length};
-use format::Raw;
-use parts::fields::raw_at;
-use treefile::header::Header;
-use treefile::read::Answer;
-use treefile::read::read;
+use def_file::Raw;
+use file_fields::fields::raw_at;
+use file_read::header::Header;
+use file_read::read::Answer;
+use file_read::read::read;
 
 // Room for the largest readable file, 32 + 16 * 1,024 + 4 * 256 + 4,096 bytes, and one byte more. A longer input is refused as the
 // whole of it would be: rows 2 and 3 look at the header alone, and a length above what row 3 leaves is row 4's, cut or not.

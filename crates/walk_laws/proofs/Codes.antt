@@ -7,17 +7,17 @@ use native.Mathlib.Omega.{arith}
 use lib.Dec.{ltb}
 use lib.ListN.{getD}
 use borrow.Author.Tests.{lt-ltb, le-ltb, ltb-true}
-use Rattle.tree.specs.Base.{pick}
-use Rattle.tree.specs.Tree.{Tree, count}
-use Rattle.tree.specs.Combine.{Res, M, Flat, Walk}
-use Rattle.tree.proofs.Sims.{Sim, sim-skip}
+use Rattle.def_tree.specs.Base.{pick}
+use Rattle.def_tree.specs.Tree.{Tree, count}
+use Rattle.def_tree.specs.Combine.{Res, M, Flat, Walk}
+use Rattle.def_tree.proofs.Sims.{Sim, sim-skip}
 use Rattle.words.specs.Layout.{tree}
 use Rattle.words.proofs.Nodes.{tree-length}
-use Rattle.definition.specs.Walk.{St}
-use Rattle.nodes.specs.Nodes.{Planted, treeFrom}
-use Rattle.state.specs.State.{abs}
-use Rattle.ident_steps.specs.declared.Next.{Next}
-use Rattle.ident_steps.specs.declared.Next.the-variants.{At, Refused}
+use Rattle.def_pass.specs.Walk.{St}
+use Rattle.words_nodes.specs.Nodes.{Planted, treeFrom}
+use Rattle.words_state.specs.State.{abs}
+use Rattle.walk_ident.specs.declared.Next.{Next}
+use Rattle.walk_ident.specs.declared.Next.the-variants.{At, Refused}
 use Rattle.walk_laws.specs.Did.{Did, Here, nextOf, Low}
 use Rattle.walk_laws.proofs.Heres.{here-next, at-node}
 use Rattle.walk_laws.proofs.Ways.{did-as, did-skip}

@@ -11,36 +11,36 @@ use lib.ListN.{length, getD, set}
 use lib.Seq.{getD-take, set-getD}
 use lib.Dec.{eqb}
 use borrow.Author.Tests.{eq-eqb, ne-eqb}
-use Rattle.tree.specs.Base.{pick}
-use Rattle.tree.specs.Tree.{Tree, Forest, Core, noCore, core, count, counts, kind, num}
-use Rattle.tree.specs.Combine as Split
-use Rattle.tree.specs.Combine.{Res, stop, done, M, Nothing, andThen, ret, iff, Flat, nodeAt, reArity, setArity, treeAt, forestAt, Walk, Walks, ReWalks, onRest, actF, skip, skips, many, splitF, reKidsF, same, splitR, cutFirst, carry}
-use Rattle.tree.proofs.Whole.{kind-at, num-at, whole-drop}
-use Rattle.tree.proofs.Sims.{Sim, SimF, sim-skip, sim-skips, sim-split}
+use Rattle.def_tree.specs.Base.{pick}
+use Rattle.def_tree.specs.Tree.{Tree, Forest, Core, noCore, core, count, counts, kind, num}
+use Rattle.def_tree.specs.Combine as Split
+use Rattle.def_tree.specs.Combine.{Res, stop, done, M, Nothing, andThen, ret, iff, Flat, nodeAt, reArity, setArity, treeAt, forestAt, Walk, Walks, ReWalks, onRest, actF, skip, skips, many, splitF, reKidsF, same, splitR, cutFirst, carry}
+use Rattle.def_tree.proofs.Whole.{kind-at, num-at, whole-drop}
+use Rattle.def_tree.proofs.Sims.{Sim, SimF, sim-skip, sim-skips, sim-split}
 use Rattle.words.specs.Layout.{tree, nodeOf}
 use Rattle.words.proofs.Nodes.{tree-at, tree-length}
-use Rattle.scopes.specs.State.{Good, stack, varTypeOf}
-use Rattle.definition.specs.Scope.{VarType, Stack, isConst}
-use Rattle.definition.specs.Walk.{St, modify, setPatMode, declaring, headBind, overM, stays, takes}
-use Rattle.nodes.specs.Nodes.{Planted, Child, treeFrom, forestFrom}
-use Rattle.nodes.proofs.Trees.{node-count, child-in, tree-at-is}
-use Rattle.nodes.proofs.Walks.{second-child, forest-at-is}
+use Rattle.words_scopes.specs.State.{Good, stack, varTypeOf}
+use Rattle.def_pass.specs.Scope.{VarType, Stack, isConst}
+use Rattle.def_pass.specs.Walk.{St, modify, setPatMode, declaring, headBind, overM, stays, takes}
+use Rattle.words_nodes.specs.Nodes.{Planted, Child, treeFrom, forestFrom}
+use Rattle.words_nodes.proofs.Trees.{node-count, child-in, tree-at-is}
+use Rattle.words_nodes.proofs.Walks.{second-child, forest-at-is}
 use Rattle.shape.specs.Shape.{Room}
 use Rattle.shape.proofs.Shapes.{shape-trees, room-stays, trees-end, first-stays}
-use Rattle.state.specs.State.{rest, abs, Ok, Turns}
-use Rattle.state.proofs.Fields.{ok-self, ok-then}
-use Rattle.flat.specs.WalkF.{WalksF, nameLastF, declrInliningF, declrToF, visitMutVarDeclaratorF}
-use Rattle.declare_steps.specs.declared.Told.{Told}
-use Rattle.declare_steps.specs.declared.Told.the-variants.{Answer, Stopped}
-use Rattle.declare_steps.specs.declared.After.{After}
-use Rattle.declare_steps.specs.declared.After.the-variants as after
-use Rattle.declare_steps.specs.Steps as steps
-use Rattle.declare_steps.specs.Steps.{afterOf, named, toldOf, Moves, Spot, declrAfter}
-use Rattle.declare_steps.proofs.Acts.{rest-stack}
-use Rattle.inits.proofs.Codes.{const-yes, const-no}
-use Rattle.declare_steps.proofs.Parts.{rest-kind, forest-none, forest-some, over-name, stays-name, takes-name}
-use Rattle.ident_steps.specs.declared.Next.{Next}
-use Rattle.ident_steps.specs.declared.Next.the-variants.{At, Refused}
+use Rattle.words_state.specs.State.{rest, abs, Ok, Turns}
+use Rattle.words_state.proofs.Fields.{ok-self, ok-then}
+use Rattle.laws_flat.specs.WalkF.{WalksF, nameLastF, declrInliningF, declrToF, visitMutVarDeclaratorF}
+use Rattle.walk_declarator.specs.declared.Told.{Told}
+use Rattle.walk_declarator.specs.declared.Told.the-variants.{Answer, Stopped}
+use Rattle.walk_declarator.specs.declared.After.{After}
+use Rattle.walk_declarator.specs.declared.After.the-variants as after
+use Rattle.walk_declarator.specs.Steps as steps
+use Rattle.walk_declarator.specs.Steps.{afterOf, named, toldOf, Moves, Spot, declrAfter}
+use Rattle.walk_declarator.proofs.Acts.{rest-stack}
+use Rattle.scope_declare.proofs.Codes.{const-yes, const-no}
+use Rattle.walk_declarator.proofs.Parts.{rest-kind, forest-none, forest-some, over-name, stays-name, takes-name}
+use Rattle.walk_ident.specs.declared.Next.{Next}
+use Rattle.walk_ident.specs.declared.Next.the-variants.{At, Refused}
 use Rattle.walk_laws.specs.Did.{Lands, Did, Here, Bound, Headed, declrEndF}
 use Rattle.walk_laws.proofs.Laws.{did-then, did-stop}
 use Rattle.walk_laws.proofs.Rooms.{whole-of, room-one, room-kids, room-node, did-is}

@@ -5,21 +5,21 @@ use Prim.Native.Nat.{ℕ, zero, suc, _+_, _-_, _≤_, _<_}
 use native.Mathlib.Omega.{arith}
 use lib.ListN.{length, getD, drop}
 use mathlib.Core.Logic.{inl}
-use Rattle.tree.specs.Tree.{Tree, Forest, Core, noCore, lengthF, count, counts, plant, firstT}
-use Rattle.tree.specs.Combine.{Res, stop, done, M, Nothing, Flat, Walk, Walks, onRest, act, actF, treeAt, forestAt, many, carry}
-use Rattle.tree.proofs.Sims.{Sim, SimF, sim-each}
+use Rattle.def_tree.specs.Tree.{Tree, Forest, Core, noCore, lengthF, count, counts, plant, firstT}
+use Rattle.def_tree.specs.Combine.{Res, stop, done, M, Nothing, Flat, Walk, Walks, onRest, act, actF, treeAt, forestAt, many, carry}
+use Rattle.def_tree.proofs.Sims.{Sim, SimF, sim-each}
 use Rattle.words.specs.Layout.{tree, nodeOf}
 use Rattle.words.proofs.Nodes.{tree-at, tree-length}
-use Rattle.definition.specs.Walk.{St}
-use Rattle.nodes.specs.Nodes.{Planted, treeFrom}
-use Rattle.nodes.proofs.Trees.{length-flat, count-some}
+use Rattle.def_pass.specs.Walk.{St}
+use Rattle.words_nodes.specs.Nodes.{Planted, treeFrom}
+use Rattle.words_nodes.proofs.Trees.{length-flat, count-some}
 use Rattle.shape.specs.Shape.{Room}
-use Rattle.nodes.proofs.Walks.{forest-at-is}
-use Rattle.nodes.proofs.Loops.{forest-first}
+use Rattle.words_nodes.proofs.Walks.{forest-at-is}
+use Rattle.words_nodes.proofs.Loops.{forest-first}
 use Rattle.shape.proofs.Shapes.{room-stays, trees-end}
-use Rattle.state.specs.State.{abs, Ok, Acts, Act, Turns}
-use Rattle.ident_steps.specs.declared.Next.{Next}
-use Rattle.ident_steps.specs.declared.Next.the-variants.{At, Refused}
+use Rattle.words_state.specs.State.{abs, Ok, Acts, Act, Turns}
+use Rattle.walk_ident.specs.declared.Next.{Next}
+use Rattle.walk_ident.specs.declared.Next.the-variants.{At, Refused}
 use Rattle.walk_laws.specs.Did.{Did, Here}
 use Rattle.walk_laws.proofs.Rooms.{whole-of, room-one, room-kids, room-less, room-node, room-behind, room-next, did-is}
 

@@ -7,25 +7,25 @@ use Prim.Native.Nat.{ℕ, _+_, _≤_, _<_}
 use native.Mathlib.Omega.{arith}
 use lib.Dec.{eqb}
 use lib.ListN.{getD}
-use Rattle.tree.specs.Base.{pick}
-use Rattle.tree.specs.Tree.{Tree, Core, form, num}
-use Rattle.tree.specs.Combine.{Res, stop, done, Nothing, andThen, carry, treeAt, iff, Flat, nodeAt, act, put, skip}
-use Rattle.tree.proofs.Sims.{sim-act, sim-put}
+use Rattle.def_tree.specs.Base.{pick}
+use Rattle.def_tree.specs.Tree.{Tree, Core, form, num}
+use Rattle.def_tree.specs.Combine.{Res, stop, done, Nothing, andThen, carry, treeAt, iff, Flat, nodeAt, act, put, skip}
+use Rattle.def_tree.proofs.Sims.{sim-act, sim-put}
 use Rattle.words.specs.Layout.{tree}
-use Rattle.definition.specs.Tree.{voidZero, countO}
-use Rattle.definition.specs.Scope.{VarInfo, varInlinePrevented, findBinding, addRead}
-use Rattle.definition.specs.Walk.{St, modify, mark, when, setChanged, sameIdent, replace}
+use Rattle.def_pass.specs.Tree.{voidZero, countO}
+use Rattle.def_pass.specs.Scope.{VarInfo, varInlinePrevented, findBinding, addRead}
+use Rattle.def_pass.specs.Walk.{St, modify, mark, when, setChanged, sameIdent, replace}
 use Rattle.shape.specs.Shape.{Room}
-use Rattle.state.specs.State.{rest, abs, Acts, Act}
-use Rattle.flat.specs.WalkF.{WalksF, testRead, inlineValueF, foundF, identInliningF, identAnalysisF, afterIdentF}
-use Rattle.ident_steps.specs.declared.Next.{Next}
-use Rattle.ident_steps.specs.declared.Next.the-variants.{At}
-use Rattle.ident_steps.specs.Steps as steps
-use Rattle.handles.specs.Handles.{held}
-use Rattle.handles.proofs.Numbers.{held-some, count-none}
-use Rattle.ident_steps.specs.declared.Found.{Found}
-use Rattle.ident_steps.specs.declared.Found.the-variants as found
-use Rattle.ident_steps.specs.Steps.{analysisF, Goes, Fate, stays, undefined, inlined, fateBy, fateOf, fateAt, constF, valueF, swapF}
+use Rattle.words_state.specs.State.{rest, abs, Acts, Act}
+use Rattle.laws_flat.specs.WalkF.{WalksF, testRead, inlineValueF, foundF, identInliningF, identAnalysisF, afterIdentF}
+use Rattle.walk_ident.specs.declared.Next.{Next}
+use Rattle.walk_ident.specs.declared.Next.the-variants.{At}
+use Rattle.walk_ident.specs.Steps as steps
+use Rattle.scope_var_info.specs.Handles.{held}
+use Rattle.scope_var_info.proofs.Numbers.{held-some, count-none}
+use Rattle.walk_ident.specs.declared.Found.{Found}
+use Rattle.walk_ident.specs.declared.Found.the-variants as found
+use Rattle.walk_ident.specs.Steps.{analysisF, Goes, Fate, stays, undefined, inlined, fateBy, fateOf, fateAt, constF, valueF, swapF}
 use Rattle.walk_laws.specs.Did.{Lands, Did, Here}
 use Rattle.walk_laws.proofs.Heres.{here-still}
 use Rattle.walk_laws.proofs.Ways.{iff-yes, iff-no, in-inlining, in-analysis, ident-by}

@@ -6,14 +6,14 @@ use Prim.Native.Nat.{ℕ, zero, suc, _+_, _-_, _≤_, _<_}
 use native.Mathlib.Nat.{zero-add, suc-add}
 use native.Mathlib.Numerals.{add-one}
 use native.Mathlib.Omega.{arith}
-use Rattle.tree.specs.Combine.{Res, stop, done, M, Nothing, andThen, _>>=_, _>>_, Flat, nodeAt, Walk, Walks, onRest, withinF, many}
+use Rattle.def_tree.specs.Combine.{Res, stop, done, M, Nothing, andThen, _>>=_, _>>_, Flat, nodeAt, Walk, Walks, onRest, withinF, many}
 use Rattle.words.specs.Layout.{tree}
-use Rattle.definition.specs.Walk.{St}
-use Rattle.nodes.specs.Nodes.{Planted}
-use Rattle.state.specs.State.{rest, abs, Ok, Acts, Act, Turns}
-use Rattle.state.proofs.Fields.{ok-self, ok-then}
-use Rattle.ident_steps.specs.declared.Next.{Next}
-use Rattle.ident_steps.specs.declared.Next.the-variants.{At, Refused}
+use Rattle.def_pass.specs.Walk.{St}
+use Rattle.words_nodes.specs.Nodes.{Planted}
+use Rattle.words_state.specs.State.{rest, abs, Ok, Acts, Act, Turns}
+use Rattle.words_state.proofs.Fields.{ok-self, ok-then}
+use Rattle.walk_ident.specs.declared.Next.{Next}
+use Rattle.walk_ident.specs.declared.Next.the-variants.{At, Refused}
 use Rattle.walk_laws.specs.Did.{Lands, Did}
 
 abbrev F : Type 0 → Type 0

@@ -6,20 +6,20 @@ use Prim.Native.Nat.{ℕ, zero, suc, _+_, _-_, _≤_, _<_}
 use native.Mathlib.Omega.{arith}
 use lib.ListN.{length, getD, drop, take, length-drop}
 use lib.Seq.{drop-cons, drop-drop}
-use Rattle.tree.specs.Tree.{Tree, Forest, nil, cons, Core, noCore, lengthF, count, counts, plant, takeF, dropF}
-use Rattle.tree.specs.Combine.{Res, stop, done, M, Flat, treeAt, forestAt, Walk, Walks, many, each, andThen}
-use Rattle.tree.proofs.Sims.{Sim, SimF, sim-each}
-use Rattle.tree.proofs.Whole.{Whole, whole-drop, length-dropF}
+use Rattle.def_tree.specs.Tree.{Tree, Forest, nil, cons, Core, noCore, lengthF, count, counts, plant, takeF, dropF}
+use Rattle.def_tree.specs.Combine.{Res, stop, done, M, Flat, treeAt, forestAt, Walk, Walks, many, each, andThen}
+use Rattle.def_tree.proofs.Sims.{Sim, SimF, sim-each}
+use Rattle.def_tree.proofs.Whole.{Whole, whole-drop, length-dropF}
 use Rattle.words.specs.Layout.{tree, nodeOf}
 use Rattle.words.proofs.Nodes.{tree-length, tree-at}
-use Rattle.definition.specs.Walk.{St}
-use Rattle.nodes.specs.Nodes.{Planted}
-use Rattle.nodes.proofs.Trees.{one-whole, plant-behind, trees-le}
+use Rattle.def_pass.specs.Walk.{St}
+use Rattle.words_nodes.specs.Nodes.{Planted}
+use Rattle.words_nodes.proofs.Trees.{one-whole, plant-behind, trees-le}
 use Rattle.shape.specs.Shape.{Room, Shape}
 use Rattle.shape.proofs.Shapes.{shape-trees}
-use Rattle.state.specs.State.{abs, Ok}
-use Rattle.ident_steps.specs.declared.Next.{Next}
-use Rattle.ident_steps.specs.declared.Next.the-variants.{At, Refused}
+use Rattle.words_state.specs.State.{abs, Ok}
+use Rattle.walk_ident.specs.declared.Next.{Next}
+use Rattle.walk_ident.specs.declared.Next.the-variants.{At, Refused}
 use Rattle.walk_laws.specs.Did.{Lands, Did, Here}
 
 pub whole-of : {w : List ℕ} → Planted w → Whole (tree w)

@@ -8,16 +8,16 @@ use native.Mathlib.Omega.{arith}
 use lib.Dec.{eqb}
 use lib.ListN.{getD}
 use borrow.Author.Tests.{eqb-true, eq-eqb, ne-eqb}
-use Rattle.tree.specs.Tree.{Core, count}
-use Rattle.tree.specs.Combine.{nodeAt, many}
+use Rattle.def_tree.specs.Tree.{Core, count}
+use Rattle.def_tree.specs.Combine.{nodeAt, many}
 use Rattle.words.specs.Layout.{tree, nodeOf}
-use Rattle.definition.specs.Walk.{hPlain, handlers}
-use Rattle.nodes.specs.Nodes.{treeFrom}
-use Rattle.state.specs.State.{abs}
-use Rattle.flat.specs.WalkF.{WalksF, walksF, handleF, plainF, ownF, afterF, afterIdentF}
-use Rattle.flat.proofs.Sim.{sims, sim-own}
-use Rattle.ident_steps.specs.declared.Next.{Next}
-use Rattle.ident_steps.specs.declared.Next.the-variants.{At, Refused}
+use Rattle.def_pass.specs.Walk.{hPlain, handlers}
+use Rattle.words_nodes.specs.Nodes.{treeFrom}
+use Rattle.words_state.specs.State.{abs}
+use Rattle.laws_flat.specs.WalkF.{WalksF, walksF, handleF, plainF, ownF, afterF, afterIdentF}
+use Rattle.laws_flat.proofs.Sim.{sims, sim-own}
+use Rattle.walk_ident.specs.declared.Next.{Next}
+use Rattle.walk_ident.specs.declared.Next.the-variants.{At, Refused}
 use Rattle.walk_laws.specs.Did.{Did, Here, bareNode, settledNode}
 use Rattle.walk_laws.proofs.Laws.{many-none}
 use Rattle.walk_laws.proofs.Heres.{walk-end}

@@ -10,21 +10,21 @@ use lib.ListN.{getD}
 use lib.Dec.{eqb, ltb}
 use borrow.Author.Tests.{eq-eqb, ne-eqb, eqb-true, eqb-false, lt-ltb, le-ltb}
 use mathlib.Core.Option.{Option, none, some}
-use Rattle.tree.specs.Base.{pick}
-use Rattle.tree.specs.Tree.{Tree, count, form, num}
-use Rattle.tree.specs.Combine.{Res, stop, done, M, Nothing, andThen, _>>=_, _>>_, iff, Flat, nodeAt, treeAt, Walk, Walks, onRest, act, put, withinF, skip, many, splitF, eachButF, onKidsF}
+use Rattle.def_tree.specs.Base.{pick}
+use Rattle.def_tree.specs.Tree.{Tree, count, form, num}
+use Rattle.def_tree.specs.Combine.{Res, stop, done, M, Nothing, andThen, _>>=_, _>>_, iff, Flat, nodeAt, treeAt, Walk, Walks, onRest, act, put, withinF, skip, many, splitF, eachButF, onKidsF}
 use Rattle.words.specs.Layout.{yes, tree, nodeOf}
 use Rattle.words.proofs.Nodes.{tree-at}
-use Rattle.scopes.specs.State.{varTypeOf, scopeKindOf}
-use Rattle.definition.specs.Scope.{VarType, ScopeKind, fn, VarInfo, preventInline, addRead, findConstant}
-use Rattle.definition.specs.Walk.{St, modify, opening, restore, deeper, shallower, setInlining, setInTest, setConds, setVarDeclKind, setPatMode, asParam, declKindOf, setChanged, sameIdent, replace, when, mark, Handler, handlers, hPlain, hWhile, hForIn}
-use Rattle.nodes.specs.Nodes.{Planted, treeFrom}
-use Rattle.state.specs.State.{rest, abs, Ok, Acts, Act, Turns}
-use Rattle.state.proofs.Fields.{ok-self}
-use Rattle.flat.specs.WalkF.{WalksF, walksF, inScopeF, inCondF, visitMutExprF, visitMutStmtsF, assignKidsF, catchParamF, handleF, ownF, logicalF, testRead, identAnalysisF, inlineValueF, byConstF, afterIdentF, afterAssignF, afterBy, afterF, scriptF}
-use Rattle.ident_steps.specs.declared.Next.{Next}
-use Rattle.ident_steps.specs.declared.Next.the-variants.{At, Refused}
-use Rattle.ident_steps.specs.Steps.{Goes, Restored}
+use Rattle.words_scopes.specs.State.{varTypeOf, scopeKindOf}
+use Rattle.def_pass.specs.Scope.{VarType, ScopeKind, fn, VarInfo, preventInline, addRead, findConstant}
+use Rattle.def_pass.specs.Walk.{St, modify, opening, restore, deeper, shallower, setInlining, setInTest, setConds, setVarDeclKind, setPatMode, asParam, declKindOf, setChanged, sameIdent, replace, when, mark, Handler, handlers, hPlain, hWhile, hForIn}
+use Rattle.words_nodes.specs.Nodes.{Planted, treeFrom}
+use Rattle.words_state.specs.State.{rest, abs, Ok, Acts, Act, Turns}
+use Rattle.words_state.proofs.Fields.{ok-self}
+use Rattle.laws_flat.specs.WalkF.{WalksF, walksF, inScopeF, inCondF, visitMutExprF, visitMutStmtsF, assignKidsF, catchParamF, handleF, ownF, logicalF, testRead, identAnalysisF, inlineValueF, byConstF, afterIdentF, afterAssignF, afterBy, afterF, scriptF}
+use Rattle.walk_ident.specs.declared.Next.{Next}
+use Rattle.walk_ident.specs.declared.Next.the-variants.{At, Refused}
+use Rattle.walk_ident.specs.Steps.{Goes, Restored}
 use Rattle.walk_laws.specs.Did.{Lands, Did, Here}
 use Rattle.walk_laws.proofs.Laws.{did-then, did-stop, act-then, act-stop, did-here, many-more, many-cut, within-full, within-stop, within-then}
 use Rattle.walk_laws.proofs.Heres.{here-node}

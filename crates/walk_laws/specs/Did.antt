@@ -5,19 +5,19 @@ use mathlib.Core.List.{List}
 use Prim.Native.Nat.{ℕ, suc, _+_, _-_, _%_, _≤_, _<_}
 use mathlib.Core.Option.{Option, none, some}
 use lib.Dec.{eqb, ltb}
-use Rattle.tree.specs.Combine.{Res, stop, done, _>>=_, _>>_, andThen, ret, iff, Flat, nodeAt, treeAt, forestAt, setArity, Walk as One, Walks as Many, onRest, act, actF, skip, many, splitF, eachButF, onKidsF}
-use Rattle.tree.specs.Base.{pick}
-use Rattle.tree.specs.Tree.{Tree, Core}
+use Rattle.def_tree.specs.Combine.{Res, stop, done, _>>=_, _>>_, andThen, ret, iff, Flat, nodeAt, treeAt, forestAt, setArity, Walk as One, Walks as Many, onRest, act, actF, skip, many, splitF, eachButF, onKidsF}
+use Rattle.def_tree.specs.Base.{pick}
+use Rattle.def_tree.specs.Tree.{Tree, Core}
 use Rattle.words.specs.Layout.{tree, nodeOf}
 use mathlib.Core.Bool.{Bool, true, false, not, _&&_, _||_}
-use Rattle.definition.specs.Scope.{VarType, markThisSensitive, identOf}
-use Rattle.definition.specs.Walk.{St, asCatch, setPatMode, modify, mark, when, writeForest, headBind}
-use Rattle.flat.specs.WalkF.{WalksF, visitMutStmtsF, catchParamF, declrToF}
-use Rattle.nodes.specs.Nodes.{Planted}
+use Rattle.def_pass.specs.Scope.{VarType, markThisSensitive, identOf}
+use Rattle.def_pass.specs.Walk.{St, asCatch, setPatMode, modify, mark, when, writeForest, headBind}
+use Rattle.laws_flat.specs.WalkF.{WalksF, visitMutStmtsF, catchParamF, declrToF}
+use Rattle.words_nodes.specs.Nodes.{Planted}
 use Rattle.shape.specs.Shape.{Room}
-use Rattle.state.specs.State.{abs, Ok}
-use Rattle.ident_steps.specs.declared.Next.{Next}
-use Rattle.ident_steps.specs.declared.Next.the-variants.{At, Refused}
+use Rattle.words_state.specs.State.{abs, Ok}
+use Rattle.walk_ident.specs.declared.Next.{Next}
+use Rattle.walk_ident.specs.declared.Next.the-variants.{At, Refused}
 
 -- an answer in one word: the place where the next tree begins, or 65,536 and a refusal's number
 unfoldable pub nextOf : ℕ → Next

@@ -5,7 +5,7 @@ use Prim.Native.Nat.{ℕ, _+_, _-_, _*_, _/_, _%_, _≤_, _<_}
 use native.Mathlib.Omega.{arith}
 use lib.ListN.{length, getD, drop, length-drop}
 use lib.Seq.{getD-drop, ext-getD}
-use Rattle.tree.specs.Tree.{noCore}
+use Rattle.def_tree.specs.Tree.{noCore}
 use Rattle.words.specs.Tab.{length-tab, getD-tab, getD-tab-out, tab-ext}
 use Rattle.words.specs.Layout.{Agree, coreFrom, run, nodeOf, tree, beyond}
 

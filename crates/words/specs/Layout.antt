@@ -19,7 +19,7 @@ use mathlib.Core.List.{List}
 use mathlib.Core.Bool.{Bool, true, false}
 use Prim.Native.Nat.{ℕ, zero, suc, _+_, _*_, _/_, _%_, _≤_, _<_}
 use lib.ListN.{getD, drop}
-use Rattle.tree.specs.Tree.{Core, core}
+use Rattle.def_tree.specs.Tree.{Core, core}
 use Rattle.words.specs.Tab.{tab}
 
 -- a word as a flag

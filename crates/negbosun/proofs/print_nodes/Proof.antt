@@ -6,7 +6,7 @@ use Rattle.negbosun.proofs.print_nodes.Tie as tie
 use Rattle.negbosun.proofs.print_nodes.Reads as reads
 use Rattle.negbosun.proofs.print_nodes.Lts as lts
 use Rattle.negbosun.proofs.print_node.Reads as print-node-reads
-use Rattle.parts.proofs.fields.raw_at.Reads as raw-at-reads
+use Rattle.file_fields.proofs.fields.raw_at.Reads as raw-at-reads
 
 abbrev Inv-loop : tie.InvT-loop
 Inv-loop file n k₀ k = k ≤ n

@@ -1,11 +1,11 @@
 use Rattle.scope.proofs.Undefined as undefined
 use Rattle.scope.proofs.Moves as moves
 use Rattle.words.specs.Layout.{tree}
-use Rattle.nodes.specs.Nodes.{treeFrom}
-use Rattle.state.specs.State.{rest}
-use Rattle.definition.specs.Scope.{declare}
-use Rattle.declares.specs.Kinds.{typeOf}
-use Rattle.inits.specs.Inits.{initFrom}
+use Rattle.words_nodes.specs.Nodes.{treeFrom}
+use Rattle.words_state.specs.State.{rest}
+use Rattle.def_pass.specs.Scope.{declare}
+use Rattle.scope_define.specs.Kinds.{typeOf}
+use Rattle.scope_declare.specs.Inits.{initFrom}
 use borrow.Author.Needs.{needs}
 use Rattle.scope.proofs.declare_m.Statement.{statement}
 use Rattle.scope.proofs.declare_m.Tie as tie

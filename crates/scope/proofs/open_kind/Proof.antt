@@ -2,9 +2,9 @@ use mathlib.Core.Path.{refl}
 use native.Mathlib.Omega.{arith}
 use lib.ListN.{length}
 use borrow.Author.Tests.{le-leb, lt-leb}
-use Rattle.scopes.specs.State.{stack}
-use Rattle.records.proofs.Listed as listed
-use Rattle.records.proofs.Count as count
+use Rattle.words_scopes.specs.State.{stack}
+use Rattle.scope_values.proofs.Listed as listed
+use Rattle.scope_values.proofs.Count as count
 use borrow.Author.Needs.{needs}
 use Rattle.scope.proofs.open_kind.Statement.{statement}
 use Rattle.scope.proofs.open_kind.Tie as tie

@@ -2,11 +2,11 @@
 use mathlib.Core.Path.{sym, ap, _∙_}
 use lib.ListN.{getD}
 use Rattle.scope.proofs.Undefined as parts
-use Rattle.state.specs.State.{rest}
-use Rattle.definition.specs.Scope.{isVar}
-use Rattle.scopes.specs.State.{varTypeOf}
-use Rattle.look.proofs.Facts.{var-no, flag}
-use Rattle.inits.specs.Inits.{hasNone}
+use Rattle.words_state.specs.State.{rest}
+use Rattle.def_pass.specs.Scope.{isVar}
+use Rattle.words_scopes.specs.State.{varTypeOf}
+use Rattle.scope_find.proofs.Facts.{var-no, flag}
+use Rattle.scope_declare.specs.Inits.{hasNone}
 use borrow.Author.Needs.{needs}
 use Rattle.scope.proofs.undefined_now.Statement.{statement}
 use Rattle.scope.proofs.undefined_now.Tie as tie

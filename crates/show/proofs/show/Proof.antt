@@ -1,5 +1,5 @@
 -- A script that was read has its nodes within the file. Assumes nothing.
-use Rattle.copy.proofs.Ends.{within}
+use Rattle.file_copy.proofs.Ends.{within}
 use borrow.Author.Needs.{needs}
 use Rattle.show.proofs.show.Statement.{statement}
 use Rattle.show.proofs.show.Tie as tie

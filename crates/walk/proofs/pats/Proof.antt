@@ -1,7 +1,7 @@
 -- `pats` meets its contract: the step, then past the tree. Assumes nothing.
 use mathlib.Core.Path.{sym}
-use Rattle.definition.specs.Walk.{when, isBind, patBy}
-use Rattle.flat.specs.WalkF.{visitMutPatF}
+use Rattle.def_pass.specs.Walk.{when, isBind, patBy}
+use Rattle.laws_flat.specs.WalkF.{visitMutPatF}
 use Rattle.walk_laws.proofs.Laws as laws
 use Rattle.walk_laws.proofs.Heres as heres
 use Rattle.walk_laws.proofs.Ways as ways

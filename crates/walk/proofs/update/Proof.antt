@@ -1,9 +1,9 @@
 -- `update` meets its contract: the step, then past the tree. Assumes nothing.
 use mathlib.Core.Path.{sym}
 use mathlib.Core.Bool.{true}
-use Rattle.definition.specs.Tree.{kids}
-use Rattle.definition.specs.Walk.{writeForest}
-use Rattle.flat.specs.WalkF.{visitMutUpdateExprF}
+use Rattle.def_pass.specs.Tree.{kids}
+use Rattle.def_pass.specs.Walk.{writeForest}
+use Rattle.laws_flat.specs.WalkF.{visitMutUpdateExprF}
 use Rattle.walk_laws.proofs.Laws as laws
 use Rattle.walk_laws.proofs.Heres as heres
 use Rattle.walk_laws.proofs.Ways as ways

@@ -5,18 +5,18 @@ use borrow.Fn.PlainCycle.{Measures, is, falls, and}
 use mathlib.Core.Path.{_≡_, refl, sym, ap, _∙_}
 use native.Mathlib.Omega.{arith}
 use lib.Dec.{eqb}
-use Rattle.tree.specs.Combine.{andThen, onRest, _>>=_, _>>_, ret, act, actF, iff, skip, many, splitF, eachButF, onKidsF, nodeAt, skips, treeAt}
-use Rattle.state.specs.State.{abs, rest}
-use Rattle.flat.specs.WalkF.{walksF, inCondF, visitMutStmtsF, plainF, visitMutBlockStmtF, scriptF, visitWithChildF, visitMutVarDeclF, visitMutFunctionF, visitMutFnDeclF, visitMutFnExprF, visitMutArrowExprF, testedF, visitMutIfStmtF, visitMutWhileStmtF, visitMutForStmtF, visitMutForInStmtF, visitMutTryStmtF, catchParamF, visitMutCatchClauseF, visitMutSwitchCaseF, visitMutUnaryExprF, visitMutUpdateExprF, visitMutCallExprF, visitMutAssignExprF, assignKidsF, handleF, ownF, logicalF, afterF}
-use Rattle.flat.proofs.Sim.{sims, sim-own, sim-after, sim-afterIdent, sim-declr, sim-name, sim-branch, sim-tested, sim-catchParam, sim-stmts}
+use Rattle.def_tree.specs.Combine.{andThen, onRest, _>>=_, _>>_, ret, act, actF, iff, skip, many, splitF, eachButF, onKidsF, nodeAt, skips, treeAt}
+use Rattle.words_state.specs.State.{abs, rest}
+use Rattle.laws_flat.specs.WalkF.{walksF, inCondF, visitMutStmtsF, plainF, visitMutBlockStmtF, scriptF, visitWithChildF, visitMutVarDeclF, visitMutFunctionF, visitMutFnDeclF, visitMutFnExprF, visitMutArrowExprF, testedF, visitMutIfStmtF, visitMutWhileStmtF, visitMutForStmtF, visitMutForInStmtF, visitMutTryStmtF, catchParamF, visitMutCatchClauseF, visitMutSwitchCaseF, visitMutUnaryExprF, visitMutUpdateExprF, visitMutCallExprF, visitMutAssignExprF, assignKidsF, handleF, ownF, logicalF, afterF}
+use Rattle.laws_flat.proofs.Sim.{sims, sim-own, sim-after, sim-afterIdent, sim-declr, sim-name, sim-branch, sim-tested, sim-catchParam, sim-stmts}
 use Rattle.walk_laws.proofs.Codes as codes
 use Rattle.walk_laws.proofs.Heres as heres
 use Rattle.walk_laws.proofs.Ways as ways
 use Rattle.walk_laws.proofs.Idents as idents
-use Rattle.ident_steps.proofs.assign.after_assign.Reads as after-assign-reads
+use Rattle.walk_ident.proofs.assign.after_assign.Reads as after-assign-reads
 use Rattle.walk.proofs.+after+arm+arms+arrow+assign+binds+block+body+call+case+catch+conds+decl+declr+fdecl+fexpr+forin+fors+full+func+ident+ifs+init+items+kids+logic+loops+many+name+own+params+parts+stmts+tail+tries+unary+whiles.Lts-after as after-lts
 use Rattle.walk.proofs.after.Reads as after
-use Rattle.walk_steps.proofs.answer.coded.Reads as coded-reads
+use Rattle.walk_answer.proofs.answer.coded.Reads as coded-reads
 use Rattle.walk.proofs.ident.Reads as ident
 use Rattle.walk.proofs.logic.Reads as logic
 use Rattle.words.proofs.form_at.Reads as form-at-reads

@@ -6,23 +6,23 @@ use mathlib.Core.Path.{_≡_, refl, sym, ap, _∙_}
 use mathlib.Core.Option.{some}
 use borrow.Author.Needs.{needs}
 use native.Mathlib.Omega.{arith}
-use Rattle.state.specs.State.{abs, rest}
-use Rattle.flat.specs.WalkF.{walksF, inCondF, visitMutStmtsF, plainF, visitMutBlockStmtF, scriptF, visitWithChildF, visitMutVarDeclF, visitMutFunctionF, visitMutFnDeclF, visitMutFnExprF, visitMutArrowExprF, testedF, visitMutIfStmtF, visitMutWhileStmtF, visitMutForStmtF, visitMutForInStmtF, visitMutTryStmtF, catchParamF, visitMutCatchClauseF, visitMutSwitchCaseF, visitMutUnaryExprF, visitMutUpdateExprF, visitMutCallExprF, visitMutAssignExprF, assignKidsF, handleF, ownF, logicalF, afterF}
-use Rattle.flat.proofs.Sim.{sims, sim-own, sim-after, sim-afterIdent, sim-declr, sim-name, sim-branch, sim-tested, sim-catchParam, sim-stmts}
+use Rattle.words_state.specs.State.{abs, rest}
+use Rattle.laws_flat.specs.WalkF.{walksF, inCondF, visitMutStmtsF, plainF, visitMutBlockStmtF, scriptF, visitWithChildF, visitMutVarDeclF, visitMutFunctionF, visitMutFnDeclF, visitMutFnExprF, visitMutArrowExprF, testedF, visitMutIfStmtF, visitMutWhileStmtF, visitMutForStmtF, visitMutForInStmtF, visitMutTryStmtF, catchParamF, visitMutCatchClauseF, visitMutSwitchCaseF, visitMutUnaryExprF, visitMutUpdateExprF, visitMutCallExprF, visitMutAssignExprF, assignKidsF, handleF, ownF, logicalF, afterF}
+use Rattle.laws_flat.proofs.Sim.{sims, sim-own, sim-after, sim-afterIdent, sim-declr, sim-name, sim-branch, sim-tested, sim-catchParam, sim-stmts}
 use Rattle.walk_laws.proofs.Codes as codes
 use Rattle.walk_laws.proofs.Heres as heres
 use Rattle.walk_laws.proofs.Ways as ways
 use Rattle.walk_laws.proofs.Idents as idents
-use Rattle.handles.specs.Handles.{held}
-use Rattle.ident_steps.specs.Steps.{valueBy, constantAt}
-use Rattle.ident_steps.proofs.constant.Reads as constant-reads
-use Rattle.ident_steps.proofs.fate.Reads as fate-reads
-use Rattle.ident_steps.proofs.ident_analysis.Reads as ident-analysis-reads
-use Rattle.ident_steps.proofs.inline_constant.Reads as inline-constant-reads
-use Rattle.ident_steps.proofs.inline_undefined.Reads as inline-undefined-reads
-use Rattle.ident_steps.proofs.inline_value.Reads as inline-value-reads
-use Rattle.nodes.proofs.skip.Reads as skip-reads
-use Rattle.walk_steps.proofs.answer.coded.Reads as coded-reads
+use Rattle.scope_var_info.specs.Handles.{held}
+use Rattle.walk_ident.specs.Steps.{valueBy, constantAt}
+use Rattle.walk_ident.proofs.constant.Reads as constant-reads
+use Rattle.walk_ident.proofs.fate.Reads as fate-reads
+use Rattle.walk_ident.proofs.ident_analysis.Reads as ident-analysis-reads
+use Rattle.walk_ident.proofs.inline_constant.Reads as inline-constant-reads
+use Rattle.walk_ident.proofs.inline_undefined.Reads as inline-undefined-reads
+use Rattle.walk_ident.proofs.inline_value.Reads as inline-value-reads
+use Rattle.words_nodes.proofs.skip.Reads as skip-reads
+use Rattle.walk_answer.proofs.answer.coded.Reads as coded-reads
 use Rattle.walk.proofs.+after+arm+arms+arrow+assign+binds+block+body+call+case+catch+conds+decl+declr+fdecl+fexpr+forin+fors+full+func+ident+ifs+init+items+kids+logic+loops+many+name+own+params+parts+stmts+tail+tries+unary+whiles.Lts-ident as ident-lts
 use Rattle.walk.proofs.full.Reads as full
 use Rattle.walk.proofs.ident.Reads as ident

@@ -6,9 +6,9 @@ use mathlib.Core.Path.{_≡_, refl, sym, ap, _∙_}
 use mathlib.Core.Logic.{⊎-elim, inl, inr}
 use native.Mathlib.Omega.{arith}
 use lib.ListN.{length, getD}
-use Rattle.definition.specs.Tree.{kids, headT}
-use Rattle.definition.specs.Walk.{opening, restore, deeper, shallower, modify, setVarDeclKind, setPatMode, asParam, asCatch, assigning, declKindOf, writeTree, writeForest, butLast, when, mark, assignFirst, assignLast, storeInlineBarrierM, declareName, writeName, handlers, hPlain, hScript, hBlock, hDecl, hDeclr, hFun, hIf, hWhile, hFor, hForIn, hTry, hCatch, hCase, hPat, hUnary, hUpdate, hAssign, hCall, hNew, hFunExpr, hArrow}
-use Rattle.flat.specs.WalkF.{walksF, inCondF, visitMutStmtsF, plainF, visitMutBlockStmtF, scriptF, visitWithChildF, visitMutVarDeclF, visitMutFunctionF, visitMutFnDeclF, visitMutFnExprF, visitMutArrowExprF, testedF, visitMutIfStmtF, visitMutWhileStmtF, visitMutForStmtF, visitMutForInStmtF, visitMutTryStmtF, catchParamF, visitMutCatchClauseF, visitMutSwitchCaseF, visitMutUnaryExprF, visitMutUpdateExprF, visitMutCallExprF, visitMutAssignExprF, assignKidsF, handleF, ownF, logicalF, afterF}
+use Rattle.def_pass.specs.Tree.{kids, headT}
+use Rattle.def_pass.specs.Walk.{opening, restore, deeper, shallower, modify, setVarDeclKind, setPatMode, asParam, asCatch, assigning, declKindOf, writeTree, writeForest, butLast, when, mark, assignFirst, assignLast, storeInlineBarrierM, declareName, writeName, handlers, hPlain, hScript, hBlock, hDecl, hDeclr, hFun, hIf, hWhile, hFor, hForIn, hTry, hCatch, hCase, hPat, hUnary, hUpdate, hAssign, hCall, hNew, hFunExpr, hArrow}
+use Rattle.laws_flat.specs.WalkF.{walksF, inCondF, visitMutStmtsF, plainF, visitMutBlockStmtF, scriptF, visitWithChildF, visitMutVarDeclF, visitMutFunctionF, visitMutFnDeclF, visitMutFnExprF, visitMutArrowExprF, testedF, visitMutIfStmtF, visitMutWhileStmtF, visitMutForStmtF, visitMutForInStmtF, visitMutTryStmtF, catchParamF, visitMutCatchClauseF, visitMutSwitchCaseF, visitMutUnaryExprF, visitMutUpdateExprF, visitMutCallExprF, visitMutAssignExprF, assignKidsF, handleF, ownF, logicalF, afterF}
 use Rattle.walk_laws.proofs.Heres as heres
 use Rattle.walk_laws.proofs.Ways as ways
 use Rattle.walk.proofs.+after+arm+arms+arrow+assign+binds+block+body+call+case+catch+conds+decl+declr+fdecl+fexpr+forin+fors+full+func+ident+ifs+init+items+kids+logic+loops+many+name+own+params+parts+stmts+tail+tries+unary+whiles.Lts-own as own-lts

@@ -1,0 +1,41 @@
+-- The pass over a script, a file's bytes, and the entry, with the walks on the list: `pass`, `passFile` and `entry` of the definition
+-- without a tree. Assumes nothing: these are definitions.
+use mathlib.Core.Bool.{true, false, _&&_}
+use mathlib.Core.List.{List, [], _∷_, map}
+use Prim.Native.Nat.{ℕ}
+use lib.Dec.{leb}
+use lib.ListN.{length}
+use Rattle.def_pass.specs.Scope.{vVar, fn, newScope}
+use Rattle.def_pass.specs.Walk.{St, declaring}
+use Rattle.def_file.specs.Script.{Script}
+use Rattle.def_file.specs.Read.{Read, bad, script, read}
+use Rattle.def_file.specs.Core.{back, coreNodes}
+use Rattle.def_pass.specs.Script.{Answer, no!, yes!, rootOf}
+use Rattle.def_pass.specs.Entry.{Entry, refused, written}
+use Rattle.laws_flat.specs.WalkF.{OutcomeF, refusedF, resultF, runsF}
+
+-- `start` of Walk, for a script of n nodes
+abbrev pub startF : ℕ → St
+startF n = record { stack = newScope (fn false) ∷ []; changed = false; inlining = false; isFirstRun = true; varDeclKind = vVar; patMode = declaring; inTest = false; conds = 0; nodes = n }
+
+-- `answer` of Script
+abbrev pub answerF : Script → OutcomeF → Answer
+answerF s (refusedF n) = no! n
+answerF s (resultF k c cs ms) = yes! k c (map (back s) cs) (map (rootOf s) ms)
+
+unfoldable pub passF : ℕ → Script → Answer
+passF n s = answerF s (runsF n 0 (record { nodes = coreNodes s; rest = startF (length (s .nodes)) }))
+
+abbrev pub passReadF : ℕ → Read → Answer
+passReadF n (bad r) = no! r
+passReadF n (script s) = passF n s
+
+unfoldable pub passFileF : ℕ → List ℕ → Answer
+passFileF n bs = passReadF n (read bs)
+
+abbrev pub entryReadF : ℕ → ℕ → Read → Entry
+entryReadF runs room (bad r) = refused r
+entryReadF runs room (script s) = written room s (passF runs s)
+
+unfoldable pub entryF : ℕ → ℕ → List ℕ → ℕ → Entry
+entryF runs words bytes room = elim (leb 1 runs && leb runs 16 && leb 16384 words) [ false ↦ refused 1 | true ↦ entryReadF runs room (read bytes) ]

@@ -1,0 +1,126 @@
+-- What the pass asks of a tree is the same after its literals' origins are relabelled (`OriginBlind` of specs/Relabel). Assumes nothing.
+use mathlib.Core.Path.{_≡_, refl, ap, ap₂, _∙_, subst}
+use mathlib.Core.Bool.{Bool, true, false, _||_}
+use mathlib.Core.Option.{Option, none, some}
+use mathlib.Core.List.{List, _∷_}
+use Prim.Native.Nat.{ℕ, suc, _+_, max}
+use lib.Dec.{T, eqb, eqb→eq}
+use Rattle.def_tree.specs.Base.{pick}
+use Rattle.def_pass.specs.Tree.{Tree, Forest, node, nil, cons, kind, form, num, kids, count, counts, countO, height, heights, hasThis, hasThisF, identList, identListF, headT, tailF, voidZero}
+use Rattle.def_pass.specs.Walk.{asIdent, isBind, butLast}
+use Rattle.def_pass.specs.Relabel.{relabel, relabelF}
+use Rattle.laws_pass.proofs.Tests.{is-T, or-left}
+
+-- a choice between two relabelled things, by two tests that agree
+pub pick-same : {A B : Type 0} (F : A → B) (c d : Bool) (x y : A) (x′ y′ : B) → d ≡ c → x′ ≡ F x → y′ ≡ F y → pick d x′ y′ ≡ F (pick c x y)
+pick-same F c d x y x′ y′ e p q = ap (λ b. pick b x′ y′) e ∙ go c
+  where
+    go : (b : Bool) → pick b x′ y′ ≡ F (pick b x y)
+    go true = p
+    go false = q
+
+pub elim-same : {A B : Type 0} (F : A → B) (c d : Bool) (x y : A) (x′ y′ : B) → d ≡ c → x′ ≡ F x → y′ ≡ F y → elim d [ true ↦ x′ | false ↦ y′ ] ≡ F (elim c [ true ↦ x | false ↦ y ])
+elim-same {A} {B} F c d x y x′ y′ e p q = ap {B = B} (λ b. elim b [ true ↦ x′ | false ↦ y′ ]) e ∙ go c
+  where
+    go : (b : Bool) → elim b [ true ↦ x′ | false ↦ y′ ] ≡ F (elim b [ true ↦ x | false ↦ y ])
+    go true = p
+    go false = q
+
+-- a binding or an identifier is no literal
+pub id-not-lit : (k : ℕ) → T (eqb k 20 || eqb k 21) → eqb k 22 ≡ false
+id-not-lit k t = go (eqb k 22) refl
+  where
+    go : (b : Bool) → eqb k 22 ≡ b → b ≡ false
+    go false h = refl
+    go true h = absurd (subst T (ap (λ m. eqb m 20 || eqb m 21) (eqb→eq k 22 (is-T (eqb k 22) h))) t)
+
+module _ (r : ℕ → ℕ) where
+  abbrev pub onO : Option Tree → Option Tree
+  onO none = none
+  onO (some t) = some (relabel r t)
+
+  -- an identifier's number stays
+  pub same-num : (k a : ℕ) → T (eqb k 20 || eqb k 21) → pick (eqb k 22) (r a) a ≡ a
+  same-num k a t = ap (λ b. pick b (r a) a) (id-not-lit k t)
+
+  -- a binding, after relabelling: its number, and the identifier made from it
+  pub record Bound (t : Tree) : Type 0 where
+    pub number : num (relabel r t) ≡ num t
+    pub ident : asIdent (relabel r t) ≡ relabel r (asIdent t)
+
+  pub bound : (t : Tree) → T (isBind t) → Bound t
+  bound (node k f a ts) h = (let e = same-num k a (or-left (eqb k 20) (eqb k 21) h) in record { number = e; ident = ap (λ n. node 21 f n (relabelF r ts)) e })
+
+  pub ident-num : (t : Tree) → T (eqb (kind t) 21) → num (relabel r t) ≡ num t
+  ident-num (node k f a ts) h = same-num k a (go (eqb k 20) (eqb k 21) h)
+    where
+      go : (p q : Bool) → T q → T (p || q)
+      go true q t = tt
+      go false q t = t
+
+  pub same-kind : (t : Tree) → kind (relabel r t) ≡ kind t
+  same-kind (node k f a ts) = refl
+
+  pub same-form : (t : Tree) → form (relabel r t) ≡ form t
+  same-form (node k f a ts) = refl
+
+  pub same-kids : (t : Tree) → kids (relabel r t) ≡ relabelF r (kids t)
+  same-kids (node k f a ts) = refl
+
+  pub same-head : (ts : Forest) → headT (relabelF r ts) ≡ onO (headT ts)
+  same-head nil = refl
+  same-head (cons t ts) = refl
+
+  pub same-tail : (ts : Forest) → tailF (relabelF r ts) ≡ relabelF r (tailF ts)
+  same-tail nil = refl
+  same-tail (cons t ts) = refl
+
+  pub same-butLast : (ts : Forest) → butLast (relabelF r ts) ≡ relabelF r (butLast ts)
+  same-butLast nil = refl
+  same-butLast (cons t nil) = refl
+  same-butLast (cons t (cons u us)) = ap (cons (relabel r t)) (same-butLast (cons u us))
+
+  mutual
+    pub same-count : (t : Tree) → count (relabel r t) ≡ count t
+    same-count (node k f a ts) = ap suc (same-counts ts)
+
+    pub same-counts : (ts : Forest) → counts (relabelF r ts) ≡ counts ts
+    same-counts nil = refl
+    same-counts (cons t ts) = ap₂ (λ m n. m + n) (same-count t) (same-counts ts)
+
+  pub same-countO : (v : Option Tree) → countO (onO v) ≡ countO v
+  same-countO none = refl
+  same-countO (some t) = same-count t
+
+  mutual
+    pub same-height : (t : Tree) → height (relabel r t) ≡ height t
+    same-height (node k f a ts) = ap (λ n. 1 + n) (same-heights ts)
+
+    same-heights : (ts : Forest) → heights (relabelF r ts) ≡ heights ts
+    same-heights nil = refl
+    same-heights (cons t ts) = ap₂ (λ m n. max m n) (same-height t) (same-heights ts)
+
+  mutual
+    pub same-this : (t : Tree) → hasThis (relabel r t) ≡ hasThis t
+    same-this (node k f a ts) = ap (λ b. elim (eqb k 26) [ true ↦ true | false ↦ elim (eqb k 39 || eqb k 7) [ true ↦ false | false ↦ b ] ]) (same-thisF ts)
+
+    same-thisF : (ts : Forest) → hasThisF (relabelF r ts) ≡ hasThisF ts
+    same-thisF nil = refl
+    same-thisF (cons t ts) = ap₂ _||_ (same-this t) (same-thisF ts)
+
+  mutual
+    pub same-idents : (t : Tree) (rest : List Tree) → identList (relabel r t) rest ≡ identList t rest
+    same-idents (node k f a ts) rest = go (eqb k 20 || eqb k 21) refl (same-identsF ts rest)
+      where
+        go : (b : Bool) → (eqb k 20 || eqb k 21) ≡ b → identListF (relabelF r ts) rest ≡ identListF ts rest
+            → _≡_ {A = List Tree} (elim b [ true ↦ node k f (pick (eqb k 22) (r a) a) nil ∷ rest | false ↦ identListF (relabelF r ts) rest ]) (elim b [ true ↦ node k f a nil ∷ rest | false ↦ identListF ts rest ])
+        go true e h = ap {B = List Tree} (λ n. node k f n nil ∷ rest) (same-num k a (is-T (eqb k 20 || eqb k 21) e))
+        go false e h = h
+
+    pub same-identsF : (ts : Forest) (rest : List Tree) → identListF (relabelF r ts) rest ≡ identListF ts rest
+    same-identsF nil rest = refl
+    same-identsF (cons t ts) rest = same-idents t (identListF (relabelF r ts) rest) ∙ ap (identList t) (same-identsF ts rest)
+
+  -- the zero of `void 0` has origin 0, which stays
+  pub same-void : r 0 ≡ 0 → relabel r voidZero ≡ voidZero
+  same-void e = ap (λ n. node 30 0 0 (cons (node 22 0 n nil) nil)) e

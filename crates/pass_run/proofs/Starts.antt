@@ -1,0 +1,102 @@
+-- The first state. Assumes nothing.
+use mathlib.Core.Path.{_≡_, refl, sym, ap, _∙_}
+use mathlib.Core.Bool.{true, false}
+use mathlib.Core.List.{List, [], _∷_}
+use Prim.Native.Nat.{ℕ}
+use native.Mathlib.Omega.{arith}
+use lib.ListN.{length, getD}
+use lib.Dec.{leb}
+use Rattle.words.specs.Tab.{sum}
+use Rattle.words.specs.Layout.{yes, tree}
+use Rattle.words.specs.Moved.{Put5, Zeroed}
+use Rattle.words.proofs.Nodes.{tree-same, beyond-same}
+use Rattle.def_pass.specs.Scope.{Stack, fn, newScope}
+use Rattle.laws_flat.specs.PassF.{startF}
+use Rattle.words_scopes.specs.State.{Good, Becomes, heads, headsAt, stack, varTypeOf}
+use Rattle.scope_values.specs.declared.Step.{Step}
+use Rattle.scope_values.specs.declared.Step.the-variants.{Done, Refused}
+use Rattle.scope_values.specs.Steps.{Limited}
+use Rattle.scope_child.specs.declared.ScopeKind.{ScopeKind}
+use Rattle.scope_child.specs.Kinds.{kindOf}
+use Rattle.words_nodes.specs.Nodes.{Planted}
+use Rattle.words_state.specs.State.{modeOf, rest, Ok}
+use Rattle.words_state.proofs.Fields.{st-eq, becomes-rest, becomes-ok, count-kept}
+use Rattle.pass_run.specs.Start.{Loaded, Fields, Started}
+
+pub fields : {w u v z : List ℕ} → Zeroed w u 1 3 → Put5 u v 5 0 0 1 1 3 → Zeroed v z 10 2 → Fields w z
+fields {w} {u} {v} {z} a b c = record {
+  size = c .size ∙ b .size ∙ a .size;
+  nodes = c .low 0 (omega arith) ∙ b .low 0 (omega arith) ∙ a .low 0 (omega arith);
+  bindings = c .low 1 (omega arith) ∙ b .low 1 (omega arith) ∙ a .here 0 (omega arith);
+  scopes = c .low 2 (omega arith) ∙ b .low 2 (omega arith) ∙ a .here 1 (omega arith);
+  constants = c .low 3 (omega arith) ∙ b .low 3 (omega arith) ∙ a .here 2 (omega arith);
+  idents = c .low 4 (omega arith) ∙ b .low 4 (omega arith) ∙ a .high 4 (omega arith);
+  changed = c .low 5 (omega arith) ∙ b .at0;
+  inlining = c .low 6 (omega arith) ∙ b .at1;
+  isFirstRun = c .low 7 (omega arith) ∙ b .at2;
+  varDeclKind = c .low 8 (omega arith) ∙ b .at3;
+  patMode = c .low 9 (omega arith) ∙ b .at4;
+  inTest = c .here 0 (omega arith);
+  conds = c .here 1 (omega arith);
+  high = λ j l. c .high j (omega arith) ∙ b .high j (omega arith) ∙ a .high j (omega arith);
+}
+
+-- no scope is open, and the words are good
+module _ {w u : List ℕ} (l : Loaded w) (f : Fields w u) where
+  same-tree : tree u ≡ tree w
+  same-tree = tree-same w u (l .few) (f .nodes) (λ j p h. f .high j (omega arith))
+
+  good : Good u
+  unfolding heads headsAt sum
+  good = record {
+    long = omega (arith, l .long, f .size);
+    nodes = rw (f .nodes) (l .few);
+    count = rw (f .bindings) (omega arith);
+    depth = rw (f .scopes) (omega arith);
+    ccount = rw (f .constants) (omega arith);
+    vals = rw (f .bindings) (omega arith);
+    cvals = rw (f .constants) (omega arith);
+    live = rw (f .bindings, f .constants) (omega arith);
+    recorded = rw (f .bindings, f .constants) (omega arith);
+    fits = rw (f .scopes) (f .bindings);
+    cfits = rw (f .scopes) (f .constants);
+    ids = λ k h. absurd (omega (arith, f .bindings, h));
+    cids = λ k h. absurd (omega (arith, f .constants, h));
+    names = rw same-tree (l .names);
+    whole = λ k h. absurd (omega (arith, f .bindings, h));
+    cwhole = λ k h. absurd (omega (arith, f .constants, h));
+  }
+
+  pub planted : Planted u
+  planted = record { good = good; one = rw same-tree (l .one) }
+
+  no-scope : stack u ≡ []
+  unfolding stack heads headsAt
+  no-scope = rw (f .scopes) refl
+
+  module _ {v : List ℕ} {st : Stack} (b : Becomes u v st) (size : length v ≡ length u) where
+    ok : Ok u v
+    ok = becomes-ok planted size b
+
+    field : st ≡ newScope (fn false) ∷ [] → rest v ≡ startF (getD w 0 0)
+    unfolding rest
+    field e = becomes-rest planted (count-kept b) b ∙ st-eq e (ap yes (f .changed)) (ap yes (f .inlining)) (ap yes (f .isFirstRun)) (ap varTypeOf (f .varDeclKind)) (ap modeOf (f .patMode)) (ap yes (f .inTest)) (f .conds) (f .nodes)
+
+    begun : st ≡ newScope (fn false) ∷ [] → Started w v
+    begun e = record {
+      planted = ok .planted;
+      size = size ∙ f .size;
+      nodes = b .tree ∙ same-tree;
+      is = field e;
+      idents = ok .idents ∙ f .idents;
+      high = λ j p h. ok .high j p h ∙ f .high j (omega arith);
+      rest = b .rest ∙ beyond-same w u (f .size) (λ j p. f .high j (omega arith));
+    }
+
+  -- the root is opened: one scope passes no limit
+  pub started : {v : List ℕ} (k : ScopeKind) (s : Step) → kindOf k ≡ fn false → length v ≡ length u → Limited 8 (leb 32 (length (stack u))) u v (newScope (kindOf k) ∷ stack u) s → Started w v
+  started {v} k Done e z h = begun (h .0) z (rw (e, no-scope) refl)
+  started {v} k (Refused r) e z h = absurd (no (sym (ap (λ (st : Stack). leb 32 (length st)) no-scope) ∙ h .1))
+    where
+      no : false ≡ true → ⊥
+      no q = let y : _≡_ {A = ℕ} 0 1 = cc in omega arith

@@ -1,0 +1,34 @@
+-- The fields, and the root scope. Assumes nothing.
+use mathlib.Core.Path.{ap}
+use Rattle.scope_child.specs.Kinds.{kindOf}
+use Rattle.pass_run.proofs.Starts as starts
+use borrow.Author.Needs.{needs}
+use Rattle.pass_run.proofs.start.start.Statement.{statement}
+use Rattle.pass_run.proofs.start.start.Tie as tie
+
+set-fields-requires : tie.Need-set-fields-requires
+set-fields-requires c κs = search needs
+
+new-requires : tie.Need-new-requires
+new-requires c κs = search needs
+
+open-scope-requires : tie.Need-open-scope-requires
+open-scope-requires c κs =
+    let at-set-fields = c .before .before .before .before in
+    let at-entry = at-set-fields .before .before .before in
+    starts.planted (at-entry .pre) (at-set-fields .set-fields .ensures) .good
+
+same-length : tie.Need-same-length
+same-length c = search needs
+
+returns : tie.Need-returns
+returns c =
+    let at-open-scope = c .before .before in
+    let at-new = at-open-scope .before .before in
+    let at-set-fields = at-new .before .before .before in
+    let at-entry = at-set-fields .before .before .before in
+    starts.started (at-entry .pre) (at-set-fields .set-fields .ensures) (at-new .new .result .kind) (at-open-scope .open-scope .result) (ap kindOf (at-new .new .ensures)) (at-open-scope .open-scope .kept .0) (at-open-scope .open-scope .ensures)
+
+pub start-spec : {M : Type 1} → statement M
+start-spec =
+    tie.close (tie.spec set-fields-requires new-requires open-scope-requires same-length returns)

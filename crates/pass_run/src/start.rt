@@ -1,0 +1,30 @@
+// inlining: the visitor before its first run, over a script that was read.
+ghost use Prim.Native.Nat.{_≤_};
+ghost use lib.ListN.{length};
+ghost use Rattle.pass_run.specs.Start.{Loaded, Fields, Started};
+use scope_child::Scope;
+use scope_child::ScopeKind;
+use scope_child::open_scope;
+use words::layout;
+use words::put5;
+use words::wipe;
+
+// No scope, and the visitor's fields: not changed, Analysis, the first run, var, declaring, no test, no right side.
+fn set_fields(w: &mut [u32])
+    requires { ⌜ 16384 ≤ length (now w) ⌝ }
+    ensures { λ _. ⌜ Fields (now (w .entry)) (now (w .exit)) ⌝ }
+{
+    wipe(w, layout::BINDING_COUNT, 3);
+    put5(w, layout::CHANGED, 0, 0, 1, 1, 3);
+    wipe(w, layout::IN_TEST, 2);
+}
+
+// The fields, and an empty root scope.
+pub fn start(w: &mut [u32])
+    requires { ⌜ Loaded (now w) ⌝ }
+    ensures { λ _. ⌜ Started (now (w .entry)) (now (w .exit)) ⌝ }
+{
+    set_fields(w);
+    let root = Scope::new(ScopeKind::DEFAULT);
+    open_scope(w, root);
+}

@@ -1,0 +1,21 @@
+-- Hoisting, binding by binding. Assumes nothing: these are definitions.
+use mathlib.Core.List.{List, [], _∷_}
+use Prim.Native.Nat.{ℕ, zero, suc, _+_, _*_}
+use lib.ListN.{getD}
+use Rattle.def_tree.specs.Base.{pick}
+use Rattle.def_pass.specs.Scope.{VarInfo, Stack, isVar, onBindings, put, hoist}
+use Rattle.words_scopes.specs.State.{bareOf}
+
+-- record j, whether it is a binding's or past the last, without its value
+abbrev pub recordAt : List ℕ → ℕ → VarInfo
+recordAt w j = bareOf (getD w (4112 + j * 10) 0) (getD w (4112 + j * 10 + 1) 0) (getD w (4112 + j * 10 + 2) 0) (getD w (4112 + j * 10 + 3) 0) (getD w (4112 + j * 10 + 4) 0) (getD w (4112 + j * 10 + 5) 0) (getD w (4112 + j * 10 + 6) 0) (getD w (4112 + j * 10 + 7) 0)
+
+-- a binding of a closed scope goes up, if it is a `var`
+abbrev pub hoistOne : VarInfo → Stack → Stack
+hoistOne c [] = []
+hoistOne c (s ∷ st) = onBindings (λ bs. pick (isVar (c .kind)) (put (hoist (s .unresolvedUsages) c) bs) bs) s ∷ st
+
+-- n of them, from a on
+abbrev pub hoistUp : (ℕ → VarInfo) → ℕ → ℕ → Stack → Stack
+hoistUp f a zero st = st
+hoistUp f a (suc n) st = hoistOne (f (a + n)) (hoistUp f a n st)

@@ -1,0 +1,81 @@
+-- A binding appended. Assumes nothing.
+use mathlib.Core.Path.{_∙_}
+use native.Mathlib.Omega.{arith}
+use lib.ListN.{length-set}
+use Rattle.words_scopes.proofs.Grow as grow
+use borrow.Author.Needs.{needs}
+use Rattle.words_scopes.proofs.append_record.Statement.{statement}
+use Rattle.words_scopes.proofs.append_record.Tie as tie
+
+slice-read-n : tie.Need-slice-read-n
+slice-read-n c = search needs
+
+cast-n : tie.Need-cast-n
+cast-n c = search needs
+
+mul-put5 : tie.Need-mul-put5
+mul-put5 c = search needs
+
+add-put5 : tie.Need-add-put5
+add-put5 c = search needs
+
+put5-requires : tie.Need-put5-requires
+put5-requires c κs = search needs
+
+mul-put5-2 : tie.Need-mul-put5-2
+mul-put5-2 c = search needs
+
+add-put5-2 : tie.Need-add-put5-2
+add-put5-2 c = search needs
+
+add-put5-3 : tie.Need-add-put5-3
+add-put5-3 c = search needs
+
+put5-requires-2 : tie.Need-put5-requires-2
+put5-requires-2 c κs = search needs
+
+add-w : tie.Need-add-w
+add-w c = search needs
+
+cast-w : tie.Need-cast-w
+cast-w c = search needs
+
+slice-write-w : tie.Need-slice-write-w
+slice-write-w c = search needs
+
+same-length : tie.Need-same-length
+same-length c =
+    let at-put52 = c .before .before in
+    let at-put5 = at-put52 .before .before .before .before in
+    simp length-set (at-put52 .put52 .kept .0 ∙ at-put5 .put5 .kept .0)
+
+returns : tie.Need-returns
+returns c =
+    let at-put52 = c .before .before in
+    let at-put5 = at-put52 .before .before .before .before in
+    let at-entry = at-put5 .before .before .before .before in
+    let a = at-entry .args in (
+      grow.pushed (a .w .now) (at-put5 .put5 .last .0) (at-put52 .put52 .last .0) (at-entry .pre .0) (at-entry .pre .1) (at-entry .pre .2) (a .id) (a .kind) (a .alias) (a .reads) (a .prevented) (a .undef) (a .sensitive) (a .hoisted) (omega arith) (at-put5 .put5 .ensures) (at-put52 .put52 .ensures),
+      grow.pushed-past (a .w .now) (at-put5 .put5 .last .0) (at-put52 .put52 .last .0) (at-entry .pre .0) (at-entry .pre .1) (at-entry .pre .2) (a .id) (a .kind) (a .alias) (a .reads) (a .prevented) (a .undef) (a .sensitive) (a .hoisted) (omega arith) (at-put5 .put5 .ensures) (at-put52 .put52 .ensures),
+      grow.count (a .w .now) (at-put5 .put5 .last .0) (at-put52 .put52 .last .0) (at-entry .pre .0) (at-entry .pre .1) (at-entry .pre .2) (a .id) (a .kind) (a .alias) (a .reads) (a .prevented) (a .undef) (a .sensitive) (a .hoisted) (omega arith) (at-put5 .put5 .ensures) (at-put52 .put52 .ensures),
+      grow.pushed-consts (a .w .now) (at-put5 .put5 .last .0) (at-put52 .put52 .last .0) (at-entry .pre .0) (at-entry .pre .1) (at-entry .pre .2) (a .id) (a .kind) (a .alias) (a .reads) (a .prevented) (a .undef) (a .sensitive) (a .hoisted) (omega arith) (at-put5 .put5 .ensures) (at-put52 .put52 .ensures),
+    )
+
+pub append-record-spec : {M : Type 1} → statement M
+append-record-spec =
+    tie.close
+    (tie.spec
+    slice-read-n
+    cast-n
+    mul-put5
+    add-put5
+    put5-requires
+    mul-put5-2
+    add-put5-2
+    add-put5-3
+    put5-requires-2
+    add-w
+    cast-w
+    slice-write-w
+    same-length
+    returns)
