@@ -3,9 +3,9 @@ ghost use mathlib.Core.Path.{_≡_};
 ghost use Rattle.file_copy.specs.Copy.{CopyIs};
 use file_read::read::Answer;
 use file_read::read::read;
-use words::clear;
 use file_write::Written;
 use file_write::write;
+use words::clear;
 
 // A refusal's number, or 0 and the length of what was written.
 #[repr(C)]

@@ -3,14 +3,14 @@ ghost use mathlib.Core.Path.{_≡_};
 ghost use Rattle.def_tree.specs.Base.{toNat};
 ghost use Rattle.pass_answers.specs.Entry.{enough, InlineIs};
 ghost use Rattle.pass_answers.specs.Roots.{RootsIs};
+use file_write::Written;
+use file_write::write;
 use pass_answers::Inlined;
 use pass_answers::Roots;
 use pass_roots::write_roots;
 use pass_run::Ran;
 use pass_run::inline::inline_file;
 use words::clear;
-use file_write::Written;
-use file_write::write;
 
 // Row 1: 1 to 16 runs, and at least 16,384 words.
 fn enough(runs: u32, words: usize) -> bool

@@ -13,8 +13,8 @@ ghost use Rattle.words_scopes.specs.State.{Good, stack};
 ghost use Rattle.pass_roots.specs.Listing.{Known, marksTo, rootAt, rootWords, rootList, rootsIn, inRoom, WroteRoots};
 use def_file::Raw;
 use file_fields::fields::raw_at;
-use words::layout;
 use file_write::Written;
+use words::layout;
 
 // How many bindings the root has: those before the second scope's.
 fn root_count(w: &[u32]) -> usize

@@ -7,12 +7,12 @@ ghost use Rattle.words_nodes.specs.Nodes.{Planted};
 ghost use Rattle.words_state.specs.State.{abs};
 ghost use Rattle.walk_laws.specs.Did.{Did};
 ghost use Rattle.pass_run.specs.Run.{RunsIs};
+use walk::program;
 use walk_ident::Next;
+use words::layout;
 use words_state::set_changed;
 use words_state::set_inlining;
 use words_state::set_is_first_run;
-use walk::program;
-use words::layout;
 
 // Runs done and the last one's mark, or a refusal's number.
 pub enum Ran {

@@ -9,8 +9,8 @@ ghost use Rattle.scope_calls.specs.Begun.{Begun};
 use scope_child::Scope;
 use scope_child::ScopeKind;
 use scope_child::open_scope;
-use words_nodes::add_node;
 use words::clear;
+use words_nodes::add_node;
 
 // One more node.
 fn grow(w: &mut [u32], kind: u32, arity: u32, num: u32)

@@ -1,10 +1,6 @@
 // The scopes in the words printed, root first, and then what the look-ups answer.
 ghost use Prim.Native.Nat.{_≤_, _<_};
 ghost use Rattle.words_nodes.specs.Nodes.{Planted};
-use scope_find::bound_here;
-use scope_find::in_loop;
-use scope_values::live;
-use scope_values::recorded_nodes;
 use scope::Count;
 use scope::find_binding;
 use scope::find_binding_from_current;
@@ -19,6 +15,10 @@ use scope::scope_for;
 use scope::should_prevent_inline_because_of_scope;
 use scope::var_inline_prevented;
 use scope::write_prevents_inline;
+use scope_find::bound_here;
+use scope_find::in_loop;
+use scope_values::live;
+use scope_values::recorded_nodes;
 use std::num::wrapping_add_u32;
 use words::layout;
 

@@ -3,8 +3,6 @@ ghost use Prim.Native.Nat.{_≤_, _<_};
 ghost use Rattle.words_nodes.specs.Nodes.{Planted};
 use super::values::node_of;
 use super::values::value_of;
-use scope_define::define;
-use scope_values::Step;
 use scope::Init;
 use scope::Scope;
 use scope::ScopeKind;
@@ -22,6 +20,8 @@ use scope::prevent_inline;
 use scope::prevent_inline_of_params;
 use scope::record_value;
 use scope::store_inline_barrier;
+use scope_define::define;
+use scope_values::Step;
 
 // The number of a step's refusal.
 fn number(s: Step) -> u32 {

@@ -11,15 +11,15 @@ ghost use Rattle.words_scopes.specs.State.{Good, Becomes, stack, scopeKindOf};
 ghost use Rattle.scope_values.specs.Steps.{Limited};
 ghost use Rattle.scope_child.specs.Kinds.{kindOf};
 ghost use Rattle.scope_child.specs.Hoist.{recordAt, hoistOne, hoistUp};
-use scope_values::Step;
-use scope_values::set_run;
 use scope_redeclare::own_binding;
 use scope_redeclare::rewrite;
+use scope_values::Step;
+use scope_values::set_run;
+use words::flag_at;
+use words::layout;
 use words_scopes::append_record;
 use words_scopes::drop_scope;
 use words_scopes::open;
-use words::flag_at;
-use words::layout;
 
 pub enum ScopeKind {
     // If / Switch

@@ -24,10 +24,10 @@ use scope_find::in_loop;
 use scope_find::is_inline_prevented;
 use scope_find::should_prevent_inline_because_of_scope;
 use scope_find::var_type;
-use words_nodes::skip;
 use scope_values::Step;
 use words::kind_at;
 use words::layout;
+use words_nodes::skip;
 
 // Where x is among the bindings of the current scope, or would be.
 fn place_here(w: &[u32], x: u8) -> usize

@@ -10,18 +10,18 @@ ghost use Rattle.words_scopes.specs.State.{Good, Becomes, stack, valueOf, runOf
 ghost use Rattle.scope_values.specs.Steps.{Grown};
 ghost use Rattle.scope_define.specs.Kinds.{typeOf, aliasOf, initAt, isSeen, Sized};
 ghost use Rattle.scope_define.specs.Declare.{putDeclared, declareWith};
-use scope_values::Step;
-use scope_values::passes;
-use scope_values::record_value;
-use scope_values::set_run;
 use scope_redeclare::own_binding;
 use scope_redeclare::redeclare_as;
 use scope_redeclare::redeclare_seen;
 use scope_redeclare::rewrite;
+use scope_values::Step;
+use scope_values::passes;
+use scope_values::record_value;
+use scope_values::set_run;
+use words::layout;
 use words_scopes::append_record;
 use words_scopes::find_binding;
 use words_scopes::prevent_inline;
-use words::layout;
 
 pub enum VarDeclKind {
     Var,

@@ -13,14 +13,14 @@ ghost use Rattle.words.specs.Layout.{nodeOf};
 ghost use Rattle.words_scopes.specs.State.{Good, stack, bindAt, varTypeOf, lenAt, off};
 ghost use Rattle.scope_find.specs.Look.{first, cfirst, scopeAt, below, atPlace, FoundIn, idxHere, idxAt, readsO, kindO, nodeTree, held, barsHere, boundHere};
 ghost use Rattle.scope_find.specs.Answers.{countOf};
-use words_scopes::find_binding;
-use words_scopes::find_in;
-use words_scopes::offset;
 use words::arity_at;
 use words::flag_at;
 use words::kind_at;
 use words::layout;
 use words::num_at;
+use words_scopes::find_binding;
+use words_scopes::find_in;
+use words_scopes::offset;
 
 // read_cnt: how often a binding was read, if there is one.
 pub enum Count {

@@ -10,9 +10,9 @@ ghost use Rattle.words_scopes.specs.State.{Good, Becomes, stack, heads, flags, 
 ghost use Rattle.scope_find.specs.Look.{fnStart, paramsFrom};
 ghost use Rattle.scope_find.specs.Touched.{BarStored};
 use scope_find::first_of;
-use words_scopes::find_binding;
 use words::layout;
 use words::set_flag;
+use words_scopes::find_binding;
 
 // What `this` is matters to the innermost binding of x.
 pub fn mark_this_sensitive(w: &mut [u32], x: u8)

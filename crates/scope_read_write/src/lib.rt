@@ -19,9 +19,9 @@ use scope_marks::mark::count_read;
 use scope_marks::mark::prevent_inline_of_params;
 use scope_marks::mark::set_defined;
 use scope_values::Step;
+use words::layout;
 use words_scopes::prevent_inline;
 use words_scopes::push;
-use words::layout;
 
 // Marks by x where the test says so.
 fn prevent_if(w: &mut [u32], x: u8, test: bool)

@@ -10,11 +10,11 @@ ghost use Rattle.words.specs.Tab.{sum};
 ghost use Rattle.words.specs.Layout.{Agree, run};
 ghost use Rattle.words_scopes.specs.State.{Good, stack, binds, consts, bindAt, off, coff, valueOf, runOf};
 ghost use Rattle.scope_values.specs.Steps.{Spliced, Listed, Grown};
+use words::layout;
+use words::shift;
 use words_scopes::find_binding;
 use words_scopes::offset;
 use words_scopes::offset_from;
-use words::layout;
-use words::shift;
 
 // What a step that may pass a limit answers: the number of its refusal.
 pub enum Step {

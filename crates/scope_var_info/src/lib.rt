@@ -12,9 +12,9 @@ ghost use Rattle.words_scopes.specs.State.{Good, stack, nameOf};
 ghost use Rattle.scope_find.specs.Look.{kindO, idxHere};
 ghost use Rattle.words_nodes.specs.Nodes.{Planted, valueFrom, size};
 ghost use Rattle.scope_var_info.specs.Handles.{bindingsOf, numbered, indexed, ofBinding, treeO, Held, Sits, Puts};
-use words_nodes::replace_at;
 use scope_values::Constant;
 use words::layout;
+use words_nodes::replace_at;
 
 // Is b the number of a binding.
 fn known(w: &[u32], b: usize) -> bool

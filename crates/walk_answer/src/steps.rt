@@ -7,10 +7,10 @@ ghost use Rattle.words_nodes.specs.Nodes.{Planted};
 ghost use Rattle.words_state.specs.State.{abs};
 ghost use Rattle.walk_declarator.specs.Steps.{Spot, named, declrAfter};
 ghost use Rattle.walk_laws.specs.Did.{Did, Here, Headed, bareNode, settledNode};
+use scope_declare::type_of;
 use walk_declarator::After;
 use walk_declarator::declr_after;
 use walk_ident::Next;
-use scope_declare::type_of;
 use words::arity_at;
 use words::kind_at;
 

@@ -18,12 +18,6 @@ ghost use Rattle.words_nodes.specs.Nodes.{Planted, Child, Replants, cutAt, tree
 ghost use Rattle.words_state.specs.State.{rest, abs};
 ghost use Rattle.scope_declare.specs.Inits.{initFrom, Sited, Valued, hasNone};
 ghost use Rattle.walk_declarator.specs.Steps.{named, doneOf, toldOf, Moves, Did, afterOf, Spot, declrAfter, overNone, overConst, overCheap, overOther, wants, takeIdent, takeValue, takeOrMark, takeInit};
-use scope_declare::is_ident;
-use scope_declare::type_of;
-use words_nodes::cut;
-use words_nodes::has_this;
-use words_nodes::skip;
-use scope_values::Step;
 use scope::Count;
 use scope::Init;
 use scope::Value;
@@ -35,8 +29,14 @@ use scope::ident_prevented;
 use scope::is_inline_prevented;
 use scope::prevent_inline;
 use scope::read_cnt;
+use scope_declare::is_ident;
+use scope_declare::type_of;
+use scope_values::Step;
 use words::kind_at;
 use words::layout;
+use words_nodes::cut;
+use words_nodes::has_this;
+use words_nodes::skip;
 
 // A step that also tells whether something holds.
 pub enum Told {

@@ -11,17 +11,17 @@ ghost use Rattle.words_state.specs.State.{abs};
 ghost use Rattle.walk_ident.specs.Steps.{Goes, firstTest, firstF};
 use super::Next;
 use super::lift_value;
-use scope_find::ident_at;
-use words_nodes::skip;
-use scope_values::Step;
 use scope::Value;
 use scope::find_binding_from_current;
 use scope::first_value;
 use scope::is_inline_prevented;
 use scope::is_undefined;
 use scope::var_inline_prevented;
+use scope_find::ident_at;
+use scope_values::Step;
 use words::arity_at;
 use words::kind_at;
+use words_nodes::skip;
 
 // Is x bound here and undefined, and neither it nor the value at node j prevented.
 fn first_here(w: &[u32], x: u8, j: usize) -> bool

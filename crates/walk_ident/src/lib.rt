@@ -15,11 +15,6 @@ ghost use Rattle.walk_ident.specs.Steps.{Goes, analysisF, costly, testSt
 
 pub mod assign;
 
-use scope_find::ident_at;
-use words_nodes::Step;
-use words_nodes::put_void;
-use words_nodes::skip;
-use words_nodes::unwrap;
 use scope::add_read;
 use scope::close;
 use scope::find_binding;
@@ -33,14 +28,19 @@ use scope::value_ident;
 use scope::value_kind;
 use scope::value_len;
 use scope::var_inline_prevented;
+use scope_find::ident_at;
+use words::form_at;
+use words::layout;
+use words_nodes::Step;
+use words_nodes::put_void;
+use words_nodes::skip;
+use words_nodes::unwrap;
 use words_state::set_changed;
 use words_state::set_conds;
 use words_state::set_in_test;
 use words_state::set_inlining;
 use words_state::set_pat_mode;
 use words_state::set_var_decl_kind;
-use words::form_at;
-use words::layout;
 
 // Where the next tree begins, or the number of a refusal.
 pub enum Next {

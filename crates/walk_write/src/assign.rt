@@ -13,15 +13,15 @@ ghost use Rattle.walk_write.specs.Answers.{cheapAt};
 use super::number;
 use super::write_ident;
 use super::write_trees;
-use scope_find::ident_at;
-use words_nodes::skip;
 use scope::Value;
 use scope::find_binding;
 use scope::is_inline_prevented;
 use scope::prevent_inline;
 use scope::record_value;
 use scope::var_inline_prevented;
+use scope_find::ident_at;
 use words::kind_at;
+use words_nodes::skip;
 
 // Before the walk of an assignment's value: f is the assignment's form. A plain `=` to a name is not forced.
 pub fn assign_first(w: &mut [u32], f: u32, n: usize, i: usize) -> u32

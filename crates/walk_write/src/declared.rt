@@ -16,17 +16,17 @@ ghost use Rattle.words_state.specs.State.{abs, Act};
 ghost use Rattle.walk_write.specs.Answers.{reKind};
 use super::number;
 use super::write_unbound;
-use scope_find::ident_at;
-use words_nodes::put_node;
 use scope::Init;
 use scope::VarDeclKind;
 use scope::VarType;
 use scope::declare;
+use scope_find::ident_at;
 use words::arity_at;
 use words::form_at;
 use words::kind_at;
 use words::layout;
 use words::num_at;
+use words_nodes::put_node;
 
 // The name of the function at i, in Analysis.
 pub fn declare_name(w: &mut [u32], i: usize) -> u32

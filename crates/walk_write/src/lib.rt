@@ -20,18 +20,18 @@ ghost use Rattle.walk_write.specs.Answers.{numberOf};
 pub mod assign;
 pub mod declared;
 
-use scope_find::ident_at;
-use words_nodes::skip;
-use scope_values::Step;
 use scope::add_write;
 use scope::find_binding_from_current;
 use scope::mark_this_sensitive;
 use scope::prevent_inline;
 use scope::store_inline_barrier;
+use scope_find::ident_at;
+use scope_values::Step;
 use words::arity_at;
 use words::form_at;
 use words::kind_at;
 use words::layout;
+use words_nodes::skip;
 
 // Document 01's number of a refusal, 0 where there is none.
 pub fn number(s: Step) -> u32

@@ -9,13 +9,13 @@ ghost use Rattle.def_pass.specs.Scope.{prevent, change, preventOne, preventInli
 ghost use Rattle.words.specs.Layout.{yes, Agree};
 ghost use Rattle.words_prevent.specs.Mark.{marked};
 ghost use Rattle.words_scopes.specs.State.{Good, Becomes, stack, heads, binds, place, off, bindAt, nameOf, hitAt, Window, varTypeOf, aliasAt, scopeKindOf, bareOf, dropInner};
-use words_prevent::Binding;
-use words_prevent::all_marked;
 use words::layout;
 use words::merge;
 use words::put4;
 use words::put5;
 use words::wipe;
+use words_prevent::Binding;
+use words_prevent::all_marked;
 
 // The place of the first binding of x from a up to e, e if there is none.
 pub fn find_in(w: &[u32], a: usize, e: usize, x: u8) -> usize
