@@ -1,43 +1,30 @@
 -- What every walk keeps: a property N of each node's kind, form and number, in the tree, the recorded values and the constants,
 -- and of each binding's identifier; and that no scope has two bindings of one identifier. The walks make no node but `void 0` and an identifier from a binding. Assumes nothing.
 use mathlib.Core.Path.{_≡_, refl, sym, _∙_, subst}
-use mathlib.Core.Bool.{Bool, true, false, _&&_, _||_, not}
+use mathlib.Core.Bool.{Bool, true, false, _&&_, not, _||_}
 use mathlib.Core.Option.{Option, none, some}
 use mathlib.Core.List.{List, [], _∷_, _++_, map}
-use Prim.Native.Nat.{ℕ, zero, suc, _+_, _-_}
-use lib.Dec.{T, eqb, ltb, leb, eqb→eq}
-use Rattle.laws_pass.proofs.Tests.{is-T}
+use Prim.Native.Nat.{ℕ, suc}
+use lib.Dec.{T, eqb, eqb→eq}
+use Rattle.laws_pass.proofs.Tests.{is-T, pick-ok, pick-known, elim-ok}
+use Rattle.laws_pass.proofs.Effects.{Law, Effects, GF, VF, VO, VB, VI, Passed, pass-does}
 use Rattle.laws_pass.proofs.Single.{Single, ids, has-mem, ids-append, ids-map, ids-change, pick-id, single-append, single-put, Fresh, unbound}
-use lib.ListN.{length, getD}
+use lib.ListN.{length}
 use Rattle.def_tree.specs.Base.{pick, orElse}
-use Rattle.def_pass.specs.Tree.{Tree, Forest, node, nil, cons, kind, form, num, kids, headT, tailF, isIdent, isCheap, hasThis, count, height, identList, identListF, voidZero}
+use Rattle.def_pass.specs.Tree.{Tree, Forest, node, nil, cons, kind, num, kids}
 use Rattle.def_pass.specs.Scope as Scope
 use Rattle.def_pass.specs.Walk as Walk
-use Rattle.def_pass.specs.Walk.{St, M, Walks, get, when, modify, mark, grow, inScope, visitMutStmts, plain}
-use Rattle.def_tree.specs.Combine.{Res, stop, done, Nothing, andThen, _>>=_, _>>_, ret, refuse, iff, within, each, split, eachBut, onKids}
-
--- a test's two branches
-pub pick-ok : {A : Type 0} (P : A → Type 0) (c : Bool) (x y : A) → P x → P y → P (pick c x y)
-pick-ok P true x y h k = h
-pick-ok P false x y h k = k
-
-pub pick-known : {A : Type 0} (P : A → Type 0) (c : Bool) (x y : A) → (c ≡ true → P x) → (c ≡ false → P y) → P (pick c x y)
-pick-known P true x y h k = h refl
-pick-known P false x y h k = k refl
-
-pub elim-ok : {A : Type 0} (P : A → Type 0) (c : Bool) (x y : A) → P x → P y → P (elim c [ true ↦ x | false ↦ y ])
-elim-ok P true x y h k = h
-elim-ok P false x y h k = k
+use Rattle.def_pass.specs.Walk.{St}
 
 abbrev pub All : {A : Type 0} → (A → Type 0) → List A → Type 0
 All P [] = Unit {0}
 All P (x ∷ xs) = P x × All P xs
 
-all-map : {A : Type 0} (P : A → Type 0) (f : A → A) → ((a : A) → P a → P (f a)) → (xs : List A) → All P xs → All P (map f xs)
+pub all-map : {A : Type 0} (P : A → Type 0) (f : A → A) → ((a : A) → P a → P (f a)) → (xs : List A) → All P xs → All P (map f xs)
 all-map P f h [] t = tt
 all-map P f h (x ∷ xs) t = (h x (t .0), all-map P f h xs (t .1))
 
-all-append : {A : Type 0} (P : A → Type 0) (xs : List A) (y : A) → All P xs → P y → All P (xs ++ (y ∷ []))
+pub all-append : {A : Type 0} (P : A → Type 0) (xs : List A) (y : A) → All P xs → P y → All P (xs ++ (y ∷ []))
 all-append P [] y t h = (h, tt)
 all-append P (x ∷ xs) y t h = (t .0, all-append P xs y (t .1) h)
 
@@ -257,112 +244,22 @@ module _ (N : ℕ → ℕ → ℕ → Type 0) (to-ident : (f a : ℕ) → N 20 f
       let us : ℕ → Bool = λ j. c .unresolvedUsages j || s .unresolvedUsages j in
       ((pick-ok (All OkB) (Scope.isFn (c .kind)) (s .bindings) (Scope.hoistAll us (c .bindings) (s .bindings)) (h .1 .0 .0) (ok-hoist us (c .bindings) (s .bindings) (h .0 .0) (h .1 .0 .0)), h .1 .0 .1, pick-ok (λ (bs : List Scope.VarInfo). Single (ids bs)) (Scope.isFn (c .kind)) (s .bindings) (Scope.hoistAll us (c .bindings) (s .bindings)) (h .1 .0 .2) (single-hoist us (c .bindings) (s .bindings) (h .1 .0 .2))), h .1 .1)
 
-  -- the walks
+  -- as a law of the walks
+  abbrev keeps : Law
+  keeps = record { Inv = λ s. OkSt (s .stack); Move = λ m s n s′. Unit {0}; Good = λ p t. OkT t; Val = OkT; Rel = λ t u. Unit {0}; Id = OkId; Stop = λ n. Unit {0}; Tells = ⊥ }
 
-  -- a state's scopes are as they should be
-  abbrev OkS! : St → Type 0
-  OkS! s = OkSt (s .stack)
+  goods : (p : ℕ) (ts : Forest) → OkF ts → GF keeps p ts
+  goods p nil o = tt
+  goods p (cons t ts) o = (o .0, goods p ts (o .1))
 
-  abbrev Okay : {A : Type 0} → (A → Type 0) → Res St A → Type 0
-  Okay Q (stop n) = Unit {0}
-  Okay Q (done s a) = OkS! s × Q a
+  okays : (p : ℕ) (ts : Forest) → GF keeps p ts → OkF ts
+  okays p nil o = tt
+  okays p (cons t ts) o = (o .0, okays p ts (o .1))
 
-  record Pres {A : Type 0} (Q : A → Type 0) (m : M A) : Type 0 where
-    from : (s : St) → OkS! s → Okay Q (m s)
+  vals : (ts : Forest) → OkF ts → VF keeps ts
+  vals nil o = tt
+  vals (cons t ts) o = (o .0, vals ts (o .1))
 
-  abbrev Any : {A : Type 0} → A → Type 0
-  Any a = Unit {0}
-
-  bind : {A B : Type 0} {Q : A → Type 0} {R : B → Type 0} {m : M A} {f : A → M B} → Pres Q m → ((a : A) → Q a → Pres R (f a)) → Pres R (m >>= f)
-  bind {A} {B} {Q} {R} {m} {f} h k = record { from = λ s o. go (m s) (h .from s o) }
-    where
-      go : (r : Res St A) → Okay Q r → Okay R (andThen r f)
-      go (stop n) o = tt
-      go (done s a) o = k a (o .1) .from s (o .0)
-
-  after : {A B : Type 0} {Q : A → Type 0} {R : B → Type 0} {m : M A} {k : M B} → Pres Q m → Pres R k → Pres R (m >> k)
-  after {A} {B} {Q} {R} {m} {k} h l = record { from = λ s o. go (m s) (h .from s o) }
-    where
-      go : (r : Res St A) → Okay Q r → Okay R (andThen r (λ a. k))
-      go (stop n) o = tt
-      go (done s a) o = l .from s (o .0)
-
-  ret-ok : {A : Type 0} {Q : A → Type 0} (a : A) → Q a → Pres Q (ret a)
-  ret-ok a q = record { from = λ s o. (o, q) }
-
-  get-ok : Pres OkS! get
-  get-ok = record { from = λ s o. (o, o) }
-
-  iff-ok : {A : Type 0} {Q : A → Type 0} (c : Bool) {m k : M A} → Pres Q m → Pres Q k → Pres Q (iff c m k)
-  iff-ok true h l = h
-  iff-ok false h l = l
-
-  when-ok : (c : Bool) {m : M Nothing} → Pres Any m → Pres Any (when c m)
-  when-ok true h = h
-  when-ok false h = ret-ok tt tt
-
-  -- a change that leaves the scopes
-  mod-ok : (f : St → St) → ((s : St) → OkS! s → OkS! (f s)) → Pres Any (modify f)
-  mod-ok f h = record { from = λ s o. (h s o, tt) }
-
-  mark-ok : (f : Scope.Stack → Scope.Stack) → ((st : Scope.Stack) → OkSt st → OkSt (f st)) → Pres Any (mark f)
-  mark-ok f h = record { from = λ s o. (h (s .stack) o, tt) }
-
-  records-ok : Pres Any Walk.withinRecords
-  records-ok = record { from = λ s o. elim-ok (Okay Any) (ltb 512 (Scope.recordedNodes (s .stack)) || ltb 256 (Scope.live (s .stack))) (stop 9) (done s tt) tt (o, tt) }
-
-  grow-ok : (f : Scope.Stack → Scope.Stack) → ((st : Scope.Stack) → OkSt st → OkSt (f st)) → Pres Any (grow f)
-  grow-ok f h = after (mark-ok f h) records-ok
-
-  within-ok : {A : Type 0} {Q : A → Type 0} {enter : M Nothing} (leave : St → St → St) {m : M A} → Pres Any enter → ((old s : St) → OkS! s → OkS! (leave old s)) → Pres Q m → Pres Q (within enter leave m)
-  within-ok {A} {Q} {enter} leave {m} h l k = record { from = λ s o. isFirstRun s (enter s) (h .from s o) }
-    where
-      last : (old : St) (r : Res St A) → Okay Q r → Okay Q (andThen r (λ a s. done (leave old s) a))
-      last old (stop n) o = tt
-      last old (done s a) o = (l old s (o .0), o .1)
-
-      isFirstRun : (old : St) (r : Res St Nothing) → Okay {A = Nothing} Any r → Okay Q (andThen r (λ u s. andThen (m s) (λ a s₁. done (leave old s₁) a)))
-      isFirstRun old (stop n) o = tt
-      isFirstRun old (done s a) o = last old (m s) (k .from s (o .0))
-
-  opening-ok : (k : Scope.ScopeKind) → Pres Any (Walk.opening k)
-  unfolding Walk.opening
-  opening-ok k = record { from = λ s o. elim-ok (Okay {A = Nothing} Any) (leb 32 (length (s .stack))) (stop 8) (done (Walk.setVarDeclKind Scope.vVar (Walk.setStack (Scope.newScope k ∷ s .stack) s)) tt) tt (((tt, tt, tt), o), tt) }
-
-  inScope-ok : {A : Type 0} {Q : A → Type 0} (k : Scope.ScopeKind) {m : M A} → Pres Q m → Pres Q (inScope k m)
-  unfolding inScope
-  inScope-ok k h = within-ok Walk.restore (opening-ok k) (λ old s o. ok-close (s .stack) o) h
-
-  each-ok : (f : Tree → M Tree) → ((t : Tree) → OkT t → Pres OkT (f t)) → (ts : Forest) → OkF ts → Pres OkF (each f ts)
-  each-ok f h nil o = ret-ok nil tt
-  each-ok f h (cons t ts) o = bind (h t (o .0)) λ t′ o₁. bind (each-ok f h ts (o .1)) λ ts′ o₂. ret-ok (cons t′ ts′) (o₁, o₂)
-
-  deeper-ok : Pres Any Walk.deeper
-  unfolding Walk.deeper
-  deeper-ok = record { from = λ s o. elim-ok (Okay {A = Nothing} Any) (leb 12 (s .conds)) (stop 8) (done (Walk.setConds (suc (s .conds)) s) tt) tt (o, tt) }
-
-  inCond-ok : {A : Type 0} {Q : A → Type 0} {m : M A} → Pres Q m → Pres Q (Walk.inCond m)
-  unfolding Walk.inCond
-  inCond-ok h = within-ok Walk.shallower deeper-ok (λ old s o. o) (inScope-ok Scope.cond h)
-
-  -- with the test's outcome at hand
-  when-by : (c : Bool) {m : M Nothing} → (T c → Pres Any m) → Pres Any (when c m)
-  when-by true h = h tt
-  when-by false h = ret-ok tt tt
-
-  split-ok : (f : Tree → M Tree) (g : Forest → M Forest) → ((t : Tree) → OkT t → Pres OkT (f t)) → ((ts : Forest) → OkF ts → Pres OkF (g ts)) → (ts : Forest) → OkF ts → Pres OkF (split f g ts)
-  split-ok f g h k nil o = ret-ok nil tt
-  split-ok f g h k (cons t ts) o = bind (h t (o .0)) λ t′ o₁. bind (k ts (o .1)) λ ts′ o₂. ret-ok (cons t′ ts′) (o₁, o₂)
-
-  eachBut-ok : (f g : Tree → M Tree) → ((t : Tree) → OkT t → Pres OkT (f t)) → ((t : Tree) → OkT t → Pres OkT (g t)) → (ts : Forest) → OkF ts → Pres OkF (eachBut f g ts)
-  eachBut-ok f g h k nil o = ret-ok nil tt
-  eachBut-ok f g h k (cons t nil) o = bind (k t (o .0)) λ t′ o₁. ret-ok (cons t′ nil) (o₁, tt)
-  eachBut-ok f g h k (cons t (cons u us)) o = bind (h t (o .0)) λ t′ o₁. bind (eachBut-ok f g h k (cons u us) (o .1)) λ ts′ o₂. ret-ok (cons t′ ts′) (o₁, o₂)
-
-  onKids-ok : (g : Forest → M Forest) → ((ts : Forest) → OkF ts → Pres OkF (g ts)) → (t : Tree) → OkT t → Pres OkT (onKids g t)
-  onKids-ok g h (node k f a ts) o = bind (h ts (o .1)) λ ts′ o′. ret-ok (node k f a ts′) (o .0, o′)
-
-  -- identifiers
   id-of : (t : Tree) → OkT t → T (eqb (kind t) 20 || eqb (kind t) 21) → OkId (num t)
   id-of (node k f a ts) o h = go (eqb k 20) refl (eqb k 21) refl h
     where
@@ -371,415 +268,62 @@ module _ (N : ℕ → ℕ → ℕ → Type 0) (to-ident : (f a : ℕ) → N 20 f
       go false e true d h = record { flag = f; ok = subst (λ (m : ℕ). N m f a) (eqb→eq k 21 (is-T _ d)) (o .0) }
       go false e false d h = absurd h
 
-  id-bind : (t : Tree) → OkT t → T (eqb (kind t) 20) → OkId (num t)
-  id-bind t o h = id-of t o (left (eqb (kind t) 20) (eqb (kind t) 21) h)
-    where
-      left : (p q : Bool) → T p → T (p || q)
-      left true q h = tt
-      left false q h = absurd h
-
-  abbrev OkI : Tree → Type 0
-  OkI t = OkId (num t)
-
-  mutual
-    idents-ok : (t : Tree) → OkT t → (rest : List Tree) → All OkI rest → All OkI (identList t rest)
-    idents-ok (node k f a ts) o rest r = go (eqb k 20 || eqb k 21) refl (identsF-ok ts (o .1) rest r)
-      where
-        go : (p : Bool) → (eqb k 20 || eqb k 21) ≡ p → All OkI (identListF ts rest) → All OkI (elim p [ true ↦ node k f a nil ∷ rest | false ↦ identListF ts rest ])
-        go true e h = (id-of (node k f a ts) o (is-T _ e), r)
-        go false e h = h
-
-    identsF-ok : (ts : Forest) → OkF ts → (rest : List Tree) → All OkI rest → All OkI (identListF ts rest)
-    identsF-ok nil o rest r = r
-    identsF-ok (cons t ts) o rest r = idents-ok t (o .0) (identListF ts rest) (identsF-ok ts (o .1) rest r)
-
-  write-ok : (force : Bool) (t : Tree) → OkI t → Pres Any (Walk.write force t)
-  unfolding Walk.write
-  write-ok force t o = grow-ok (Scope.addWrite (num t) (eqb (form t) 1) force) (ok-addWrite (num t) (eqb (form t) 1) force o)
-
-  writes-ok : (force : Bool) (ts : List Tree) → All OkI ts → Pres Any (Walk.writes force ts)
-  unfolding Walk.writes
-  writes-ok force [] o = ret-ok tt tt
-  writes-ok force (t ∷ ts) o = after (write-ok force t (o .0)) (writes-ok force ts (o .1))
-
-  writeT-ok : (force : Bool) (t : Tree) → OkT t → Pres Any (Walk.writeTree force t)
-  unfolding Walk.writeTree
-  writeT-ok force t o = writes-ok force (identList t []) (idents-ok t o [] tt)
-
-  writeF-ok : (force : Bool) (ts : Forest) → OkF ts → Pres Any (Walk.writeForest force ts)
-  unfolding Walk.writeForest
-  writeF-ok force ts o = writes-ok force (identListF ts []) (identsF-ok ts o [] tt)
-
-  butLast-ok : (ts : Forest) → OkF ts → OkF (Walk.butLast ts)
-  butLast-ok nil o = tt
-  butLast-ok (cons t nil) o = tt
-  butLast-ok (cons t (cons u us)) o = (o .0, butLast-ok (cons u us) (o .1))
-
-  head-ok : (ts : Forest) → OkF ts → OkO (headT ts)
-  head-ok nil o = tt
-  head-ok (cons t ts) o = o .0
-
-  tail-ok : (ts : Forest) → OkF ts → OkF (tailF ts)
-  tail-ok nil o = tt
-  tail-ok (cons t ts) o = o .1
-
-  kids-ok : (t : Tree) → OkT t → OkF (kids t)
-  kids-ok (node k f a ts) o = o .1
-
   ident-ok : (t : Tree) → OkT t → T (eqb (kind t) 20) → OkT (Walk.asIdent t)
   ident-ok (node k f a ts) o h = (to-ident f a (subst (λ (m : ℕ). N m f a) (eqb→eq k 20 h) (o .0)), o .1)
 
-  declareM-ok : (name : Tree) (v : Scope.Init) (c : Bool) (k : Scope.VarType) → OkI name → OkInit v → Pres Any (Walk.declareM name v c k)
-  unfolding Walk.declareM
-  declareM-ok name v c k g w = bind get-ok λ s o. (let u = Scope.isVar (s .varDeclKind) && not c && Walk.noValue v && s .inlining in grow-ok (Scope.declare (num name) v u k) (ok-declare (num name) v u k g w))
+  of-value : (v : Option Tree) → OkO v → VO keeps v
+  of-value none o = tt
+  of-value (some t) o = o
 
-  seenInit-ok : (t : Tree) → OkT t → OkInit (Scope.seenInit t)
-  seenInit-ok t o = pick-ok OkInit (isCheap t) (Scope.recorded t) (Scope.seen t) o o
+  of-binding : (b : Option Scope.VarInfo) → OkOB b → VB keeps b
+  of-binding none o = tt
+  of-binding (some b) o = of-value (b .value) (o .1)
 
-  some-ok : (c : Bool) (e : Tree) → OkT e → OkO (pick c (some e) none)
-  some-ok c e o = pick-ok OkO c (some e) none o tt
+  to-value : (v : Option Tree) → VO keeps v → OkO v
+  to-value none o = tt
+  to-value (some t) o = o
 
-  leave-ok : (t : Tree) → Pres Any (Walk.leave t)
-  leave-ok t = record { from = λ s o. (o, tt) }
+  to-init : (v : Scope.Init) → VI keeps v → OkInit v
+  to-init Scope.noInit o = tt
+  to-init (Scope.recorded t) o = o
+  to-init (Scope.seen t) o = o
 
-  replace-ok : (p : ℕ) (old new : Tree) → Pres Any (Walk.replace p old new)
-  replace-ok p old new = record {
-    from = λ s o.
-        let n = (s .nodes + count new) - count old in
-        elim-ok (Okay Any) (ltb 201 (p + height new)) (stop 8) (elim (ltb 1024 n) [ true ↦ stop 9 | false ↦ done (Walk.setNodes n s) tt ]) tt
-        (elim-ok (Okay Any) (ltb 1024 n) (stop 9) (done (Walk.setNodes n s) tt) tt (o, tt));
+  kept : Effects keeps
+  unfolding Walk.restore
+  kept = record {
+    s-refl = λ n s. tt;
+    s-trans = λ l m n a b c h k. tt;
+    s-frame = λ k m n a b h. tt;
+    q-refl = λ t. tt;
+    q-trans = λ t u v h k. tt;
+    eight = tt;
+    nine = tt;
+    kids = λ p k f a ts o. goods (suc p) ts (o .1);
+    around = λ p k f a ts us o h q e. ((o .0, okays (suc p) us h), tt);
+    body = λ p k f a ts e. absurd e;
+    init = λ p k f a n es e o. vals es (o .1 .1);
+    taken = λ p k f a n e es h o. ((o .0, (o .1 .0, o .1 .1 .1)), tt);
+    name = λ p t o h. id-of t o h;
+    bound = λ p t o h. ident-ok t o h;
+    cheap = λ p t o h. o;
+    void = (n-void, ((n-zero, tt), tt));
+    value = λ i s o. of-binding (Scope.findBinding i (s .stack)) (ok-find i (s .stack) o);
+    constant = λ i s o. of-value (Scope.findConstant i (s .stack)) (ok-const i (s .stack) o);
+    replaced = λ p t e o i v h. (v, tt);
+    recount = λ t e s o h. (o, tt);
+    leave = λ n e s o. (o, tt);
+    write = λ i g force k n s o. (ok-addWrite i g force k (s .stack) o, tt);
+    declare = λ i v u k g w n s o. (ok-declare i v u k g (to-init v w) (s .stack) o, tt);
+    const = λ i v g w n s o. (ok-addConst i v (to-value v w) (s .stack) o, tt);
+    prevent = λ i n s o. (ok-prevent i (s .stack) o, tt);
+    read = λ i g k n s o. (ok-addRead i g (s .stack) o, tt);
+    store = λ i v w n s o. (ok-change i (Scope.withValue v) (λ b. refl) (λ b m. (m .0, to-value v w)) (s .stack) o, tt);
+    sensitive = λ i n s o. (ok-sensitive i (s .stack) o, tt);
+    barrier = λ n s o. (ok-barrier (s .stack) o, tt);
+    opened = λ k s o. ((tt, tt, tt), o);
+    closed = λ k m n s s′ o o′ h. (ok-close (s′ .stack) o′, tt);
+    fields = λ n s s′ e d o. (subst OkSt (sym e) o, tt);
   }
-
-  -- by the binding of an identifier
-  byFind-ok : {A : Type 0} {Q : A → Type 0} (i : ℕ) (m : M A) (k : Scope.VarInfo → M A) → Pres Q m → ((b : Scope.VarInfo) → OkB b → Pres Q (k b))
-      → Pres Q (λ s. elim (Scope.findBinding i (s .stack)) [ none ↦ m s | some b ↦ k b s ])
-  byFind-ok {A} {Q} i m k h l = record { from = λ s o. go s o (Scope.findBinding i (s .stack)) (ok-find i (s .stack) o) }
-    where
-      go : (s : St) → OkS! s → (f : Option Scope.VarInfo) → OkOB f → Okay Q (elim f as (λ x. Res St A) [ none ↦ m s | some b ↦ k b s ])
-      go s o none g = h .from s o
-      go s o (some b) g = l b g .from s o
-
-  byHere-ok : {A : Type 0} {Q : A → Type 0} (i : ℕ) (m : M A) (k : Scope.VarInfo → M A) → Pres Q m → ((b : Scope.VarInfo) → OkB b → Pres Q (k b))
-      → Pres Q (λ s. elim (Scope.findBindingFromCurrent i (s .stack)) [ none ↦ m s | some b ↦ k b s ])
-  byHere-ok {A} {Q} i m k h l = record { from = λ s o. go s o (Scope.findBindingFromCurrent i (s .stack)) (ok-here i (s .stack) o) }
-    where
-      go : (s : St) → OkS! s → (f : Option Scope.VarInfo) → OkOB f → Okay Q (elim f as (λ x. Res St A) [ none ↦ m s | some b ↦ k b s ])
-      go s o none g = h .from s o
-      go s o (some b) g = l b g .from s o
-
-  -- of the state first
-  byState-ok : {A : Type 0} {Q : A → Type 0} (k : St → M A) → ((s : St) → OkS! s → Pres Q (k s)) → Pres Q (λ s. k s s)
-  byState-ok k h = record { from = λ s o. h s o .from s o }
-
-  declrAnalysis-ok : (name : Tree) → OkI name → (e : Option Tree) → OkO e → Pres Any (Walk.declrAnalysis name e)
-  unfolding Walk.declrAnalysis
-  declrAnalysis-ok name g none o = bind get-ok λ s h. after (when-ok (not (Scope.isConst (s .varDeclKind))) (declareM-ok name Scope.noInit true (s .varDeclKind) g tt)) (ret-ok false tt)
-  declrAnalysis-ok name g (some e) o = bind get-ok λ s h. iff-ok (Scope.isConst (s .varDeclKind))
-      (after (when-ok (s .isFirstRun) (grow-ok (Scope.addConst (num name) (pick (isCheap e) (some e) none)) (ok-addConst (num name) (pick (isCheap e) (some e) none) (some-ok (isCheap e) e o)))) (ret-ok false tt))
-      (iff-ok (isCheap e)
-      (after (declareM-ok name (Scope.seenInit e) false (s .varDeclKind) g (seenInit-ok e o)) (bind get-ok λ s₁ h₁. after (when-ok (Scope.isInlinePrevented e (s₁ .stack)) (mark-ok (Scope.preventInline (num name)) (ok-prevent (num name)))) (ret-ok false tt)))
-      (after (declareM-ok name (Scope.seenInit e) false (s .varDeclKind) g (seenInit-ok e o)) (iff-ok (hasThis e) (after (mark-ok (Scope.preventInline (num name)) (ok-prevent (num name))) (ret-ok true tt)) (ret-ok false tt))))
-
-  over-ok : (name : Tree) → OkI name → (ts : Forest) → OkF ts → Pres Any (Walk.overM name ts)
-  unfolding Walk.overM
-  over-ok name g ts o = declrAnalysis-ok name g (headT (tailF ts)) (head-ok (tailF ts) (tail-ok ts o))
-
-  takes-ok : (k : Scope.VarType) (name : Tree) → OkI name → (ts : Forest) → OkF ts → Pres Any (Walk.takes k name ts)
-  unfolding Walk.takes
-  takes-ok k name g nil o = after (declareM-ok name Scope.noInit false k g tt) (ret-ok false tt)
-  takes-ok k name g (cons e es) o = after (when-ok (isIdent e) (declareM-ok name (Scope.recorded e) false k g (o .0))) (bind get-ok λ s h.
-      iff-ok (Scope.isInlinePrevented e (s .stack)) (after (mark-ok (Scope.preventInline (num name)) (ok-prevent (num name))) (ret-ok false tt))
-      (iff-ok (isCheap e || (not (Scope.isInlinePrevented (Walk.asIdent name) (s .stack)) && Walk.readOnce? (Scope.findBinding (num name) (s .stack)))) (after (declareM-ok name (Scope.recorded e) false k g (o .0)) (after (leave-ok e) (ret-ok true tt))) (ret-ok false tt)))
-
-  -- a declarator's name, if it is a binding
-  abbrev OkOI : Option Tree → Type 0
-  OkOI none = Unit {0}
-  OkOI (some t) = OkI t
-
-  headBind-ok : (ts : Forest) → OkF ts → OkOI (Walk.headBind ts)
-  headBind-ok nil o = tt
-  headBind-ok (cons t ts) o = go (Walk.isBind t) refl
-    where
-      go : (b : Bool) → Walk.isBind t ≡ b → OkOI (pick b (some t) none)
-      go true e = id-bind t (o .0) (is-T _ e)
-      go false e = tt
-
-  keep-ok : (t : Tree) → OkT t → Pres OkT (ret t)
-  keep-ok t o = ret-ok t o
-
-  keeps-ok : (ts : Forest) → OkF ts → Pres OkF (ret ts)
-  keeps-ok ts o = ret-ok ts o
-
-  -- the handlers, over walks that keep it
-  record OkW (w : Walks) : Type 0 where
-    full : (p : ℕ) (t : Tree) → OkT t → Pres OkT (w .full p t)
-    bare : (p : ℕ) (t : Tree) → OkT t → Pres OkT (w .bare p t)
-    inner : (p : ℕ) (t : Tree) → OkT t → Pres OkT (w .inner p t)
-
-  module _ (w : Walks) (W : OkW w) where
-    stmts-ok : (p : ℕ) (ts : Forest) → OkF ts → Pres OkF (visitMutStmts w p ts)
-    unfolding visitMutStmts
-    stmts-ok p ts o = bind get-ok λ s g. iff-ok (s .inlining)
-        (after (mod-ok (Walk.setInlining false) (λ s o. o)) (bind (each-ok (w .full p) (W .full p) ts o) λ ts₁ o₁. after (mod-ok (Walk.setInlining true) (λ s o. o)) (each-ok (w .full p) (W .full p) ts₁ o₁)))
-        (each-ok (w .full p) (W .full p) ts o)
-
-    plain-ok : (p : ℕ) (t : Tree) → OkT t → Pres OkT (plain w p t)
-    plain-ok p t o = onKids-ok (each (w .full (suc p))) (each-ok (w .full (suc p)) (W .full (suc p))) t o
-
-    script-ok : (p : ℕ) (t : Tree) → OkT t → Pres OkT (Walk.scriptWalk w p t)
-    unfolding Walk.scriptWalk
-    script-ok p t o = onKids-ok (visitMutStmts w (suc p)) (stmts-ok (suc p)) t o
-
-    block-ok : (p : ℕ) (t : Tree) → OkT t → Pres OkT (Walk.visitMutBlockStmt w p t)
-    unfolding Walk.visitMutBlockStmt
-    block-ok p t o = inScope-ok Scope.block (onKids-ok (visitMutStmts w (suc p)) (stmts-ok (suc p)) t o)
-
-    branch-ok : (p : ℕ) (k : Scope.ScopeKind) (t : Tree) → OkT t → Pres OkT (Walk.visitWithChild w p k t)
-    unfolding Walk.visitWithChild
-    branch-ok p k t o = inScope-ok k (W .bare p t o)
-
-    decl-ok : (p : ℕ) (t : Tree) → OkT t → Pres OkT (Walk.visitMutVarDecl w p t)
-    unfolding Walk.visitMutVarDecl
-    decl-ok p t o = after (mod-ok (Walk.setVarDeclKind (Walk.declKindOf (form t))) (λ s o. o)) (plain-ok p t o)
-
-    declrInlining-ok : (p : ℕ) (k : Scope.VarType) (name : Tree) → OkI name → (ts : Forest) → OkF ts → Pres OkF (Walk.declrInlining w p k name ts)
-    unfolding Walk.declrInlining
-    declrInlining-ok p k name g ts o = byState-ok _ λ s h. iff-ok (Walk.stays name ts (s .stack)) (ret-ok ts o)
-        (bind (split-ok (w .full (suc p)) ret (W .full (suc p)) keeps-ok ts o) λ us ou. bind (takes-ok k name g us ou) λ gone u. iff-ok gone (ret-ok (tailF us) (tail-ok us ou)) (ret-ok us ou))
-
-    nameLast-ok : (p : ℕ) (ts : Forest) → OkF ts → Pres OkF (Walk.nameLast w p ts)
-    nameLast-ok p ts o = split-ok (w .full (suc p)) ret (W .full (suc p)) keeps-ok ts o
-
-    declrTo-ok : (p : ℕ) (name : Option Tree) → OkOI name → (inl : Bool) (k : Scope.VarType) (ts : Forest) → OkF ts → Pres OkF (Walk.declrTo w p name inl k ts)
-    unfolding Walk.declrTo
-    declrTo-ok p none g inl k ts o = nameLast-ok p ts o
-    declrTo-ok p (some name) g inl k ts o = iff-ok inl
-        (iff-ok (Scope.isConst k) (nameLast-ok p ts o) (split-ok ret (Walk.declrInlining w p k name) keep-ok (declrInlining-ok p k name g) ts o))
-        (bind (over-ok name g ts o) λ over u. iff-ok over (ret-ok ts o) (nameLast-ok p ts o))
-
-    restFirst-ok : (p : ℕ) (ts : Forest) → OkF ts → Pres OkF (split ret (each (w .full (suc p))) ts)
-    restFirst-ok p ts o = split-ok ret (each (w .full (suc p))) keep-ok (each-ok (w .full (suc p)) (W .full (suc p))) ts o
-
-    declr-ok : (p : ℕ) (t : Tree) → OkT t → Pres OkT (Walk.visitMutVarDeclarator w p t)
-    unfolding Walk.visitMutVarDeclarator
-    declr-ok p t o = onKids-ok _ (λ ts os. bind (restFirst-ok p ts os) λ us ou. after (mod-ok (Walk.setPatMode Walk.declaring) (λ s o. o))
-        (byState-ok (λ s. Walk.declrTo w p (Walk.headBind us) (s .inlining) (s .varDeclKind) us) λ s h. declrTo-ok p (Walk.headBind us) (headBind-ok us ou) (s .inlining) (s .varDeclKind) us ou)) t o
-
-    function-ok : (p : ℕ) (named : Bool) (ts : Forest) → OkF ts → Pres OkF (Walk.visitMutFunction w p named ts)
-    unfolding Walk.visitMutFunction
-    function-ok p named ts o = inScope-ok (Scope.fn named) (after (mod-ok (Walk.setPatMode Walk.asParam) (λ s o. o)) (eachBut-ok (w .full (suc p)) (w .inner (suc p)) (W .full (suc p)) (W .inner (suc p)) ts o))
-
-    declareName-ok : (n : Option Tree) → OkO n → Pres Any (Walk.declareName n)
-    unfolding Walk.declareName
-    declareName-ok none o = ret-ok tt tt
-    declareName-ok (some name) o = bind get-ok λ s h. when-by (Walk.isBind name && not (s .inlining)) λ b. declareM-ok name Scope.noInit true Scope.vVar (id-bind name o (and-left (Walk.isBind name) (not (s .inlining)) b)) tt
-      where
-        and-left : (x y : Bool) → T (x && y) → T x
-        and-left true y t = tt
-        and-left false y t = t
-
-    writeName-ok : (n : Option Tree) → OkO n → Pres Any (Walk.writeName n)
-    unfolding Walk.writeName
-    writeName-ok none o = ret-ok tt tt
-    writeName-ok (some name) o = when-by (Walk.isBind name) λ b. write-ok true name (id-bind name o b)
-
-    fun-ok : (p : ℕ) (t : Tree) → OkT t → Pres OkT (Walk.visitMutFnDecl w p t)
-    unfolding Walk.visitMutFnDecl
-    fun-ok p t o = after (declareName-ok (headT (kids t)) (head-ok (kids t) (kids-ok t o))) (onKids-ok (split ret (Walk.visitMutFunction w p true)) (split-ok ret (Walk.visitMutFunction w p true) keep-ok (function-ok p true)) t o)
-
-    funExpr-ok : (p : ℕ) (t : Tree) → OkT t → Pres OkT (Walk.visitMutFnExpr w p t)
-    unfolding Walk.visitMutFnExpr
-    funExpr-ok p t o = iff-ok (eqb (form t) 1)
-        (after (writeName-ok (headT (kids t)) (head-ok (kids t) (kids-ok t o))) (onKids-ok (split ret (Walk.visitMutFunction w p false)) (split-ok ret (Walk.visitMutFunction w p false) keep-ok (function-ok p false)) t o))
-        (onKids-ok (Walk.visitMutFunction w p false) (function-ok p false) t o)
-
-    arrow-ok : (p : ℕ) (t : Tree) → OkT t → Pres OkT (Walk.visitMutArrowExpr w p t)
-    unfolding Walk.visitMutArrowExpr
-    arrow-ok p t o = inScope-ok (Scope.fn false) (plain-ok p t o)
-
-    tested-ok : (p : ℕ) (t : Tree) → OkT t → Pres OkT (Walk.tested w p t)
-    unfolding Walk.tested
-    tested-ok p t o = bind get-ok λ s h. after (mod-ok (Walk.setInTest true) (λ s o. o)) (bind (W .full p t o) λ t′ o′. after (mod-ok (Walk.setInTest (s .inTest)) (λ s o. o)) (ret-ok t′ o′))
-
-    if-ok : (p : ℕ) (t : Tree) → OkT t → Pres OkT (Walk.visitMutIfStmt w p t)
-    unfolding Walk.visitMutIfStmt
-    if-ok p t o = onKids-ok _ (split-ok (Walk.tested w (suc p)) (each (Walk.visitWithChild w (suc p) Scope.cond)) (tested-ok (suc p)) (each-ok (Walk.visitWithChild w (suc p) Scope.cond) (branch-ok (suc p) Scope.cond))) t o
-
-    loop-ok : (p : ℕ) (ts : Forest) → OkF ts → Pres OkF (eachBut (w .full (suc p)) (Walk.visitWithChild w (suc p) Scope.loop) ts)
-    loop-ok p ts o = eachBut-ok (w .full (suc p)) (Walk.visitWithChild w (suc p) Scope.loop) (W .full (suc p)) (branch-ok (suc p) Scope.loop) ts o
-
-    while-ok : (p : ℕ) (t : Tree) → OkT t → Pres OkT (Walk.visitMutWhileStmt w p t)
-    unfolding Walk.visitMutWhileStmt
-    while-ok p t o = after (writeF-ok true (Walk.butLast (kids t)) (butLast-ok (kids t) (kids-ok t o))) (onKids-ok _ (loop-ok p) t o)
-
-    barrierM-ok : Pres Any Walk.storeInlineBarrierM
-    unfolding Walk.storeInlineBarrierM
-    barrierM-ok = byState-ok (λ s. iff (s .inlining) (ret tt) (mark Scope.storeInlineBarrier)) λ s h. iff-ok (s .inlining) (ret-ok tt tt) (mark-ok Scope.storeInlineBarrier ok-barrier)
-
-    for-ok : (p : ℕ) (t : Tree) → OkT t → Pres OkT (Walk.visitMutForStmt w p t)
-    unfolding Walk.visitMutForStmt
-    for-ok p t o = after (writeF-ok true (Walk.butLast (kids t)) (butLast-ok (kids t) (kids-ok t o))) (bind (onKids-ok _ (loop-ok p) t o) λ t′ o′. after (when-ok (eqb (form t) 0) barrierM-ok) (ret-ok t′ o′))
-
-    forIn-ok : (p : ℕ) (t : Tree) → OkT t → Pres OkT (Walk.visitMutForInStmt w p t)
-    unfolding Walk.visitMutForInStmt
-    forIn-ok p t o = after (mod-ok (Walk.setPatMode Walk.asParam) (λ s o. o)) (onKids-ok _ (split-ok _ _
-        (λ l ol. bind (W .full (suc p) l ol) λ l′ ol′. after (writeT-ok true l′ ol′) (ret-ok l′ ol′))
-        (λ ts os. after (writeF-ok true (Walk.butLast ts) (butLast-ok ts os)) (loop-ok p ts os))) t o)
-
-    try-ok : (p : ℕ) (t : Tree) → OkT t → Pres OkT (Walk.visitMutTryStmt w p t)
-    unfolding Walk.visitMutTryStmt
-    try-ok p t o = onKids-ok _ (split-ok _ _ (λ b ob. after (writeT-ok true b ob) (ret-ok b ob)) (each-ok _ (λ h oh. iff-ok (Walk.isCatch h) (W .full (suc p) h oh) (ret-ok h oh)))) t o
-
-    catchParam-ok : (p : ℕ) (b : Tree) → OkT b → Pres OkT (Walk.catchParam w p b)
-    unfolding Walk.catchParam
-    catchParam-ok p b o = bind (W .full p b o) λ b′ o′. bind get-ok λ s h. after (when-ok (Walk.isBind b && not (s .inlining)) (mark-ok (Scope.preventInline (num b)) (ok-prevent (num b)))) (ret-ok b′ o′)
-
-    catch-ok : (p : ℕ) (t : Tree) → OkT t → Pres OkT (Walk.visitMutCatchClause w p t)
-    unfolding Walk.visitMutCatchClause
-    catch-ok p t o = inScope-ok Scope.block (after (mod-ok (Walk.setPatMode Walk.asCatch) (λ s o. o)) (onKids-ok _ (eachBut-ok (Walk.catchParam w (suc p)) (w .full (suc p)) (catchParam-ok (suc p)) (W .full (suc p))) t o))
-
-    case-ok : (p : ℕ) (t : Tree) → OkT t → Pres OkT (Walk.visitMutSwitchCase w p t)
-    unfolding Walk.visitMutSwitchCase
-    case-ok p t o = inScope-ok Scope.block (iff-ok (eqb (form t) 1) (onKids-ok _ (split-ok (w .full (suc p)) (visitMutStmts w (suc p)) (W .full (suc p)) (stmts-ok (suc p))) t o) (onKids-ok _ (stmts-ok (suc p)) t o))
-
-    unary-ok : (p : ℕ) (t : Tree) → OkT t → Pres OkT (Walk.visitMutUnaryExpr w p t)
-    unfolding Walk.visitMutUnaryExpr
-    unary-ok p t o = iff-ok (eqb (form t) 6) (after (writeF-ok true (kids t) (kids-ok t o)) (ret-ok t o)) (plain-ok p t o)
-
-    update-ok : (p : ℕ) (t : Tree) → OkT t → Pres OkT (Walk.visitMutUpdateExpr w p t)
-    unfolding Walk.visitMutUpdateExpr
-    update-ok p t o = after (writeF-ok true (kids t) (kids-ok t o)) (ret-ok t o)
-
-    call-ok : (c : Bool) (p : ℕ) (t : Tree) → OkT t → Pres OkT (Walk.visitMutCallExpr c w p t)
-    unfolding Walk.visitMutCallExpr
-    call-ok c p t o = bind (onKids-ok _ (split-ok _ _
-        (λ f of. bind (W .full (suc p) f of) λ f′ of′. bind get-ok λ s h. after (when-ok (not (s .inlining)) (mark-ok (Scope.markThisSensitive (Scope.identOf (some f′))) (ok-sensitive (Scope.identOf (some f′))))) (ret-ok f′ of′))
-        (λ ts os. after (when-ok c (writeF-ok false ts os)) (each-ok (w .full (suc p)) (W .full (suc p)) ts os))) t o) λ t′ o′. after barrierM-ok (ret-ok t′ o′)
-
-    pat-ok : (p : ℕ) (t : Tree) → OkT t → Pres OkT (Walk.visitMutPat w p t)
-    unfolding Walk.visitMutPat Walk.patBy
-    pat-ok p t o = bind get-ok λ s h. after (when-by (Walk.isBind t) λ b. by (s .patMode) b) (ret-ok t o)
-      where
-        by : (m : Walk.PatMode) → T (Walk.isBind t) → Pres Any (Walk.patBy m t)
-        by Walk.asParam b = declareM-ok t (Scope.recorded (Walk.asIdent t)) false Scope.param (id-bind t o b) (ident-ok t o b)
-        by Walk.asCatch b = declareM-ok t (Scope.recorded (Walk.asIdent t)) false Scope.vVar (id-bind t o b) (ident-ok t o b)
-        by Walk.declaring b = ret-ok tt tt
-        by Walk.assigning b = byHere-ok (num t) (Walk.write false t) (λ c. ret tt) (write-ok false t (id-bind t o b)) (λ c k. ret-ok tt tt)
-
-    store-ok : (l : Tree) (r : Option Tree) → OkO r → Pres Any (Walk.storeO l r)
-    store-ok l none o = ret-ok tt tt
-    store-ok l (some r) o = byFind-ok (num l) (ret tt) (λ b. iff (Scope.varInlinePrevented b) (ret tt) (grow (Scope.change (num l) (Scope.withValue (pick (isCheap r) (some r) none))))) (ret-ok tt tt)
-        (λ b k. iff-ok (Scope.varInlinePrevented b) (ret-ok tt tt) (grow-ok (Scope.change (num l) (Scope.withValue (pick (isCheap r) (some r) none))) (ok-change (num l) (Scope.withValue (pick (isCheap r) (some r) none)) (λ c. refl) (λ c m. (m .0, some-ok (isCheap r) r o)))))
-
-    assignFirst-ok : (f : ℕ) (ts : Forest) → OkF ts → Pres Any (Walk.assignFirst f ts)
-    unfolding Walk.assignFirst
-    assignFirst-ok f nil o = ret-ok tt tt
-    assignFirst-ok f (cons l rs) o = iff-ok (eqb f 0)
-        (after (writeT-ok false l (o .0)) (after (writeF-ok false rs (o .1)) (when-ok (not (eqb (kind l) 20)) (after (writeT-ok true l (o .0)) (writeF-ok true rs (o .1))))))
-        (after (writeT-ok true l (o .0)) (writeF-ok true rs (o .1)))
-
-    assignLast-ok : (ts : Forest) → OkF ts → Pres Any (Walk.assignLast ts)
-    unfolding Walk.assignLast
-    assignLast-ok nil o = ret-ok tt tt
-    assignLast-ok (cons l rs) o = bind get-ok λ s h.
-        iff-ok (Scope.preventedO (headT rs) (s .stack)) (when-ok (eqb (kind l) 20) (mark-ok (Scope.preventInline (num l)) (ok-prevent (num l))))
-        (when-by (eqb (kind l) 20) λ b. after (write-ok false l (id-bind l (o .0) b)) (store-ok l (headT rs) (head-ok rs (o .1))))
-
-    assignKids-ok : (p f : ℕ) (ts : Forest) → OkF ts → Pres OkF (Walk.assignKids w p f ts)
-    unfolding Walk.assignKids
-    assignKids-ok p f ts o = after (assignFirst-ok f ts o) (bind (restFirst-ok p ts o) λ us ou. after (assignLast-ok us ou) (ret-ok us ou))
-
-    assign-ok : (p : ℕ) (t : Tree) → OkT t → Pres OkT (Walk.visitMutAssignExpr w p t)
-    unfolding Walk.visitMutAssignExpr
-    assign-ok p t o = after (mod-ok (Walk.setPatMode Walk.assigning) (λ s o. o)) (onKids-ok (Walk.assignKids w p (form t)) (assignKids-ok p (form t)) t o)
-
-    handle-ok : (h : Walk.Handler) (p : ℕ) (t : Tree) → OkT t → Pres OkT (Walk.handle h w p t)
-    unfolding Walk.handle
-    handle-ok Walk.hPlain p t o = plain-ok p t o
-    handle-ok Walk.hScript p t o = script-ok p t o
-    handle-ok Walk.hBlock p t o = block-ok p t o
-    handle-ok Walk.hDecl p t o = decl-ok p t o
-    handle-ok Walk.hDeclr p t o = declr-ok p t o
-    handle-ok Walk.hFun p t o = fun-ok p t o
-    handle-ok Walk.hIf p t o = if-ok p t o
-    handle-ok Walk.hWhile p t o = while-ok p t o
-    handle-ok Walk.hFor p t o = for-ok p t o
-    handle-ok Walk.hForIn p t o = forIn-ok p t o
-    handle-ok Walk.hTry p t o = try-ok p t o
-    handle-ok Walk.hCatch p t o = catch-ok p t o
-    handle-ok Walk.hCase p t o = case-ok p t o
-    handle-ok Walk.hPat p t o = pat-ok p t o
-    handle-ok Walk.hUnary p t o = unary-ok p t o
-    handle-ok Walk.hUpdate p t o = update-ok p t o
-    handle-ok Walk.hAssign p t o = assign-ok p t o
-    handle-ok Walk.hCall p t o = call-ok true p t o
-    handle-ok Walk.hNew p t o = call-ok false p t o
-    handle-ok Walk.hFunExpr p t o = funExpr-ok p t o
-    handle-ok Walk.hArrow p t o = arrow-ok p t o
-
-    own-ok : (p : ℕ) (t : Tree) → OkT t → Pres OkT (Walk.own w p t)
-    unfolding Walk.own
-    own-ok p t o = handle-ok (getD Walk.handlers (kind t) Walk.hPlain) p t o
-
-    logical-ok : (p : ℕ) (t : Tree) → OkT t → Pres OkT (Walk.logical w p t)
-    unfolding Walk.logical
-    logical-ok p t o = iff-ok (eqb (kind t) 32 && ltb (form t) 2) (onKids-ok _ (split-ok ret _ keep-ok (each-ok _ (λ r or. inCond-ok (W .bare (suc p) r or)))) t o) (ret-ok t o)
-
-    afterSides-ok : (p : ℕ) (t : Tree) (l r : Option Tree) → OkT t → OkO l → OkO r → Pres OkT (Walk.afterSides p t l r)
-    unfolding Walk.afterSides
-    afterSides-ok p t none r o ol or = ret-ok t o
-    afterSides-ok p t (some l) none o ol or = ret-ok t o
-    afterSides-ok p t (some l) (some r) o ol or = iff-ok (Walk.isBind l) (byState-ok _ λ s h. byHere-ok (num l) (ret t) _ (ret-ok t o) (λ b k. iff-ok (b .isUndefined && not (Scope.varInlinePrevented b) && not (Scope.isInlinePrevented r (s .stack)))
-        (after (grow-ok (Scope.change (num l) (λ c. Scope.defined (Scope.withValue (some r) c))) (ok-change (num l) (λ c. Scope.defined (Scope.withValue (some r) c)) (λ c. refl) (λ c m. (m .0, or)))) (after (replace-ok p t r) (ret-ok r or)))
-        (ret-ok t o))) (ret-ok t o)
-
-    identAnalysis-ok : (t : Tree) → OkT t → Pres OkT (Walk.identAnalysis t)
-    unfolding Walk.identAnalysis
-    identAnalysis-ok t o = bind get-ok λ s h. after (when-ok (s .inTest) (byFind-ok (num t) (ret tt) (λ b. when (not (Walk.cheapO (b .value))) (mark (Scope.preventInline (num t)))) (ret-ok tt tt) (λ b k. when-ok (not (Walk.cheapO (b .value))) (mark-ok (Scope.preventInline (num t)) (ok-prevent (num t))))))
-        (after (mark-ok (Scope.addRead (num t) (eqb (form t) 1)) (ok-addRead (num t) (eqb (form t) 1))) (ret-ok t o))
-
-    inlineValue-ok : (p : ℕ) (t : Tree) (b : Scope.VarInfo) (v : Option Tree) → OkT t → OkO v → Pres OkT (Walk.inlineValue w p t b v)
-    unfolding Walk.inlineValue
-    inlineValue-ok p t b none o ov = iff-ok (b .isUndefined) (after (replace-ok p t voidZero) (ret-ok voidZero (n-void, ((n-zero, tt), tt)))) (ret-ok t o)
-    inlineValue-ok p t b (some e) o ov = after (when-ok (not (Walk.sameIdent t e)) (mod-ok (Walk.setChanged true) (λ s o. o))) (after (replace-ok p t e) (logical-ok p e ov))
-
-    identInlining-ok : (p : ℕ) (t : Tree) → OkT t → Pres OkT (Walk.identInlining w p t)
-    unfolding Walk.identInlining
-    identInlining-ok p t o = byFind-ok (num t) (ret t) (λ b. iff (Scope.varInlinePrevented b) (ret t) (Walk.inlineValue w p t b (b .value))) (ret-ok t o) (λ b k. iff-ok (Scope.varInlinePrevented b) (ret-ok t o) (inlineValue-ok p t b (b .value) o (k .1)))
-
-    byConst-ok : (p : ℕ) (t : Tree) (v : Option Tree) → OkT t → OkO v → Pres OkT (Walk.byConst w p t v)
-    unfolding Walk.byConst
-    byConst-ok p t none o ov = byState-ok (λ s. iff (s .inlining) (Walk.identInlining w p t) (Walk.identAnalysis t)) λ s h. iff-ok (s .inlining) (identInlining-ok p t o) (identAnalysis-ok t o)
-    byConst-ok p t (some e) o ov = after (mod-ok (Walk.setChanged true) (λ s o. o)) (after (replace-ok p t e) (W .full p e ov))
-
-    afterIdent-ok : (p : ℕ) (t : Tree) → OkT t → Pres OkT (Walk.afterIdent w p t)
-    unfolding Walk.afterIdent
-    afterIdent-ok p t o = byState-ok (λ s. Walk.byConst w p t (pick (s .isFirstRun) (Scope.findConstant (num t) (s .stack)) none)) λ s h.
-        byConst-ok p t (pick (s .isFirstRun) (Scope.findConstant (num t) (s .stack)) none) o (pick-ok OkO (s .isFirstRun) (Scope.findConstant (num t) (s .stack)) none (ok-const (num t) (s .stack) h) tt)
-
-    after-ok : (p : ℕ) (t : Tree) → OkT t → Pres OkT (Walk.after w p t)
-    unfolding Walk.after Walk.afterAssign
-    after-ok p t o = elim-ok (Pres OkT) (isIdent t) (Walk.afterIdent w p t) _ (afterIdent-ok p t o) (elim-ok (Pres OkT) (eqb (kind t) 33 && eqb (form t) 0) _ (Walk.logical w p t)
-        (byState-ok (λ s. iff (s .inlining) (Walk.afterAssign p t) (ret t)) λ s h. iff-ok (s .inlining) (afterSides-ok p t (headT (kids t)) (headT (tailF (kids t))) o (head-ok (kids t) (kids-ok t o)) (head-ok (tailF (kids t)) (tail-ok (kids t) (kids-ok t o)))) (ret-ok t o))
-        (logical-ok p t o))
-
-    fullStep-ok : (p : ℕ) (t : Tree) → OkT t → Pres OkT (Walk.visitMutExpr w p t)
-    unfolding Walk.visitMutExpr
-    fullStep-ok p t o = bind (own-ok p t o) λ t′ o′. after-ok p t′ o′
-
-  refuse-ok : {A : Type 0} {Q : A → Type 0} (n : ℕ) → Pres Q (refuse n)
-  refuse-ok n = record { from = λ s o. tt }
-
-  walks-ok : (d : ℕ) → OkW (Walk.walks d)
-  unfolding Walk.walks
-  walks-ok zero = record { full = λ p t o. refuse-ok 8; bare = λ p t o. refuse-ok 8; inner = λ p t o. refuse-ok 8 }
-  walks-ok (suc d) = record { full = fullStep-ok (Walk.walks d) (walks-ok d); bare = own-ok (Walk.walks d) (walks-ok d); inner = script-ok (Walk.walks d) (walks-ok d) }
-
-  run-ok : (t : Tree) → OkT t → Pres OkT (Walk.run t)
-  unfolding Walk.run
-  run-ok t o = after (mod-ok (Walk.setInlining false) (λ s o. o)) (bind (own-ok (Walk.walks 199) (walks-ok 199) 1 t o) λ t₁ o₁.
-      after (mod-ok (Walk.setInlining true) (λ s o. o)) (bind (own-ok (Walk.walks 199) (walks-ok 199) 1 t₁ o₁) λ t₂ o₂.
-      after (mod-ok (Walk.setInlining false) (λ s o. o)) (ret-ok t₂ o₂)))
 
   -- of an outcome: the tree and the root's identifiers
   abbrev pub OkOut : Walk.Outcome → Type 0
@@ -804,16 +348,10 @@ module _ (N : ℕ → ℕ → ℕ → Type 0) (to-ident : (f a : ℕ) → N 20 f
       go (b ∷ bs) = rw (go bs) refl
   roots-single (s ∷ p ∷ st) h = roots-single (p ∷ st) (h .1)
 
-  runs-ok : (n k : ℕ) (t : Tree) (s : St) → OkT t → OkS! s → OkOut (Walk.runs n k t s)
-  unfolding Walk.runs
-  runs-ok zero k t s o h = (o, roots-ok (s .stack) h, roots-single (s .stack) h)
-  runs-ok (suc n) k t s o h = go (Walk.run t (Walk.setChanged false s)) (run-ok t o .from (Walk.setChanged false s) h) (λ t s o h. runs-ok n (suc k) t s o h)
-    where
-      go : (r : Res St Tree) → Okay OkT r → ((t : Tree) (s : St) → OkT t → OkS! s → OkOut (Walk.runs n (suc k) t s)) → OkOut (Walk.again (Walk.runs n (suc k)) (suc k) r)
-      go (stop m) o ih = tt
-      go (done s t) o ih = elim-ok OkOut (s .changed) (Walk.runs n (suc k) t (Walk.setIsFirstRun false s)) (Walk.result (suc k) false t (Walk.rootMarks (s .stack))) (ih t (Walk.setIsFirstRun false s) (o .1) (o .0)) (o .1, roots-ok (s .stack) (o .0), roots-single (s .stack) (o .0))
+  out-ok : (t : Tree) (s : St) (o : Walk.Outcome) → Passed keeps t s o → OkOut o
+  out-ok t s (Walk.refused n) e = tt
+  out-ok t s (Walk.result k c u ms) e = (e .good, subst (All (λ (m : ℕ × Bool). OkId (m .0))) (sym (e .roots)) (roots-ok (e .last .stack) (e .inv)), subst (λ (xs : List (ℕ × Bool)). Single (map (λ (m : ℕ × Bool). m .0) xs)) (sym (e .roots)) (roots-single (e .last .stack) (e .inv)))
 
   -- the pass keeps N
   pub pass-ok : (n : ℕ) (t : Tree) → OkT t → OkOut (Walk.corePass n t)
-  unfolding Walk.corePass
-  pass-ok n t o = runs-ok n 0 t (Walk.start t) o ((tt, tt, tt), tt)
+  pass-ok n t o = out-ok t (Walk.start t) (Walk.corePass n t) (pass-does keeps kept n t o ((tt, tt, tt), tt))

@@ -21,7 +21,7 @@ use Rattle.laws_pass.proofs.Single.{mem, Single, or-no, no-sym}
 use Rattle.laws_pass.proofs.Origin.{Named, NamedOut, to-ident, void-named, zero-named, out-named}
 
 -- a list of identifiers without a second one
-abbrev Lone : List Raw → Type 0
+abbrev pub Lone : List Raw → Type 0
 Lone [] = Unit {0}
 Lone (y ∷ ys) = (known y ys ≡ false) × Lone ys
 
@@ -58,7 +58,7 @@ lone-enter ys x h = go (hasId x) (known x ys) refl
     go true false e = lone-append ys x h e
     go false q e = h
 
-lone-all : (ys xs : List Raw) → Lone ys → Lone (enterAll ys xs)
+pub lone-all : (ys xs : List Raw) → Lone ys → Lone (enterAll ys xs)
 unfolding enterAll
 lone-all ys [] h = h
 lone-all ys (x ∷ xs) h = lone-all (enter ys x) xs (lone-enter ys x h)

@@ -3,6 +3,7 @@ use mathlib.Core.Path.{_≡_, refl, sym, ap, _∙_, subst}
 use mathlib.Core.Bool.{Bool, true, false, _&&_, _||_}
 use Prim.Native.Nat.{ℕ}
 use lib.Dec.{T, eqb, leb, eqb→eq}
+use Rattle.def_tree.specs.Base.{pick}
 use Rattle.def_file.specs.declared.Raw.{Raw}
 use Rattle.def_file.specs.Script.{isLit, hasId}
 
@@ -16,6 +17,10 @@ is-T b e = subst T (sym e) tt
 pub and-left : (p q : Bool) → T (p && q) → T p
 and-left true q t = tt
 and-left false q t = t
+
+pub and-right : (p q : Bool) → T (p && q) → T q
+and-right true q t = t
+and-right false q t = absurd t
 
 pub both : (p q : Bool) → T p → T q → T (p && q)
 both true q h k = k
@@ -40,3 +45,16 @@ lit-no-id x t = go (eqb (x .kind) 20) refl (eqb (x .kind) 21) refl
     go true e q f = absurd (not-lit 20 (eqb→eq (x .kind) 20 (is-T _ e)) refl)
     go false e true f = absurd (not-lit 21 (eqb→eq (x .kind) 21 (is-T _ f)) refl)
     go false e false f = refl
+
+-- a test's two branches
+pub pick-ok : {A : Type 0} (P : A → Type 0) (c : Bool) (x y : A) → P x → P y → P (pick c x y)
+pick-ok P true x y h k = h
+pick-ok P false x y h k = k
+
+pub pick-known : {A : Type 0} (P : A → Type 0) (c : Bool) (x y : A) → (c ≡ true → P x) → (c ≡ false → P y) → P (pick c x y)
+pick-known P true x y h k = h refl
+pick-known P false x y h k = k refl
+
+pub elim-ok : {A : Type 0} (P : A → Type 0) (c : Bool) (x y : A) → P x → P y → P (elim c [ true ↦ x | false ↦ y ])
+elim-ok P true x y h k = h
+elim-ok P false x y h k = k

@@ -1,3 +1,4 @@
 pub mod Demands
 pub mod Rows
 pub mod Long
+pub mod Again

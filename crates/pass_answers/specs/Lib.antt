@@ -3,3 +3,4 @@ pub mod Entry
 pub mod Long
 pub mod Roots
 pub mod Rows
+pub mod Again
