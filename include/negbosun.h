@@ -1,6 +1,6 @@
 /* Negbosun: the proved variable inliner for gate scripts, as C functions of libnegbosun.a (x86-64, System V calling convention).
 
-   A script goes in and comes out as a tree file; docs/TREE.md, installed beside this header's package, has the format.
+   A script goes in and comes out as a tree file, whose format docs/TREE.md has (installed: /usr/share/doc/negbosun/TREE.md).
 
    What holds of every function here is proved, for all arguments that C allows:
 
@@ -101,7 +101,7 @@ struct negbosun_listed {
    Refusals 1 to 10. Success writes `length` bytes; the bytes behind them are kept. A refusal keeps the whole result buffer. Refusal 1 keeps the words;
    after anything else, success included, the first NEGBOSUN_WORDS are 0. Words behind these are never changed.
 
-   A result is itself a readable file with the texts of the given one. */
+   A result has the texts of the given file. That it is itself a readable file is held by tests. */
 struct negbosun_inlined negbosun_inline(const uint8_t *file, size_t file_length, uint8_t *result, size_t result_length, uint32_t *words,
                                         size_t word_count, uint32_t runs);
 

@@ -5,14 +5,10 @@
 set -u
 cd "$(dirname "$0")/.." || exit 1
 . tests/counts.bash
+. tests/library.bash
 
-library=target/staticlib/libpass.a
-if [ ! -e "$library" ] || [ target/rlib/pass.rlib -nt "$library" ]; then
-    one "static library" rt staticlib pass || finish
-fi
-if [ ! -x target/bin/negbosun ]; then
-    one "program" rt check negbosun || finish
-fi
+need_library || finish
+need_program || finish
 one "driver" gcc -O1 -Wall -Wextra -Werror -o "$out/driver" tests/port.c "$library" -pthread || finish
 count "port" python3 -B tests/port.py "$out/driver" target/bin/negbosun
 
