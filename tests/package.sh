@@ -76,16 +76,16 @@ same_output() {
     from_there "$@" <crates/negbosun/stdin >"$out/printed" && cmp "$out/printed" "$expected"
 }
 
+# The folders of the system are told too: here they are below the folder of the installation.
 pkg_config() {
-    PKG_CONFIG_SYSROOT_DIR=$root PKG_CONFIG_LIBDIR=$root/usr/lib/$multiarch/pkgconfig pkg-config "$@" negbosun
+    PKG_CONFIG_SYSROOT_DIR=$root PKG_CONFIG_LIBDIR=$root/usr/lib/$multiarch/pkgconfig PKG_CONFIG_ALLOW_SYSTEM_CFLAGS=1 PKG_CONFIG_ALLOW_SYSTEM_LIBS=1 \
+        pkg-config "$@" negbosun
 }
 
 compile_there() {
     local flags
     read -ra flags <<<"$(pkg_config --cflags --libs)"
-    # pkg-config leaves out the folder that a compiler looks through by itself.
-    cp "$root/usr/share/doc/negbosun/examples/header.c" "$out/header.c" &&
-        gcc -std=c99 -Wall -Wextra -Werror -pedantic -isystem "$root/usr/include" -o "$out/header" "$out/header.c" "${flags[@]}"
+    gcc -std=c99 -Wall -Wextra -Werror -pedantic -o "$out/header" "$root/usr/share/doc/negbosun/examples/header.c" "${flags[@]}"
 }
 
 rust_there() {

@@ -1,5 +1,5 @@
-//! Port and original on the same trees, in one process: `bench [REPEATS]`; or `bench only port|original NODES TIMES`, for counting
-//! instructions from outside.
+//! Port and original on the same trees, in one process: `bench [REPEATS]`; `bench doubling MOST`, functions in one another; or
+//! `bench only port|original NODES TIMES`, for counting instructions from outside.
 //!
 //! The port's time is that of its whole C function: the file read and checked, the runs, the result written, the words cleared. The
 //! original's is that of the runs alone, on a tree that was built before; `whole` adds what the port does besides: the file read,
@@ -166,6 +166,16 @@ fn all(repeats: usize) {
     }
 }
 
+/// The family whose time doubles with each function inside another.
+fn doubling(most: usize) {
+    println!("microseconds, the least of at most 5 turns");
+    for count in (4..=most).step_by(2) {
+        let script = scripts::functions(count);
+        let name = format!("{count} functions in one another");
+        show(&name, script.tree.count(), least(&[script], 5, 1));
+    }
+}
+
 /// One side alone, the tree of the original built outside `Built::run`.
 fn only(side: &str, nodes: usize, times: usize) {
     let script = scripts::gates(nodes);
@@ -181,14 +191,15 @@ fn only(side: &str, nodes: usize, times: usize) {
 fn main() {
     let given: Vec<String> = std::env::args().skip(1).collect();
     let number = |at: usize| given.get(at).and_then(|n| n.parse().ok());
-    on_deep_stack(
-        || match (given.first().map(|word| &word[..]), number(2), number(3)) {
+    on_deep_stack(|| {
+        match (given.first().map(|word| &word[..]), number(2), number(3)) {
             (Some("only"), Some(nodes), Some(times)) => only(&given[1], nodes, times),
+            (Some("doubling"), ..) => doubling(number(1).unwrap_or(22)),
             (None, ..) => all(30),
             _ => match number(0) {
                 Some(repeats) => all(repeats),
-                None => eprintln!("usage: bench [REPEATS] | bench only port|original NODES TIMES"),
+                None => eprintln!("usage: bench [REPEATS] | bench doubling MOST | bench only port|original NODES TIMES"),
             },
-        },
-    );
+        }
+    });
 }

@@ -135,6 +135,15 @@ fn moves() -> Script {
     named(&texts, node(1, 0, list))
 }
 
+/// Functions in one another, `var v = function () { … };`, the innermost with an empty block: each one more doubles the time.
+pub fn functions(count: usize) -> Script {
+    let inner = (0..count).fold(vec![], |list, _| {
+        let function = node(39, 0, vec![block(list)]);
+        vec![declare(0, binding(0), Some(function))]
+    });
+    named(&["v"], node(1, 0, inner))
+}
+
 /// The slow ones by name.
 pub fn slow() -> Vec<(&'static str, Script)> {
     vec![
