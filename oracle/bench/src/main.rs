@@ -59,7 +59,7 @@ fn turn(port: &mut Port, files: &[Vec<u8>], all: &[Script], calls: usize) -> Tim
     let port = nanoseconds(number, || {
         for _ in 0..calls {
             files.iter().for_each(|file| {
-                port.run(file);
+                let _ = port.run(file);
             });
         }
     });
