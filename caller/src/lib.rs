@@ -45,6 +45,8 @@
 
 mod answer;
 mod entries;
+mod found;
+mod header;
 mod kind;
 mod refusal;
 mod tree;

@@ -1,16 +1,10 @@
 //! A tree file as nodes and texts.
 
+use crate::header::{word, Header, END, NODE};
 use crate::{Kind, Refusal};
 use std::fmt;
 use std::iter::FusedIterator;
 use std::slice::ChunksExact;
-
-const HEADER: usize = 32;
-const NODE: usize = 16;
-const END: usize = 4;
-const MOST_NODES: usize = 1024;
-const MOST_TEXTS: usize = 256;
-const MOST_TEXT_BYTES: usize = 4096;
 
 /// A tree file's nodes and texts, over its bytes.
 ///
@@ -31,18 +25,6 @@ pub struct TreeFile<'a> {
     bytes: &'a [u8],
 }
 
-/// The field of a number in the header.
-fn field(file: &[u8], number: usize) -> usize {
-    word(file, number).map_or(usize::MAX, |value| value as usize)
-}
-
-/// The `u32` of a number among bytes.
-fn word(bytes: &[u8], number: usize) -> Option<u32> {
-    let at = number.checked_mul(4)?;
-    let four = bytes.get(at..at.checked_add(4)?)?;
-    Some(u32::from_le_bytes(four.try_into().ok()?))
-}
-
 impl<'a> TreeFile<'a> {
     /// A file whose header, counts and lengths agree with its bytes; the nodes and texts themselves are not looked at.
     ///
@@ -50,25 +32,12 @@ impl<'a> TreeFile<'a> {
     ///
     /// [`Refusal::Header`], [`Refusal::Counts`] and [`Refusal::Lengths`], exactly where the pass would refuse the file with them.
     pub fn new(file: &'a [u8]) -> Result<TreeFile<'a>, Refusal> {
-        if file.len() < HEADER || field(file, 0) != 1 {
-            return Err(Refusal::Header);
-        }
-        let (nodes, texts, bytes) = (field(file, 2), field(file, 4), field(file, 7));
-        if !(1..=MOST_NODES).contains(&nodes) || texts > MOST_TEXTS || bytes > MOST_TEXT_BYTES {
-            return Err(Refusal::Counts);
-        }
-        let ends_at = HEADER + NODE * nodes;
-        let bytes_at = ends_at + END * texts;
-        let total = bytes_at + bytes;
-        let fields = [1, 3, 5, 6].map(|number| field(file, number));
-        if fields != [total, HEADER, ends_at, bytes_at] || file.len() != total {
-            return Err(Refusal::Lengths);
-        }
+        let header = Header::checked(file)?;
         let part = |from, to| file.get(from..to).ok_or(Refusal::Lengths);
         Ok(TreeFile {
-            nodes: part(HEADER, ends_at)?,
-            ends: part(ends_at, bytes_at)?,
-            bytes: part(bytes_at, total)?,
+            nodes: part(header.nodes_at, header.ends_at)?,
+            ends: part(header.ends_at, header.bytes_at)?,
+            bytes: part(header.bytes_at, header.total)?,
         })
     }
 

@@ -65,6 +65,7 @@ fn a_refusal_is_printed_and_said() {
     assert_eq!(output.status.code(), Some(1));
     assert_eq!(text(&output.stdout), "refused 2\n");
     assert!(text(&output.stderr).contains("refusal 2: the file has fewer than 32 bytes"));
+    assert!(text(&output.stderr).contains("; it has 12 bytes. Is it a script's text?"));
     let output = run(&["--runs", "17"], &empty());
     assert_eq!(
         (output.status.code(), text(&output.stdout)),
@@ -159,6 +160,8 @@ fn a_long_input_is_read_to_its_end_and_refused() {
         (output.status.code(), text(&output.stdout)),
         (Some(1), "refused 4\n")
     );
+    assert!(text(&output.stderr)
+        .ends_with("; it has over 21,536 bytes, the most that a file can have\n"));
 }
 
 #[test]

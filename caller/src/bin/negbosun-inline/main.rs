@@ -3,7 +3,7 @@
 mod options;
 mod timed;
 
-use negbosun::{printed, MOST_BYTES};
+use negbosun::{printed, Refusal, MOST_BYTES};
 use options::{Options, Wish, USAGE};
 use std::ffi::OsStr;
 use std::fs::File;
@@ -22,6 +22,23 @@ struct Trouble(u8, String);
 impl Trouble {
     fn io(what: &str, error: &io::Error) -> Trouble {
         Trouble(NOT_READ, format!("{what}: {error}"))
+    }
+
+    /// The condition, and what the file has there. How long a file is that was not read to its end, nobody knows.
+    fn refused(name: &str, refusal: Refusal, file: &[u8]) -> Trouble {
+        let found = if refusal == Refusal::Lengths && file.len() > MOST_BYTES {
+            Some("over 21,536 bytes, the most that a file can have".into())
+        } else {
+            refusal.found(file)
+        };
+        let found = found.map_or(String::new(), |found| format!("; it has {found}"));
+        let advice = match refusal {
+            Refusal::Header => {
+                ". Is it a script's text? script/inline (installed: negbosun-script) takes that"
+            }
+            _ => "",
+        };
+        Trouble(REFUSED, format!("{name}: {refusal}{found}{advice}"))
     }
 
     fn too_long(name: &str, options: &Options) -> Trouble {
@@ -74,12 +91,12 @@ fn single(options: &Options) -> Result<u8, Trouble> {
     let path = options.path.as_deref().filter(|path| *path != "-");
     let name = path.map_or("standard input".into(), OsStr::to_string_lossy);
     let file = read(path).map_err(|error| Trouble::io(&name, &error))?;
-    let answer = timed(options)?.answer(file, options.runs);
+    let answer = timed(options)?.answer(file.clone(), options.runs);
     let answer = answer.ok_or_else(|| Trouble::too_long(&name, options))?;
     print(&printed(&answer))?;
     match answer {
         Ok(_) => Ok(0),
-        Err(refusal) => Err(Trouble(REFUSED, format!("{name}: {refusal}"))),
+        Err(refusal) => Err(Trouble::refused(&name, refusal, &file)),
     }
 }
 

@@ -102,7 +102,7 @@ fn take<I: Iterator<Item = OsString>>(
         "--runs" => options.runs = words.number(name)?,
         "--time-limit" => options.limit_to(words.number(name)?),
         "--batch" => options.batch = true,
-        _ => return Err(format!("{name}: unknown")),
+        _ => return Err(format!("{name}: unknown option")),
     }
     match words.joined.take() {
         Some(_) => Err(format!("{name} takes no value")),
