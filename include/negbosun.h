@@ -18,11 +18,11 @@
    - A pointer points to as many elements as the length behind it says. It is not NULL, even where the length is 0, and a uint32_t pointer is aligned.
    - The buffers that are written overlap neither each other nor `file`, and nobody else uses them during the call.
 
-   Time. An ordinary script of 1,000 nodes takes under a millisecond. Yet time can double with each node that nests: a list of statements is walked again
-   inside each list around it, and a right side of && or || is walked twice. With n functions in one another, `var v = function () { ... };`, it doubles
-   with each: 18 take a fifth of a second, 22 some seconds, and 31, the most that the limits let through, half an hour, in a file of 156 nodes.
-   A call cannot be interrupted: whoever takes scripts from strangers makes it in a process of its own and ends that after a time. docs/PERFORMANCE.md
-   has figures. */
+   Time. An ordinary script of 1,000 nodes takes under a millisecond. Yet a small file can take very long: a list of statements is walked again inside
+   each list around it, and a right side of && or || is walked twice. With functions in one another, `var v = function () { ... };`, each further one
+   doubles the time: 18 take 0.14 seconds, 22 take 2.6, and 31, the most that the limits let through, over twenty minutes, in a file of 156 nodes. If
+   each is a right side as well, each quadruples it. A call cannot be interrupted: whoever takes scripts from strangers makes it in a process of its own
+   and ends that after a time. docs/PERFORMANCE.md has figures. */
 #ifndef NEGBOSUN_H
 #define NEGBOSUN_H
 

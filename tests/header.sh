@@ -44,7 +44,7 @@ for standard in c++11 c++17 c++20; do
 done
 one "alone in C" alone gcc -std=c99 -x c
 one "alone in C++" alone g++ -std=c++11 -x c++
-for name in MOST_RUNS WORDS MOST_BYTES MOST_ROOTS; do
+for name in MOST_RUNS WORDS MOST_BYTES MOST_ROOTS ROOT_WORDS; do
     one "$name" same_number "NEGBOSUN_$name" "$(rust "$name")"
 done
 one "version" grep -q "^#define NEGBOSUN_VERSION \"$(version)\"\$" include/negbosun.h

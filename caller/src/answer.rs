@@ -1,7 +1,7 @@
 //! A result, its nodes and its root bindings, and how the program prints them.
 
 use crate::tree::{Nodes, TreeFile};
-use crate::Refusal;
+use crate::{Refusal, ROOT_WORDS};
 use std::fmt;
 use std::iter::FusedIterator;
 use std::slice::Iter;
@@ -14,7 +14,7 @@ pub struct Inlined {
     pub(crate) runs: u32,
     pub(crate) changed: bool,
     /// Text number, context's low and high half, and mark of each.
-    pub(crate) roots: Vec<[u32; 4]>,
+    pub(crate) roots: Vec<[u32; ROOT_WORDS]>,
 }
 
 impl Inlined {
@@ -73,7 +73,7 @@ pub struct Root<'a> {
 }
 
 impl<'a> Root<'a> {
-    fn new(file: TreeFile<'a>, [text, low, high, mark]: [u32; 4]) -> Root<'a> {
+    fn new(file: TreeFile<'a>, [text, low, high, mark]: [u32; ROOT_WORDS]) -> Root<'a> {
         Root {
             file,
             text,
@@ -120,7 +120,7 @@ impl fmt::Display for Root<'_> {
 #[must_use = "an iterator does nothing by itself"]
 pub struct Roots<'a> {
     file: TreeFile<'a>,
-    rest: Iter<'a, [u32; 4]>,
+    rest: Iter<'a, [u32; ROOT_WORDS]>,
 }
 
 impl<'a> Iterator for Roots<'a> {

@@ -31,8 +31,9 @@
 //!
 //! Every call ends, and an ordinary gate script of 1,000 nodes takes under a millisecond. Yet a small file can take very long, in the
 //! port as in the original: a list of statements is walked again inside each list around it, and a right side of `&&` or `||` is walked
-//! twice. With functions in one another, `var v = function () { … };`, each further one doubles the time: 18 take a fifth of a second, 22
-//! some seconds, and 31, the most that the limits let through, half an hour, in a file of 156 nodes. docs/PERFORMANCE.md has figures.
+//! twice. With functions in one another, `var v = function () { … };`, each further one doubles the time: 18 take 0.14 seconds, 22 take
+//! 2.6, and 31, the most that the limits let through, over twenty minutes, in a file of 156 nodes. If each is a right side as well, each
+//! quadruples it. docs/PERFORMANCE.md has figures.
 //!
 //! A call cannot be interrupted. Whoever takes scripts from strangers makes it in a process of its own and ends that after a time, as
 //! the tool `negbosun-inline` does with itself (`--time-limit`).
@@ -65,8 +66,12 @@ pub const MOST_BYTES: usize = 32 + 16 * 1024 + 4 * 256 + 4096;
 /// No script has more root bindings.
 pub const MOST_ROOTS: usize = 256;
 
+/// A root binding takes so many words.
+pub const ROOT_WORDS: usize = 4;
+
 /// What stands in the result buffer, and how the pass went.
 #[derive(Clone, Copy, Debug, PartialEq, Eq)]
+#[non_exhaustive]
 #[must_use = "only its length tells where the result ends"]
 pub struct Done {
     /// The result is the buffer's first `length` bytes; later ones are as they were.
@@ -123,7 +128,7 @@ pub fn inline_into(
 /// Those of [`inline_into`]; [`Refusal::Room`] if the root bindings do not fit. A refusal leaves `roots` as it was.
 pub fn roots_into(
     file: &[u8],
-    roots: &mut [[u32; 4]],
+    roots: &mut [[u32; ROOT_WORDS]],
     words: &mut [u32],
     runs: u32,
 ) -> Result<usize, Refusal> {
@@ -151,7 +156,7 @@ pub fn roots_into(
 pub struct Inliner {
     words: Vec<u32>,
     result: Vec<u8>,
-    roots: Vec<[u32; 4]>,
+    roots: Vec<[u32; ROOT_WORDS]>,
 }
 
 impl Default for Inliner {
@@ -159,7 +164,7 @@ impl Default for Inliner {
         Inliner {
             words: vec![0; WORDS],
             result: vec![0; MOST_BYTES],
-            roots: vec![[0; 4]; MOST_ROOTS],
+            roots: vec![[0; ROOT_WORDS]; MOST_ROOTS],
         }
     }
 }

@@ -166,12 +166,17 @@ fn all(repeats: usize) {
     }
 }
 
-/// The family whose time doubles with each function inside another.
+/// The families whose time doubles and quadruples with each function inside another.
 fn doubling(most: usize) {
     println!("microseconds, the least of at most 5 turns");
-    for count in (4..=most).step_by(2) {
+    for count in (6..=most).step_by(2) {
         let script = scripts::functions(count);
-        let name = format!("{count} functions in one another");
+        let name = format!("{count} functions");
+        show(&name, script.tree.count(), least(&[script], 5, 1));
+    }
+    for count in 3..=most / 2 {
+        let script = scripts::right_functions(count);
+        let name = format!("{count} functions as right sides");
         show(&name, script.tree.count(), least(&[script], 5, 1));
     }
 }
