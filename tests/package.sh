@@ -88,8 +88,19 @@ compile_there() {
     gcc -std=c99 -Wall -Wextra -Werror -pedantic -o "$out/header" "$root/usr/share/doc/negbosun/examples/header.c" "${flags[@]}"
 }
 
+# A crate that depends on the installed one, and nothing else.
 rust_there() {
-    (cd caller && NEGBOSUN_LIB=$root/usr/lib/$multiarch CARGO_TARGET_DIR=$out/cargo cargo run --offline --quiet -j "${JOBS:-1}" --example sample)
+    local crate=$out/crate
+    mkdir -p "$crate/src" && cp caller/examples/sample.rs "$crate/src/main.rs" && sed -i 's|/../samples/tide.tree|/tide.tree|' "$crate/src/main.rs" &&
+        cp samples/tide.tree "$crate" && cat >"$crate/Cargo.toml" <<END || return
+[package]
+name = "sample"
+edition = "2021"
+
+[dependencies]
+negbosun = { path = "$root/usr/share/cargo/registry/negbosun-$version" }
+END
+    (cd "$crate" && env -u NEGBOSUN_LIB cargo run --offline --quiet -j "${JOBS:-1}" | tee "$out/said") && grep "nodes out" "$out/said"
 }
 
 script_there() {

@@ -41,8 +41,8 @@
 //! # Building
 //!
 //! `rt staticlib pass` in the repository proves the pass and writes target/staticlib/libpass.a (x86-64). The build of this crate
-//! links it from there, or from the folder that the environment variable `NEGBOSUN_LIB` names; there the library may also be called
-//! libnegbosun.a, as the Debian package installs it.
+//! links it from there; an installed copy of the crate links the installed libnegbosun.a. The environment variable `NEGBOSUN_LIB` may
+//! name another folder that holds one of the two.
 
 mod answer;
 mod entries;
