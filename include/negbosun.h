@@ -5,9 +5,9 @@
    What holds of every function here is proved, for all arguments that C allows:
 
    - It returns. It ends in a result, then `refused` is 0, or in one of the refusals below, then every other field is 0.
-   - It is a function of its arguments: equal files, lengths and run limits give equal answers. What the words and the result buffer held before does
+   - It is a function of its arguments: equal files, lengths and run limits give equal answers. What the buffers that are written held before does
      not matter.
-   - It reads `file` and nothing else, and writes inside the buffers lent to it and nowhere else. `file` keeps its bytes.
+   - It reads and writes inside what is lent to it and nowhere else. `file` keeps its bytes.
    - Any bytes may be given as a file, of any length; a length of 0 is allowed everywhere.
 
    By its build and by tests: it allocates nothing, does no input or output, and keeps nothing between calls, so that threads may call it at once on

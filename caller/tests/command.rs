@@ -130,7 +130,7 @@ fn a_pass_that_takes_too_long_is_stopped() {
     let slow = files::functions(31);
     let output = run(&["--time-limit", "1"], &slow);
     assert_eq!((output.status.code(), text(&output.stdout)), (Some(4), ""));
-    let said = "standard input: stopped, no answer within 1 seconds";
+    let said = "standard input: stopped, no answer within 1 s;";
     assert!(text(&output.stderr).contains(said));
     assert!(text(&output.stderr).contains("--time-limit SECONDS"));
     let hex: String = slow.iter().map(|byte| format!("{byte:02x}")).collect();

@@ -44,7 +44,7 @@ impl Trouble {
     fn too_long(name: &str, options: &Options) -> Trouble {
         let seconds = options.limit.map_or(0, |limit| limit.as_secs());
         let line = format!(
-            "{name}: stopped, no answer within {seconds} seconds; time can double with each function inside another. \
+            "{name}: stopped, no answer within {seconds} s; time can double with each function inside another. \
              --time-limit SECONDS allows more (0: no limit)"
         );
         Trouble(TOO_LONG, line)
