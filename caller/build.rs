@@ -30,7 +30,7 @@ fn main() {
     let places = places();
     let found = places.iter().find(|place| file(place).is_file());
     // Where none is there, the first is named, so that the build looks again once it is.
-    for place in found.or(places.first()) {
+    if let Some(place) = found.or(places.first()) {
         println!("cargo:rerun-if-changed={}", file(place).display());
     }
     let Some((folder, name)) = found else {

@@ -10,8 +10,9 @@
    - It reads and writes inside what is lent to it and nowhere else. `file` keeps its bytes.
    - Any bytes may be given as a file, of any length; a length of 0 is allowed everywhere.
 
-   By its build and by tests: it allocates nothing, does no input or output, and keeps nothing between calls, so that threads may call it at once on
-   buffers of their own. It uses less than 256 KiB of stack.
+   The library has no memory of its own and calls nothing but the C library's functions on bytes (memset and its like). So it allocates nothing, does no
+   input or output, and keeps nothing between calls; threads may call it at once, each on buffers of its own. It uses less than 256 KiB of stack.
+   These are held by tests.
 
    What is asked of the caller is what C cannot check:
 
@@ -101,7 +102,7 @@ struct negbosun_listed {
    Refusals 1 to 10. Success writes `length` bytes; the bytes behind them are kept. A refusal keeps the whole result buffer. Refusal 1 keeps the words;
    after anything else, success included, the first NEGBOSUN_WORDS are 0. Words behind these are never changed.
 
-   A result has the texts of the given file. That it is itself a readable file is held by tests. */
+   A result is itself a readable file, with the texts of the given one. */
 struct negbosun_inlined negbosun_inline(const uint8_t *file, size_t file_length, uint8_t *result, size_t result_length, uint32_t *words,
                                         size_t word_count, uint32_t runs);
 

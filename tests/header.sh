@@ -35,7 +35,19 @@ version() {
     sed -n 's/^version = "\(.*\)"$/\1/p' caller/Cargo.toml
 }
 
+# The library has no data of its own, asks for nothing but functions on bytes, and shows no other name than its own.
+keeps_to_itself() {
+    local strange
+    nm -g "$library" >"$out/names" && nm "$library" >"$out/all" || return
+    strange=$(grep -E ' [BbCDdGgSs] ' "$out/all"
+        grep -E ' U ' "$out/names" | grep -vE ' U (mem(set|cpy|move|cmp)|bcmp)$'
+        grep -E ' T ' "$out/names" | grep -v ' T negbosun_')
+    echo "$strange"
+    [ -z "$strange" ] && grep -q ' T negbosun_inline$' "$out/names"
+}
+
 need_library || finish
+one "names in the library" keeps_to_itself
 for standard in c99 c11 c17; do
     compiled "gcc $standard" gcc -std="$standard"
 done
