@@ -5,6 +5,7 @@
 //! original's is that of the runs alone, on a tree that was built before; `whole` adds what the port does besides: the file read,
 //! the tree built, the result written.
 
+mod clock;
 mod scripts;
 
 use negbosun::{inline_into, Done, MOST_BYTES, MOST_RUNS, WORDS};
@@ -47,10 +48,11 @@ struct Times {
     whole: f64,
 }
 
+/// Nanoseconds of the processor that a call takes; what else the machine does is not in them.
 fn nanoseconds(calls: usize, work: impl FnOnce()) -> f64 {
-    let start = Instant::now();
+    let start = clock::of_thread();
     work();
-    start.elapsed().as_nanos() as f64 / calls as f64
+    (clock::of_thread() - start).as_nanos() as f64 / calls as f64
 }
 
 /// One turn of each, after one another, so that a busy machine slows all of them.
