@@ -128,14 +128,14 @@ fn help_and_version_are_printed() {
 #[test]
 fn a_pass_that_takes_too_long_is_stopped() {
     let slow = files::functions(31);
-    let output = run(&["--time-limit", "1"], &slow);
+    let output = run(&["--time-limit", "2"], &slow);
     assert_eq!((output.status.code(), text(&output.stdout)), (Some(4), ""));
-    let said = "standard input: stopped, no answer within 1 s;";
+    let said = "standard input: stopped, no answer within 2 s;";
     assert!(text(&output.stderr).contains(said));
     assert!(text(&output.stderr).contains("--time-limit SECONDS"));
     let hex: String = slow.iter().map(|byte| format!("{byte:02x}")).collect();
     let input = format!("{EMPTY}\n{hex}\n{EMPTY}\n");
-    let output = run(&["--batch", "--time-limit=1"], input.as_bytes());
+    let output = run(&["--batch", "--time-limit=2"], input.as_bytes());
     assert_eq!(output.status.code(), Some(4));
     assert!(text(&output.stdout).starts_with("ok runs 1 "));
     assert!(text(&output.stderr).contains("line 2: stopped"));
