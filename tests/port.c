@@ -11,22 +11,8 @@
 #include <string.h>
 #include <sys/mman.h>
 
+#include "../include/negbosun.h"
 #include "buffers.h"
-
-struct inlined {
-    uint32_t refused;
-    size_t length;
-    uint32_t runs;
-    uint32_t changed;
-};
-
-struct roots {
-    uint32_t refused;
-    size_t count;
-};
-
-struct inlined negbosun_inline(const uint8_t *file, size_t file_length, uint8_t *result, size_t room, uint32_t *words, size_t count, uint32_t runs);
-struct roots negbosun_roots(const uint8_t *file, size_t file_length, uint32_t *roots, size_t room, uint32_t *words, size_t count, uint32_t runs);
 
 enum { STACK = 256 * 1024, PAGE = 4096, PAINT = 0x5a };
 
@@ -39,7 +25,7 @@ struct call {
     uint32_t *words;
     size_t count;
     uint32_t runs;
-    struct inlined answer;
+    struct negbosun_inlined answer;
     size_t written;
     uint8_t *top;
 };
@@ -51,8 +37,8 @@ static void *on_stack(void *given) {
     uint8_t here;
     c->top = &here;
     if (c->wants_roots) {
-        struct roots r = negbosun_roots(c->file, c->file_length, (uint32_t *)c->result, c->room, c->words, c->count, c->runs);
-        c->answer = (struct inlined){r.refused, r.count, 0, 0};
+        struct negbosun_listed r = negbosun_roots(c->file, c->file_length, (uint32_t *)c->result, c->room, c->words, c->count, c->runs);
+        c->answer = (struct negbosun_inlined){r.refused, r.count, 0, 0};
         c->written = 16 * r.count;
     } else {
         c->answer = negbosun_inline(c->file, c->file_length, c->result, c->room, c->words, c->count, c->runs);

@@ -1,18 +1,14 @@
 #!/usr/bin/env bash
 # The port beside the original: the stored vectors, rows 1 and 10 with their buffers, paired copies, stack and program through
-# tests/port.py; the Rust caller's own tests; and, where the original's sources are there, a quick round of both in one process.
+# tests/port.py; the Rust caller's own tests, clippy and documentation; and, where the original's sources are there, a quick round of both in one process.
 # Without cargo or without the sources it says what is passed over. The last line counts.
 set -u
 cd "$(dirname "$0")/.." || exit 1
 . tests/counts.bash
+. tests/library.bash
 
-library=target/staticlib/libpass.a
-if [ ! -e "$library" ] || [ target/rlib/pass.rlib -nt "$library" ]; then
-    one "static library" rt staticlib pass || finish
-fi
-if [ ! -x target/bin/negbosun ]; then
-    one "program" rt check negbosun || finish
-fi
+need_library || finish
+need_program || finish
 one "driver" gcc -O1 -Wall -Wextra -Werror -o "$out/driver" tests/port.c "$library" -pthread || finish
 count "port" python3 -B tests/port.py "$out/driver" target/bin/negbosun
 
@@ -30,7 +26,19 @@ caller_tests() {
     return "$status"
 }
 count "caller" caller_tests
-one "caller's tool" bash -c "cd caller && cargo build --release --offline --quiet -j '${JOBS:-1}' --bins --examples" || finish
+caller_cargo() {
+    (cd caller && cargo "$@" --offline --quiet -j "${JOBS:-1}")
+}
+caller_lint() {
+    (cd caller && cargo clippy --offline --quiet -j "${JOBS:-1}" --all-targets -- -D warnings)
+}
+if cargo clippy --version >/dev/null 2>&1; then
+    one "caller, clippy" caller_lint
+else
+    echo "caller, clippy: skipped, no clippy"
+fi
+RUSTDOCFLAGS="-D warnings" one "caller, documentation" caller_cargo doc --no-deps
+one "caller's tool" caller_cargo build --release --bins --examples || finish
 one "caller's example" caller/target/release/examples/sample
 
 sources=${NEGBOSUN_ORIGINAL:-../shared/docs/src}

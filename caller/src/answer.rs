@@ -1,113 +1,161 @@
 //! A result, its nodes and its root bindings, and how the program prints them.
 
-use crate::Refusal;
+use crate::tree::{Nodes, TreeFile};
+use crate::{Refusal, ROOT_WORDS};
 use std::fmt;
-
-pub(crate) const HEADER: usize = 32;
-pub(crate) const NODE: usize = 16;
+use std::iter::FusedIterator;
+use std::slice::Iter;
 
 /// What the pass made of a script.
 #[derive(Clone, Debug, PartialEq, Eq)]
+#[must_use = "the result is the whole work of the pass"]
 pub struct Inlined {
-    /// The result as a tree file.
-    pub file: Vec<u8>,
-    /// The runs done, at least 1.
-    pub runs: u32,
-    /// Whether the last run left the mark: the run limit then ended the pass.
-    pub changed: bool,
-    /// Each root binding once; the order is open.
-    pub roots: Vec<Root>,
+    pub(crate) file: Vec<u8>,
+    pub(crate) runs: u32,
+    pub(crate) changed: bool,
+    /// Text number, context's low and high half, and mark of each.
+    pub(crate) roots: Vec<[u32; ROOT_WORDS]>,
 }
 
-/// A node of a tree file.
-#[derive(Clone, Copy, Debug, PartialEq, Eq)]
-pub struct Node {
-    pub kind: u8,
-    pub form: u8,
-    pub children: u16,
-    /// The number of its text, or 0.
-    pub text: u32,
-    /// A context, a number's bits, or 0.
-    pub bits: u64,
+impl Inlined {
+    /// The result as a tree file.
+    #[must_use]
+    pub fn file(&self) -> &[u8] {
+        &self.file
+    }
+
+    /// The result as a tree file, without a copy.
+    #[must_use]
+    pub fn into_file(self) -> Vec<u8> {
+        self.file
+    }
+
+    /// The runs done, at least 1.
+    #[must_use]
+    pub fn runs(&self) -> u32 {
+        self.runs
+    }
+
+    /// Whether the last run still changed something: the run limit then ended the pass.
+    #[must_use]
+    pub fn changed(&self) -> bool {
+        self.changed
+    }
+
+    /// The result's nodes and texts. The texts are those of the script that was given.
+    #[must_use]
+    pub fn tree(&self) -> TreeFile<'_> {
+        // What the pass writes is a tree file.
+        TreeFile::new(&self.file).unwrap_or_default()
+    }
+
+    /// The result's nodes in preorder.
+    pub fn nodes(&self) -> Nodes<'_> {
+        self.tree().nodes()
+    }
+
+    /// Each root binding once; the order is open.
+    pub fn roots(&self) -> Roots<'_> {
+        Roots {
+            file: self.tree(),
+            rest: self.roots.iter(),
+        }
+    }
 }
 
 /// A binding of the root scope.
-#[derive(Clone, Copy, Debug, PartialEq, Eq, Hash, PartialOrd, Ord)]
-pub struct Root {
-    /// The number of its name among the file's texts.
-    pub text: u32,
-    pub context: u64,
-    /// Its own mark: whether it must not be inlined.
-    pub prevented: bool,
+#[derive(Clone, Copy, Debug, PartialEq, Eq)]
+pub struct Root<'a> {
+    file: TreeFile<'a>,
+    text: u32,
+    context: u64,
+    prevented: bool,
 }
 
-impl Root {
-    /// From text number, context's low and high half, and mark.
-    pub(crate) fn from_words([text, low, high, mark]: [u32; 4]) -> Root {
+impl<'a> Root<'a> {
+    fn new(file: TreeFile<'a>, [text, low, high, mark]: [u32; ROOT_WORDS]) -> Root<'a> {
         Root {
+            file,
             text,
             context: u64::from(high) << 32 | u64::from(low),
             prevented: mark != 0,
         }
     }
-}
 
-impl Node {
-    fn from_bytes(bytes: &[u8]) -> Node {
-        Node {
-            kind: bytes[0],
-            form: bytes[1],
-            children: u16::from_le_bytes([bytes[2], bytes[3]]),
-            text: u32::from_le_bytes(bytes[4..8].try_into().expect("four bytes")),
-            bits: u64::from_le_bytes(bytes[8..16].try_into().expect("eight bytes")),
-        }
+    /// Its name. A name is any bytes; those of scripts are UTF-8.
+    #[must_use]
+    pub fn name(self) -> &'a [u8] {
+        self.file.text(self.text).unwrap_or_default()
+    }
+
+    /// The number of its name among the file's texts.
+    #[must_use]
+    pub fn text_number(self) -> u32 {
+        self.text
+    }
+
+    /// Its context, which tells apart variables of one name.
+    #[must_use]
+    pub fn context(self) -> u64 {
+        self.context
+    }
+
+    /// Its own mark: whether it must not be inlined.
+    #[must_use]
+    pub fn prevented(self) -> bool {
+        self.prevented
     }
 }
 
-impl Inlined {
-    /// The result's nodes in preorder.
-    pub fn nodes(&self) -> impl ExactSizeIterator<Item = Node> + '_ {
-        let count = u32::from_le_bytes(self.file[8..12].try_into().expect("four bytes")) as usize;
-        self.file[HEADER..HEADER + NODE * count]
-            .chunks_exact(NODE)
-            .map(Node::from_bytes)
+/// The line of a root binding as the program prints it.
+impl fmt::Display for Root<'_> {
+    fn fmt(&self, out: &mut fmt::Formatter) -> fmt::Result {
+        let mark = u8::from(self.prevented);
+        write!(out, "root {} {:016x} {mark}", self.text, self.context)
     }
 }
+
+/// The root bindings of a result.
+#[derive(Clone, Debug)]
+#[must_use = "an iterator does nothing by itself"]
+pub struct Roots<'a> {
+    file: TreeFile<'a>,
+    rest: Iter<'a, [u32; ROOT_WORDS]>,
+}
+
+impl<'a> Iterator for Roots<'a> {
+    type Item = Root<'a>;
+
+    fn next(&mut self) -> Option<Root<'a>> {
+        self.rest.next().map(|words| Root::new(self.file, *words))
+    }
+
+    fn size_hint(&self) -> (usize, Option<usize>) {
+        self.rest.size_hint()
+    }
+}
+
+impl ExactSizeIterator for Roots<'_> {}
+impl FusedIterator for Roots<'_> {}
 
 /// The head line, a line for each node, and a line for each root binding.
 impl fmt::Display for Inlined {
     fn fmt(&self, out: &mut fmt::Formatter) -> fmt::Result {
-        let nodes = self.nodes();
-        writeln!(
-            out,
-            "ok runs {} changed {} nodes {}",
-            self.runs,
-            u8::from(self.changed),
-            nodes.len()
-        )?;
-        for Node {
-            kind,
-            form,
-            children,
-            text,
-            bits,
-        } in nodes
-        {
-            writeln!(out, "{kind} {form} {children} {text} {bits:016x}")?;
+        let (nodes, changed) = (self.nodes(), u8::from(self.changed));
+        let count = nodes.len();
+        writeln!(out, "ok runs {} changed {changed} nodes {count}", self.runs)?;
+        for node in nodes {
+            writeln!(out, "{node}")?;
         }
-        for Root {
-            text,
-            context,
-            prevented,
-        } in &self.roots
-        {
-            writeln!(out, "root {text} {context:016x} {}", u8::from(*prevented))?;
+        for root in self.roots() {
+            writeln!(out, "{root}")?;
         }
         Ok(())
     }
 }
 
 /// What the program prints for an answer, a refusal included.
+#[must_use]
 pub fn printed(answer: &Result<Inlined, Refusal>) -> String {
     match answer {
         Ok(inlined) => inlined.to_string(),

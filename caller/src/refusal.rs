@@ -1,36 +1,41 @@
-//! The ten refusals, in checking order.
+//! The refusals, in checking order.
 
 use std::error::Error;
 use std::fmt;
 
-/// Why there is no result. The number of each is the one that the port answers.
+/// Why there is no result.
+///
+/// [`Refusal::number`] is the number that the library answers, [`Refusal::words`] says the condition. A later version may have
+/// further refusals.
 #[derive(Clone, Copy, Debug, PartialEq, Eq, Hash, PartialOrd, Ord)]
-#[repr(u32)]
+#[non_exhaustive]
 pub enum Refusal {
-    /// The run limit is outside 1 to 16, or there are fewer than 16,384 working words.
-    RunsOrWords = 1,
-    /// Under 32 bytes, or a version other than 1.
-    Header = 2,
-    /// Too few or too many nodes, too many texts or bytes of text.
-    Counts = 3,
-    /// An offset or a length is not the sum of its parts, or not the bytes given.
-    Lengths = 4,
-    /// The ends of the texts fall or miss the last byte, or two texts are equal.
-    Texts = 5,
-    /// The nodes are no script.
-    Nodes = 6,
-    /// Over 256 different identifiers.
-    Identifiers = 7,
-    /// While running: too deep, too many scopes, or inside too many right sides.
-    Depth = 8,
-    /// While running: too many nodes, recorded values or bindings.
-    Size = 9,
-    /// The buffer is shorter than what is to be written.
-    Room = 10,
+    /// 1: The run limit is outside 1 to 16, or there are fewer than 16,384 working words.
+    RunsOrWords,
+    /// 2: Under 32 bytes, or a version other than 1.
+    Header,
+    /// 3: Too few or too many nodes, too many texts or bytes of text.
+    Counts,
+    /// 4: An offset or a length is not the sum of its parts, or not the bytes given.
+    Lengths,
+    /// 5: The ends of the texts fall or miss the last byte, or two texts are equal.
+    Texts,
+    /// 6: The nodes are no script.
+    Nodes,
+    /// 7: Over 256 different identifiers.
+    Identifiers,
+    /// 8: While running: too deep, too many scopes, or inside too many right sides.
+    Depth,
+    /// 9: While running: too many nodes, recorded values or bindings.
+    Size,
+    /// 10: The buffer is shorter than what is to be written.
+    Room,
+    /// A number that this version of the crate has no name for. The library that it was made for answers none.
+    Unlisted(u32),
 }
 
 impl Refusal {
-    /// All ten, in checking order.
+    /// The ten that have a name, in checking order.
     pub const ALL: [Refusal; 10] = [
         Refusal::RunsOrWords,
         Refusal::Header,
@@ -44,19 +49,36 @@ impl Refusal {
         Refusal::Room,
     ];
 
-    /// 1 to 10.
+    /// The number that the library answers.
+    #[must_use]
     pub fn number(self) -> u32 {
-        self as u32
+        match self {
+            Refusal::RunsOrWords => 1,
+            Refusal::Header => 2,
+            Refusal::Counts => 3,
+            Refusal::Lengths => 4,
+            Refusal::Texts => 5,
+            Refusal::Nodes => 6,
+            Refusal::Identifiers => 7,
+            Refusal::Depth => 8,
+            Refusal::Size => 9,
+            Refusal::Room => 10,
+            Refusal::Unlisted(number) => number,
+        }
     }
 
-    /// The refusal of that number; none for 0 and for numbers above 10.
+    /// The refusal of a number; none for 0, which tells a result.
+    #[must_use]
     pub fn from_number(number: u32) -> Option<Refusal> {
-        Refusal::ALL
-            .into_iter()
-            .find(|refusal| refusal.number() == number)
+        let listed = Refusal::ALL.into_iter().find(|it| it.number() == number);
+        match number {
+            0 => None,
+            _ => listed.or(Some(Refusal::Unlisted(number))),
+        }
     }
 
     /// Its condition in plain words.
+    #[must_use]
     pub fn words(self) -> &'static str {
         match self {
             Refusal::RunsOrWords => "the run limit is outside 1 to 16, or there are fewer than 16,384 working words",
@@ -78,6 +100,7 @@ impl Refusal {
                  or over 256 bindings and constants were live"
             }
             Refusal::Room => "the buffer for the result is shorter than the result",
+            Refusal::Unlisted(_) => "the library is a later one and has a refusal that this version has no words for",
         }
     }
 }
@@ -98,18 +121,28 @@ mod tests {
     fn numbers_are_one_to_ten_in_order() {
         let numbers: Vec<u32> = Refusal::ALL.iter().map(|r| r.number()).collect();
         assert_eq!(numbers, (1..=10).collect::<Vec<u32>>());
-        for number in 1..=10 {
-            assert_eq!(Refusal::from_number(number).unwrap().number(), number);
+        for refusal in Refusal::ALL {
+            assert_eq!(Refusal::from_number(refusal.number()), Some(refusal));
         }
-        assert_eq!([0, 11, u32::MAX].map(Refusal::from_number), [None; 3]);
+        assert_eq!(Refusal::from_number(0), None);
+    }
+
+    #[test]
+    fn other_numbers_are_kept() {
+        for number in [11, u32::MAX] {
+            let refusal = Refusal::from_number(number);
+            assert_eq!(refusal, Some(Refusal::Unlisted(number)));
+            assert_eq!(refusal.map(Refusal::number), Some(number));
+        }
     }
 
     #[test]
     fn each_says_its_number_and_something_of_its_own() {
         let mut said: Vec<&str> = Refusal::ALL.iter().map(|r| r.words()).collect();
+        said.push(Refusal::Unlisted(11).words());
         said.sort_unstable();
         said.dedup();
-        assert_eq!(said.len(), 10);
+        assert_eq!(said.len(), 11);
         assert!(Refusal::Room.to_string().starts_with("refusal 10: "));
     }
 }

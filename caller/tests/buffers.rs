@@ -1,73 +1,16 @@
 //! Both functions over buffers of the caller: refusals, what they keep, and document 01's example.
+#![allow(
+    clippy::unwrap_used,
+    clippy::indexing_slicing,
+    clippy::cast_possible_truncation
+)]
 
+mod files;
+
+use files::{one, seven, tree_file};
 use negbosun::{
-    inline, inline_into, printed, roots_into, Inliner, Refusal, Root, MOST_BYTES, MOST_RUNS, WORDS,
+    inline, inline_into, printed, roots_into, Inliner, Refusal, MOST_BYTES, MOST_RUNS, WORDS,
 };
-
-/// Kind, form, child count, text number, context or number bits.
-type Raw = (u8, u8, u16, u32, u64);
-
-fn tree_file(nodes: &[Raw], texts: &[&str]) -> Vec<u8> {
-    let bytes = texts.concat();
-    let ends_at = 32 + 16 * nodes.len();
-    let bytes_at = ends_at + 4 * texts.len();
-    let header = [
-        1,
-        bytes_at + bytes.len(),
-        nodes.len(),
-        32,
-        texts.len(),
-        ends_at,
-        bytes_at,
-        bytes.len(),
-    ];
-    let mut file: Vec<u8> = header
-        .iter()
-        .flat_map(|field| (*field as u32).to_le_bytes())
-        .collect();
-    for (kind, form, children, text, bits) in nodes {
-        file.extend([*kind, *form]);
-        file.extend(children.to_le_bytes());
-        file.extend(text.to_le_bytes());
-        file.extend(bits.to_le_bytes());
-    }
-    let mut end = 0;
-    for text in texts {
-        end += text.len() as u32;
-        file.extend(end.to_le_bytes());
-    }
-    file.extend(bytes.as_bytes());
-    file
-}
-
-/// `const a = 7; a;`
-fn seven() -> Vec<u8> {
-    let nodes = [
-        (1, 0, 2, 0, 0),
-        (5, 2, 1, 0, 0),
-        (6, 0, 2, 0, 0),
-        (20, 0, 0, 0, 0),
-        (24, 0, 0, 0, 7f64.to_bits()),
-        (4, 0, 1, 0, 0),
-        (21, 0, 0, 0, 0),
-    ];
-    tree_file(&nodes, &["a"])
-}
-
-/// `var x = 1; x;` with a context whose halves differ.
-fn one() -> Vec<u8> {
-    let context = 0x0000_0003_0000_0002;
-    let nodes = [
-        (1, 0, 2, 0, 0),
-        (5, 0, 1, 0, 0),
-        (6, 0, 2, 0, 0),
-        (20, 0, 0, 1, context),
-        (24, 0, 0, 0, 1f64.to_bits()),
-        (4, 0, 1, 0, 0),
-        (21, 0, 0, 1, context),
-    ];
-    tree_file(&nodes, &["y", "x"])
-}
 
 fn marked_words(count: usize) -> Vec<u32> {
     (1..=count as u32).collect()
@@ -91,13 +34,20 @@ ok runs 2 changed 0 nodes 7
 #[test]
 fn root_bindings_have_their_context_whole() {
     let inlined = inline(&one(), MOST_RUNS).unwrap();
-    let root = Root {
-        text: 1,
-        context: 0x0000_0003_0000_0002,
-        prevented: false,
-    };
-    assert_eq!(inlined.roots, [root]);
-    assert_eq!((inlined.runs, inlined.nodes().len()), (2, 6));
+    let roots: Vec<_> = inlined
+        .roots()
+        .map(|root| {
+            (
+                root.name(),
+                root.text_number(),
+                root.context(),
+                root.prevented(),
+            )
+        })
+        .collect();
+    assert_eq!(roots, [(&b"x"[..], 1, 0x0000_0003_0000_0002, false)]);
+    assert_eq!(inlined.roots().len(), 1);
+    assert_eq!((inlined.runs(), inlined.nodes().len()), (2, 6));
     assert!(inlined.to_string().ends_with("root 1 0000000300000002 0\n"));
 }
 
@@ -107,7 +57,7 @@ fn runs_are_one_to_sixteen() {
         assert_eq!(inline(&seven(), runs), Err(Refusal::RunsOrWords));
     }
     assert_eq!(
-        inline(&seven(), 1).map(|done| (done.runs, done.changed)),
+        inline(&seven(), 1).map(|done| (done.runs(), done.changed())),
         Ok((1, true))
     );
     assert!(inline(&seven(), 16).is_ok());

@@ -1,10 +1,11 @@
-//! Port and original on the same trees, in one process: `bench [REPEATS]`; or `bench only port|original NODES TIMES`, for counting
-//! instructions from outside.
+//! Port and original on the same trees, in one process: `bench [REPEATS]`; `bench doubling MOST`, functions in one another; or
+//! `bench only port|original NODES TIMES`, for counting instructions from outside.
 //!
 //! The port's time is that of its whole C function: the file read and checked, the runs, the result written, the words cleared. The
 //! original's is that of the runs alone, on a tree that was built before; `whole` adds what the port does besides: the file read,
 //! the tree built, the result written.
 
+mod clock;
 mod scripts;
 
 use negbosun::{inline_into, Done, MOST_BYTES, MOST_RUNS, WORDS};
@@ -47,10 +48,11 @@ struct Times {
     whole: f64,
 }
 
+/// Nanoseconds of the processor that a call takes; what else the machine does is not in them.
 fn nanoseconds(calls: usize, work: impl FnOnce()) -> f64 {
-    let start = Instant::now();
+    let start = clock::of_thread();
     work();
-    start.elapsed().as_nanos() as f64 / calls as f64
+    (clock::of_thread() - start).as_nanos() as f64 / calls as f64
 }
 
 /// One turn of each, after one another, so that a busy machine slows all of them.
@@ -59,7 +61,7 @@ fn turn(port: &mut Port, files: &[Vec<u8>], all: &[Script], calls: usize) -> Tim
     let port = nanoseconds(number, || {
         for _ in 0..calls {
             files.iter().for_each(|file| {
-                port.run(file);
+                let _ = port.run(file);
             });
         }
     });
@@ -166,6 +168,21 @@ fn all(repeats: usize) {
     }
 }
 
+/// The families whose time doubles and quadruples with each function inside another.
+fn doubling(most: usize) {
+    println!("microseconds, the least of at most 5 turns");
+    for count in (6..=most).step_by(2) {
+        let script = scripts::functions(count);
+        let name = format!("{count} functions");
+        show(&name, script.tree.count(), least(&[script], 5, 1));
+    }
+    for count in 3..=most / 2 {
+        let script = scripts::right_functions(count);
+        let name = format!("{count} functions as right sides");
+        show(&name, script.tree.count(), least(&[script], 5, 1));
+    }
+}
+
 /// One side alone, the tree of the original built outside `Built::run`.
 fn only(side: &str, nodes: usize, times: usize) {
     let script = scripts::gates(nodes);
@@ -181,14 +198,15 @@ fn only(side: &str, nodes: usize, times: usize) {
 fn main() {
     let given: Vec<String> = std::env::args().skip(1).collect();
     let number = |at: usize| given.get(at).and_then(|n| n.parse().ok());
-    on_deep_stack(
-        || match (given.first().map(|word| &word[..]), number(2), number(3)) {
+    on_deep_stack(|| {
+        match (given.first().map(|word| &word[..]), number(2), number(3)) {
             (Some("only"), Some(nodes), Some(times)) => only(&given[1], nodes, times),
+            (Some("doubling"), ..) => doubling(number(1).unwrap_or(22)),
             (None, ..) => all(30),
             _ => match number(0) {
                 Some(repeats) => all(repeats),
-                None => eprintln!("usage: bench [REPEATS] | bench only port|original NODES TIMES"),
+                None => eprintln!("usage: bench [REPEATS] | bench doubling MOST | bench only port|original NODES TIMES"),
             },
-        },
-    );
+        }
+    });
 }

@@ -135,6 +135,24 @@ fn moves() -> Script {
     named(&texts, node(1, 0, list))
 }
 
+/// Functions in one another, `var v = function () { … };`, the innermost with an empty block: each one more doubles the time.
+pub fn functions(count: usize) -> Script {
+    nested(count, |function| function)
+}
+
+/// The same with `var v = b && function () { … };`: each one more quadruples it.
+pub fn right_functions(count: usize) -> Script {
+    nested(count, |function| node(32, 0, vec![ident(1), function]))
+}
+
+fn nested(count: usize, value: impl Fn(Tree) -> Tree) -> Script {
+    let list = (0..count).fold(vec![], |list, _| {
+        let function = node(39, 0, vec![block(list)]);
+        vec![declare(0, binding(0), Some(value(function)))]
+    });
+    named(&["v", "b"], node(1, 0, list))
+}
+
 /// The slow ones by name.
 pub fn slow() -> Vec<(&'static str, Script)> {
     vec![

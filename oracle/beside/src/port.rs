@@ -10,20 +10,20 @@ pub fn answer(inliner: &mut Inliner, file: &[u8], runs: u32) -> Result<Answer, S
         Err(refusal) => return Ok(Answer::Refused(refusal.number() as u8)),
     };
     let result =
-        read(&inlined.file).map_err(|row| format!("the result is not readable: row {row}"))?;
+        read(inlined.file()).map_err(|row| format!("the result is not readable: row {row}"))?;
     let texts = read(file)
         .map_err(|row| format!("an unreadable file passed: row {row}"))?
         .texts;
     if result.texts != texts {
         return Err("the result has other texts".into());
     }
-    let roots = inlined.roots.iter();
     Ok(Answer::Done(Outcome {
-        runs: inlined.runs,
-        changed: inlined.changed,
+        runs: inlined.runs(),
+        changed: inlined.changed(),
         tree: result.tree,
-        roots: roots
-            .map(|root| (root.text, root.context, root.prevented))
+        roots: inlined
+            .roots()
+            .map(|root| (root.text_number(), root.context(), root.prevented()))
             .collect(),
     }))
 }
