@@ -40,5 +40,5 @@ pub record Started (w u : List ℕ) : Type 0 where
   pub nodes : tree u ≡ tree w
   pub is : rest u ≡ startF (getD w 0 0)
   pub idents : getD u 4 0 ≡ getD w 4 0
-  pub high : Agree 15504 16384 w u
+  pub high : Agree 7568 16384 w u
   pub rest : beyond u ≡ beyond w

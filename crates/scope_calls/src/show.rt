@@ -132,7 +132,7 @@ fn show_unresolved(w: &[u32], k: u32) {
     letter(b'u');
     let mut x: usize = 0;
     while x < 4 {
-        put_bool(word(w, layout::UNRESOLVED + k as usize * 256) >> x as u32 & 1 != 0);
+        put_bool(word(w, layout::UNRESOLVED + k as usize * 8) >> x as u32 & 1 != 0);
         x += 1;
     }
 }

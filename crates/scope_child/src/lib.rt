@@ -66,7 +66,7 @@ fn hoist_var(w: &mut [u32], j: usize)
     let reads = w[layout::BINDINGS + j * 10 + layout::READS];
     let sensitive = w[layout::BINDINGS + j * 10 + layout::SENSITIVE];
     let d = w[layout::SCOPE_COUNT] as usize - 1;
-    let used = flag_at(w, layout::UNRESOLVED + d * 256, x);
+    let used = flag_at(w, layout::UNRESOLVED + d * 8, x);
     let prevented = either(used, w[layout::BINDINGS + j * 10 + layout::PREVENTED]);
     let n = w[layout::BINDING_COUNT] as usize;
     let r = own_binding(w, x);

@@ -243,9 +243,9 @@ pub hoisted-and : (w : List ℕ) (r : ℕ) → (r ≡ 0 → ⊥) → isHoistedPr
 hoisted-and w r h = ap isHoistedPrevented (at-is w r h)
 
 -- is x unresolved in scope k
-pub unresolved-at : (w : List ℕ) (k x : ℕ) → x < 256 → scopeAt w k .unresolvedUsages x ≡ yes (flagAt w (7312 + k * 256) x)
+pub unresolved-at : (w : List ℕ) (k x : ℕ) → x < 256 → scopeAt w k .unresolvedUsages x ≡ yes (flagAt w (7312 + k * 8) x)
 unfolding scopeAt unresAt
-unresolved-at w k x h = ap yes (getD-tab 256 (λ j. flagAt w (7312 + k * 256) j) x 0 h)
+unresolved-at w k x h = ap yes (getD-tab 256 (λ j. flagAt w (7312 + k * 8) j) x 0 h)
 
 -- barriers
 module _ (w : List ℕ) (k : ℕ) where

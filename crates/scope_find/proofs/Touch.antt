@@ -187,17 +187,17 @@ module _ {w w′ : List ℕ} (g : Good w) (t : Touched w w′) where
       (below-or-not at (first w (suc k)))
 
   -- and its unresolved uses
-  pub unresolved-same : (k : ℕ) → Agree (7312 + k * 256) (7312 + k * 256 + 256) w w′ → (m : ℕ) → scopeAt w′ k .unresolvedUsages m ≡ scopeAt w k .unresolvedUsages m
+  pub unresolved-same : (k : ℕ) → Agree (7312 + k * 8) (7312 + k * 8 + 8) w w′ → (m : ℕ) → scopeAt w′ k .unresolvedUsages m ≡ scopeAt w k .unresolvedUsages m
   unfolding scopeAt unresAt
-  unresolved-same k a m = ap (λ (l : List ℕ). yes (getD l m 0)) (tab-ext 256 (λ j. flagAt w′ (7312 + k * 256) j) (λ j. flagAt w (7312 + k * 256) j) (λ j l. flag-same w w′ (7312 + k * 256) j l (λ i h. a (7312 + k * 256 + i) (omega arith) (omega arith))))
+  unresolved-same k a m = ap (λ (l : List ℕ). yes (getD l m 0)) (tab-ext 256 (λ j. flagAt w′ (7312 + k * 8) j) (λ j. flagAt w (7312 + k * 8) j) (λ j l. flag-same w w′ (7312 + k * 8) j l (λ i h. a (7312 + k * 8 + i) (omega arith) (omega arith))))
 
 -- an unresolved use is stored
-module _ (w w′ : List ℕ) (g : Good w) (x : ℕ) (small : x < 256) (z : 0 < getD w 2 0) (f : Flagged w w′ (7312 + (getD w 2 0 - 1) * 256) x) where
+module _ (w w′ : List ℕ) (g : Good w) (x : ℕ) (small : x < 256) (z : 0 < getD w 2 0) (f : Flagged w w′ (7312 + (getD w 2 0 - 1) * 8) x) where
   abbrev k : ℕ
   k = getD w 2 0 - 1
 
   abbrev p : ℕ
-  p = 7312 + k * 256 + x / 32
+  p = 7312 + k * 8 + x / 32
 
   keeps : (j : ℕ) → (j ≡ p → ⊥) → getD w′ j 0 ≡ getD w j 0
   keeps j d = f .other j d
@@ -222,8 +222,8 @@ module _ (w w′ : List ℕ) (g : Good w) (x : ℕ) (small : x < 256) (z : 0 < g
   used : (m : ℕ) → scopeAt w′ k .unresolvedUsages m ≡ (eqb x m || scopeAt w k .unresolvedUsages m)
   unfolding scopeAt unresAt
   used m = ⊎-elim
-      (λ (l : m < 256). rw (getD-tab 256 (λ j. flagAt w′ (7312 + k * 256) j) m 0 l, getD-tab 256 (λ j. flagAt w (7312 + k * 256) j) m 0 l) (f .here m l))
-      (λ (l : 256 ≤ m). rw (getD-tab-out 256 (λ j. flagAt w′ (7312 + k * 256) j) m 0 l, getD-tab-out 256 (λ j. flagAt w (7312 + k * 256) j) m 0 l, ne-eqb x m (λ e. omega arith)) refl)
+      (λ (l : m < 256). rw (getD-tab 256 (λ j. flagAt w′ (7312 + k * 8) j) m 0 l, getD-tab 256 (λ j. flagAt w (7312 + k * 8) j) m 0 l) (f .here m l))
+      (λ (l : 256 ≤ m). rw (getD-tab-out 256 (λ j. flagAt w′ (7312 + k * 8) j) m 0 l, getD-tab-out 256 (λ j. flagAt w (7312 + k * 8) j) m 0 l, ne-eqb x m (λ e. omega arith)) refl)
       (below-or-not m 256)
 
   pub unresolved : Becomes w w′ (addUnresolved x (stack w))

@@ -13,7 +13,7 @@ pub record Touched (w w′ : List ℕ) : Type 0 where
   pub size : length w′ ≡ length w
   pub low : (j : ℕ) → j < 7184 → ((i : ℕ) → i < 256 → j ≡ 4112 + i * 10 + 9 → ⊥) → getD w′ j 0 ≡ getD w j 0
   pub heads : (j : ℕ) → 7184 ≤ j → j < 7312 → ((i : ℕ) → i < 32 → j ≡ 7184 + i * 4 + 3 → ⊥) → getD w′ j 0 ≡ getD w j 0
-  pub high : Agree 15504 16384 w w′
+  pub high : Agree 7568 16384 w w′
   pub rest : beyond w′ ≡ beyond w
 
 -- a barrier stands behind the last binding of scope k, and all else is as it was

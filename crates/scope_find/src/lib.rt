@@ -360,7 +360,7 @@ fn held_below(w: &[u32], d: usize, x: u8) -> bool
     let mut k = d;
     while 0 < k {
         k -= 1;
-        if flag_at(w, layout::UNRESOLVED + k * 256, x) != 0 {
+        if flag_at(w, layout::UNRESOLVED + k * 8, x) != 0 {
             return true;
         }
         let r = found_in(w, k, x);
@@ -380,7 +380,7 @@ pub fn should_prevent_inline_because_of_scope(w: &[u32], x: u8) -> bool
     if d == 0 {
         return false;
     }
-    if flag_at(w, layout::UNRESOLVED + (d - 1) * 256, x) != 0 {
+    if flag_at(w, layout::UNRESOLVED + (d - 1) * 8, x) != 0 {
         return true;
     }
     held_below(w, d - 1, x)

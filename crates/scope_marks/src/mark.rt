@@ -67,7 +67,7 @@ pub fn add_unresolved(w: &mut [u32], x: u8)
     if d == 0 {
         return;
     }
-    set_flag(w, layout::UNRESOLVED + (d - 1) * 256, x);
+    set_flag(w, layout::UNRESOLVED + (d - 1) * 8, x);
 }
 
 // A read of x is counted at its innermost binding, which is prevented if it is hoisted; without a binding x is unresolved.

@@ -63,9 +63,9 @@ module _ (w : List ℕ) (g : Good w) (z : 0 < getD w 2 0) where
   pub under-length : length under ≡ d
   under-length = let l : suc (length under) ≡ getD w 2 0 = sym (ap length stack-top) ∙ depth-is w in omega arith
 
-  pub unres-at : (x : ℕ) → x < 256 → unresTop (stack w) x ≡ yes (flagAt w (7312 + d * 256) x)
+  pub unres-at : (x : ℕ) → x < 256 → unresTop (stack w) x ≡ yes (flagAt w (7312 + d * 8) x)
   unfolding unresAt
-  unres-at x h = rw stack-top (ap yes (getD-tab 256 (λ j. flagAt w (7312 + d * 256) j) x 0 h))
+  unres-at x h = rw stack-top (ap yes (getD-tab 256 (λ j. flagAt w (7312 + d * 8) j) x 0 h))
 
   at : (j : ℕ) → a + j < getD w 1 0 → getD (drop a (binds w)) j laws.noBind ≡ bindAt w (a + j)
   at j h = getD-drop a (binds w) j laws.noBind ∙ bind-there w (a + j) h laws.noBind

@@ -10,7 +10,8 @@
 -- 4112 to 6671      bindings of all scopes, root first, 256    10: id, kind, alias, reads, prevented, undefined, this-sensitive, hoisted, value's length, barrier after it
 -- 6672 to 7183      constants of all scopes, root first, 256   2: id, value's length
 -- 7184 to 7311      scopes, root first, 32                     4: kind, first binding, first constant, barrier before the first binding
--- 7312 to 15503     unresolved: a bit for each identifier      256 for each scope: a set in the first 8 of them
+-- 7312 to 7567      unresolved: a bit for each identifier      8 for each scope
+-- 7568 to 15503     free
 -- 15504 to 15759    identifiers, 256                           1: the number of the first node that has it
 -- 15760 to 16015    the first identifier of each text, 256     1: its number from 1, or 0 where there is none; reading alone uses it
 -- 16016 to 16383    free

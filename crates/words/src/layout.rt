@@ -71,7 +71,7 @@ pub const FIRST_BARRIER: usize = 3;
 // The first binding of the scope inside the root.
 pub const INNER_FIRST: usize = 7189;
 
-// Unresolved identifiers, 256 words for each scope: a bit for each identifier.
+// Unresolved identifiers, eight words for each scope: a bit for each identifier.
 pub const UNRESOLVED: usize = 7312;
 
 // The number of the first node of each identifier, one word each.

@@ -186,17 +186,17 @@ module _ {w : List ℕ} (y : List ℕ) (g : Good w) (n : ℕ) (h : n ≤ getD w 
   part-flags = tab-ext n (λ k. getD y (4112 + k * 10 + 9) 0) (λ k. getD w (4112 + k * 10 + 9) 0) (λ k l. bt (4112 + k * 10 + 9) (omega arith) (omega arith))
 
 -- a scope is opened
-module _ (w u v : List ℕ) (g : Good w) (h : getD w 2 0 < 32) (kind : ℕ) (one : Zeroed w u (7312 + getD w 2 0 * 256) 8) (two : Put4 u v (7184 + getD w 2 0 * 4) kind (getD w 1 0) (getD w 3 0) 0) where
+module _ (w u v : List ℕ) (g : Good w) (h : getD w 2 0 < 32) (kind : ℕ) (one : Zeroed w u (7312 + getD w 2 0 * 8) 8) (two : Put4 u v (7184 + getD w 2 0 * 4) kind (getD w 1 0) (getD w 3 0) 0) where
   abbrev d : ℕ
   d = getD w 2 0
 
   abbrev x : List ℕ
   x = set v 2 (d + 1)
 
-  keeps : (j : ℕ) → (j < 7184 + d * 4) ⊎ (((7184 + d * 4 + 4 ≤ j) × (j < 7312 + d * 256)) ⊎ (7312 + d * 256 + 256 ≤ j)) → (j ≡ 2 → ⊥) → getD x j 0 ≡ getD w j 0
+  keeps : (j : ℕ) → (j < 7184 + d * 4) ⊎ (((7184 + d * 4 + 4 ≤ j) × (j < 7312 + d * 8)) ⊎ (7312 + d * 8 + 8 ≤ j)) → (j ≡ 2 → ⊥) → getD x j 0 ≡ getD w j 0
   keeps j o e = getD-set-other v 2 j (d + 1) 0 e ∙ ⊎-elim
       (λ (l : j < 7184 + d * 4). two .low j l ∙ one .low j (omega arith))
-      (λ o′. ⊎-elim (λ (l : (7184 + d * 4 + 4 ≤ j) × (j < 7312 + d * 256)). two .high j (l .0) ∙ one .low j (l .1)) (λ (l : 7312 + d * 256 + 256 ≤ j). two .high j (omega arith) ∙ one .high j (omega arith)) o′) o
+      (λ o′. ⊎-elim (λ (l : (7184 + d * 4 + 4 ≤ j) × (j < 7312 + d * 8)). two .high j (l .0) ∙ one .low j (l .1)) (λ (l : 7312 + d * 8 + 8 ≤ j). two .high j (omega arith) ∙ one .high j (omega arith)) o′) o
 
   low : (j : ℕ) → j < 7184 → (j ≡ 2 → ⊥) → getD x j 0 ≡ getD w j 0
   low j l e = keeps j (inl (omega arith)) e
@@ -217,8 +217,8 @@ module _ (w u v : List ℕ) (g : Good w) (h : getD w 2 0 < 32) (kind : ℕ) (one
   unset : (j : ℕ) → getD (headAt x d .unres) j 0 ≡ 0
   unfolding unresAt
   unset j = ⊎-elim
-      (λ (l : j < 256). getD-tab 256 (λ i. flagAt x (7312 + d * 256) i) j 0 l ∙ flag-none x (7312 + d * 256) j l (λ i m. getD-set-other v 2 (7312 + d * 256 + i) (d + 1) 0 (λ e. omega arith) ∙ two .high (7312 + d * 256 + i) (omega arith) ∙ one .here i m))
-      (λ (l : 256 ≤ j). getD-tab-out 256 (λ i. flagAt x (7312 + d * 256) i) j 0 l) (below-or-not j 256)
+      (λ (l : j < 256). getD-tab 256 (λ i. flagAt x (7312 + d * 8) i) j 0 l ∙ flag-none x (7312 + d * 8) j l (λ i m. getD-set-other v 2 (7312 + d * 8 + i) (d + 1) 0 (λ e. omega arith) ∙ two .high (7312 + d * 8 + i) (omega arith) ∙ one .here i m))
+      (λ (l : 256 ≤ j). getD-tab-out 256 (λ i. flagAt x (7312 + d * 8) i) j 0 l) (below-or-not j 256)
 
   abbrev ob : Agree 4112 (4112 + getD w 1 0 * 10) w x
   ob = λ j a b. low j (omega (arith, g .count)) (λ e. omega arith)

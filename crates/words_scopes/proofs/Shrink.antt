@@ -20,7 +20,7 @@ use Rattle.words_scopes.proofs.Grow.{some-head, part-off, part-run, par
 
 -- d is the place of the scope that is closed
 module _ (w u : List ℕ) (g : Good w) (d : ℕ) (is : getD w 2 0 ≡ d + 1) (z : 0 < d)
-    (one : Merged w u (7312 + d * 256) (7312 + (d - 1) * 256) 8) where
+    (one : Merged w u (7312 + d * 8) (7312 + (d - 1) * 8) 8) where
   abbrev n : ℕ
   n = getD w (7184 + d * 4 + 1) 0
 
@@ -33,8 +33,8 @@ module _ (w u : List ℕ) (g : Good w) (d : ℕ) (is : getD w 2 0 ≡ d + 1) (z 
   three : (j : ℕ) → (j ≡ 1 → ⊥) → (j ≡ 3 → ⊥) → (j ≡ 2 → ⊥) → getD x j 0 ≡ getD u j 0
   three j p q r = getD-set-other (set (set u 1 n) 3 c) 2 j d 0 r ∙ getD-set-other (set u 1 n) 3 j c 0 q ∙ getD-set-other u 1 j n 0 p
 
-  keeps : (j : ℕ) → (j < 7312 + (d - 1) * 256) ⊎ (7312 + d * 256 ≤ j) → (j ≡ 1 → ⊥) → (j ≡ 3 → ⊥) → (j ≡ 2 → ⊥) → getD x j 0 ≡ getD w j 0
-  keeps j o p q r = three j p q r ∙ ⊎-elim (λ (l : j < 7312 + (d - 1) * 256). one .low j l) (λ (l : 7312 + d * 256 ≤ j). one .high j (omega arith)) o
+  keeps : (j : ℕ) → (j < 7312 + (d - 1) * 8) ⊎ (7312 + d * 8 ≤ j) → (j ≡ 1 → ⊥) → (j ≡ 3 → ⊥) → (j ≡ 2 → ⊥) → getD x j 0 ≡ getD w j 0
+  keeps j o p q r = three j p q r ∙ ⊎-elim (λ (l : j < 7312 + (d - 1) * 8). one .low j l) (λ (l : 7312 + d * 8 ≤ j). one .high j (omega arith)) o
 
   low : (j : ℕ) → j < 7312 → (3 < j) ⊎ (j ≡ 0) → getD x j 0 ≡ getD w j 0
   low j l o = ⊎-elim (λ (a : 3 < j). keeps j (inl (omega arith)) (λ e. omega arith) (λ e. omega arith) (λ e. omega arith)) (λ (a : j ≡ 0). keeps j (inl (omega arith)) (λ e. omega arith) (λ e. omega arith) (λ e. omega arith)) o
@@ -68,10 +68,10 @@ module _ (w u : List ℕ) (g : Good w) (d : ℕ) (is : getD w 2 0 ≡ d + 1) (z 
   unres-are : (j : ℕ) → yes (getD (unresAt x (d - 1)) j 0) ≡ (yes (getD (unresAt w d) j 0) || yes (getD (unresAt w (d - 1)) j 0))
   unfolding unresAt
   unres-are j =
-      let t : List ℕ → ℕ → ℕ → ℕ = λ l k i. flagAt l (7312 + k * 256) i in
+      let t : List ℕ → ℕ → ℕ → ℕ = λ l k i. flagAt l (7312 + k * 8) i in
       ⊎-elim
       (λ (l : j < 256). rw (getD-tab 256 (t x (d - 1)) j 0 l, getD-tab 256 (t w d) j 0 l, getD-tab 256 (t w (d - 1)) j 0 l)
-      (flag-or w x (7312 + d * 256) (7312 + (d - 1) * 256) j l (λ i m. three (7312 + (d - 1) * 256 + i) (λ e. omega arith) (λ e. omega arith) (λ e. omega arith) ∙ one .here i m)))
+      (flag-or w x (7312 + d * 8) (7312 + (d - 1) * 8) j l (λ i m. three (7312 + (d - 1) * 8 + i) (λ e. omega arith) (λ e. omega arith) (λ e. omega arith) ∙ one .here i m)))
       (λ (l : 256 ≤ j). rw (getD-tab-out 256 (t x (d - 1)) j 0 l, getD-tab-out 256 (t w d) j 0 l, getD-tab-out 256 (t w (d - 1)) j 0 l) refl)
       (below-or-not j 256)
 

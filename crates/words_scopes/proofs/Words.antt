@@ -106,11 +106,11 @@ head-eq : {a a′ b b′ : ℕ} {c c′ d d′ : ℕ} {u u′ : List ℕ} → a 
 head-eq p q r s t = cc
 
 -- the first k scopes are kept
-pub heads-part : (w w′ : List ℕ) (k : ℕ) → Agree 7184 (7184 + k * 4) w w′ → Agree 7312 (7312 + k * 256) w w′ → headsAt w′ k ≡ headsAt w k
+pub heads-part : (w w′ : List ℕ) (k : ℕ) → Agree 7184 (7184 + k * 4) w w′ → Agree 7312 (7312 + k * 8) w w′ → headsAt w′ k ≡ headsAt w k
 unfolding headsAt unresAt
 heads-part w w′ zero a b = refl
 heads-part w w′ (suc k) a b =
-    let u : tab 256 (λ j. flagAt w′ (7312 + k * 256) j) ≡ tab 256 (λ j. flagAt w (7312 + k * 256) j) = tab-ext 256 (λ j. flagAt w′ (7312 + k * 256) j) (λ j. flagAt w (7312 + k * 256) j) (λ j l. flag-same w w′ (7312 + k * 256) j l (λ i m. b (7312 + k * 256 + i) (omega arith) (omega arith))) in
+    let u : tab 256 (λ j. flagAt w′ (7312 + k * 8) j) ≡ tab 256 (λ j. flagAt w (7312 + k * 8) j) = tab-ext 256 (λ j. flagAt w′ (7312 + k * 8) j) (λ j. flagAt w (7312 + k * 8) j) (λ j l. flag-same w w′ (7312 + k * 8) j l (λ i m. b (7312 + k * 8 + i) (omega arith) (omega arith))) in
     let q : headAt w′ k ≡ headAt w k = head-eq (a (7184 + k * 4) (omega arith) (omega arith)) (a (7184 + k * 4 + 1) (omega arith) (omega arith)) (a (7184 + k * 4 + 2) (omega arith) (omega arith)) (a (7184 + k * 4 + 3) (omega arith) (omega arith)) u in
     rw (q, heads-part w w′ k (λ j l m. a j l (omega arith)) (λ j l m. b j l (omega arith))) refl
 

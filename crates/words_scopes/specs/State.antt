@@ -93,7 +93,7 @@ pub record Head : Type 0 where
   pub unres : List ℕ
 
 unfoldable pub unresAt : List ℕ → ℕ → List ℕ
-unresAt w k = tab 256 (λ j. flagAt w (7312 + k * 256) j)
+unresAt w k = tab 256 (λ j. flagAt w (7312 + k * 8) j)
 
 abbrev pub headAt : List ℕ → ℕ → Head
 headAt w k = record {
@@ -182,10 +182,10 @@ pub record Good (w : List ℕ) : Type 0 where
   pub whole : (k : ℕ) → k < getD w 1 0 → Whole (runAt w k)
   pub cwhole : (k : ℕ) → k < getD w 3 0 → Whole (crunAt w k)
 
--- the words that no scope has, among the first 16,384: the count of identifiers and what is reserved; their first nodes and what is free
+-- the words that no scope has, among the first 16,384: the count of identifiers and what is reserved; what is free, and the first nodes of the identifiers
 pub record Others (w w′ : List ℕ) : Type 0 where
   pub low : Agree 4 16 w w′
-  pub high : Agree 15504 16384 w w′
+  pub high : Agree 7568 16384 w w′
 
 -- w became w′, whose scopes are st: all else is as it was
 pub record Becomes (w w′ : List ℕ) (st : Stack) : Type 0 where

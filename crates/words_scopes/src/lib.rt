@@ -263,7 +263,7 @@ pub fn open(w: &mut [u32], kind: u32)
     let d = w[layout::SCOPE_COUNT] as usize;
     let n = w[layout::BINDING_COUNT];
     let c = w[layout::CONSTANT_COUNT];
-    wipe(w, layout::UNRESOLVED + d * 256, 8);
+    wipe(w, layout::UNRESOLVED + d * 8, 8);
     put4(w, layout::SCOPES + d * 4, kind, n, c, 0);
     w[layout::SCOPE_COUNT] = (d + 1) as u32;
 }
@@ -278,8 +278,8 @@ pub fn drop_scope(w: &mut [u32])
     let c = w[layout::SCOPES + d * 4 + layout::FIRST_CONSTANT];
     merge(
         w,
-        layout::UNRESOLVED + d * 256,
-        layout::UNRESOLVED + (d - 1) * 256,
+        layout::UNRESOLVED + d * 8,
+        layout::UNRESOLVED + (d - 1) * 8,
         8,
     );
     w[layout::BINDING_COUNT] = n;
