@@ -11,6 +11,10 @@ module _ {A : Type 0} where
   pick true x y = x
   pick false x y = y
 
+  -- changed if the test passes
+  abbrev pub changeIf : (A → A) → (A → Bool) → A → A
+  changeIf f p x = pick (p x) (f x) x
+
   abbrev pub orElse : Option A → Option A → Option A
   orElse none y = y
   orElse (some x) y = some x

@@ -245,7 +245,7 @@ module _ (N : ℕ → ℕ → ℕ → Type 0) (to-ident : (f a : ℕ) → N 20 f
       ((pick-ok (All OkB) (Scope.isFn (c .kind)) (s .bindings) (Scope.hoistAll us (c .bindings) (s .bindings)) (h .1 .0 .0) (ok-hoist us (c .bindings) (s .bindings) (h .0 .0) (h .1 .0 .0)), h .1 .0 .1, pick-ok (λ (bs : List Scope.VarInfo). Single (ids bs)) (Scope.isFn (c .kind)) (s .bindings) (Scope.hoistAll us (c .bindings) (s .bindings)) (h .1 .0 .2) (single-hoist us (c .bindings) (s .bindings) (h .1 .0 .2))), h .1 .1)
 
   -- as a law of the walks
-  abbrev keeps : Law
+  abbrev pub keeps : Law
   keeps = record { Inv = λ s. OkSt (s .stack); Move = λ m s n s′. Unit {0}; Good = λ p t. OkT t; Val = OkT; Rel = λ t u. Unit {0}; Id = OkId; Stop = λ n. Unit {0}; Tells = ⊥ }
 
   goods : (p : ℕ) (ts : Forest) → OkF ts → GF keeps p ts
@@ -288,7 +288,7 @@ module _ (N : ℕ → ℕ → ℕ → Type 0) (to-ident : (f a : ℕ) → N 20 f
   to-init (Scope.recorded t) o = o
   to-init (Scope.seen t) o = o
 
-  kept : Effects keeps
+  pub kept : Effects keeps
   unfolding Walk.restore
   kept = record {
     s-refl = λ n s. tt;

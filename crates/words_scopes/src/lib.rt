@@ -140,17 +140,21 @@ fn marks_of(w: &[u32], k: usize, at: usize, x: u8) -> [Binding; 8]
     all_marked(bs, x as u32)
 }
 
-// Marks every binding of x, and every binding whose value is x: there is none to mark before binding k, whose value begins at node at. A window of
-// records is made at k, and then wherever a mark is missing behind the last one.
-fn mark_from(w: &mut [u32], k: usize, at: usize, x: u8)
-    requires { ⌜ (Good (now w)) × (k < getD (now w) 1 0) × (at ≡ off (now w) k) × ((j : ℕ) → j < k → bindAt (now w) j ≡ preventOne x (bindAt (now w) j)) ⌝ }
+// Marks every binding of x, and every binding whose value is x, in all scopes: one pass through the bindings, each looked at by name and by value
+// together. Where a mark is missing, a window of records is made from that binding on, and marked as a lent slice.
+pub fn prevent_inline(w: &mut [u32], x: u8)
+    requires { ⌜ Good (now w) ⌝ }
     ensures { λ _. ⌜ Becomes (now (w .entry)) (now (w .exit)) (preventInline x (stack (now (w .entry)))) ⌝ }
 {
     let n = w[layout::BINDING_COUNT] as usize;
-    let mut bs = marks_of(w, k, at, x);
-    let mut i: usize = 0;
-    let mut j = k;
-    let mut o = at;
+    let mut bs = [Binding {
+        id: 256,
+        value: 256,
+        prevented: false,
+    }; 8];
+    let mut i: usize = 8;
+    let mut j: usize = 0;
+    let mut o: usize = 0;
     while j < n {
         if i == 8 {
             if to_mark(w, j, o, x) {
@@ -166,25 +170,6 @@ fn mark_from(w: &mut [u32], k: usize, at: usize, x: u8)
         }
         o += w[layout::BINDINGS + j * 10 + layout::LENGTH] as usize;
         j += 1;
-    }
-}
-
-// Marks every binding of x, and every binding whose value is x, in all scopes.
-pub fn prevent_inline(w: &mut [u32], x: u8)
-    requires { ⌜ Good (now w) ⌝ }
-    ensures { λ _. ⌜ Becomes (now (w .entry)) (now (w .exit)) (preventInline x (stack (now (w .entry)))) ⌝ }
-{
-    let n = w[layout::BINDING_COUNT] as usize;
-    let mut k: usize = 0;
-    let mut at: usize = 0;
-    while k < n {
-        let m = w[layout::BINDINGS + k * 10 + layout::LENGTH] as usize;
-        if to_mark(w, k, at, x) {
-            mark_from(w, k, at, x);
-            return;
-        }
-        at += m;
-        k += 1;
     }
 }
 

@@ -1,24 +1,83 @@
--- The scan for the first binding whose mark is missing; `at` is the sum of the lengths passed, and no binding passed changes. Assumes nothing.
+-- The pass through all bindings; a window of records is made where a mark is missing, and `o` is the sum of the lengths passed. Assumes nothing.
 use Prim.Native.Nat.{ℕ, _+_, _-_, _≤_, _<_}
-use mathlib.Core.Path.{_≡_, refl, sym, subst}
+use mathlib.Core.Path.{_≡_, refl, sym, _∙_}
 use mathlib.Core.List.{List}
 use mathlib.Core.Logic.{⊎-elim}
 use native.Mathlib.Nat.{eq-or-lt-of-le}
 use native.Mathlib.Omega.{arith}
-use lib.ListN.{getD}
+use lib.ListN.{length, getD}
 use Rattle.words.specs.Tab as sums
-use Rattle.def_pass.specs.Scope.{preventOne, preventInline}
-use Rattle.words_scopes.specs.State.{Good, Becomes, stack, off, lenAt, bindAt}
+use Rattle.words_prevent.specs.declared.Binding.{Binding}
+use Rattle.words_scopes.specs.State.{off, lenAt, bindAt}
+use Rattle.def_pass.specs.Scope.{preventOne}
 use Rattle.words_scopes.proofs.Words as laws
 use borrow.Author.Needs.{needs}
 use Rattle.words_scopes.proofs.prevent_inline.Statement.{statement}
 use Rattle.words_scopes.proofs.prevent_inline.Tie as tie
+use Rattle.words_scopes.proofs.prevent_inline.Reads as reads
+use Rattle.words_scopes.proofs.prevent_inline.Lts as lts
+use Rattle.words_scopes.proofs.marks_of.Reads as marks-of-reads
+use Rattle.words_scopes.proofs.to_mark.Reads as to-mark-reads
 
 abbrev Inv-loop : tie.InvT-loop
-Inv-loop w₀ x n k₀ at₀ w k at = (k ≤ n) × (w ≡ w₀) × Good w × (n ≡ getD w 1 0) × (at ≡ off w k) × ((j : ℕ) → j < k → bindAt w j ≡ preventOne x (bindAt w j))
+Inv-loop w₀ x n bs₀ i₀ j₀ o₀ w bs i j o = (j ≤ n) × (length w ≡ length w₀) × (n ≡ getD w₀ 1 0) × laws.Swept w₀ w x j × (o ≡ off w₀ j) × (i ≤ 8) × laws.Ahead w₀ x j i bs
 
 abbrev μ-loop : tie.MeasureT-loop
-μ-loop w₀ x n k₀ at₀ w k at = n - k
+μ-loop w₀ x n bs₀ i₀ j₀ o₀ w bs i j o = n - j
+
+below : (i : ℕ) → i ≤ 8 → (i ≡ 8 → ⊥) → i < 8
+below i l n = ⊎-elim (λ (e : i ≡ 8). absurd (n e)) (λ (h : i < 8). h) (eq-or-lt-of-le l)
+
+-- after the first branch: the window's next record is the one of binding j, or the window is used up, and binding j has the mark that it is to have
+abbrev After1 : Type 0
+After1 = lts.Joined1 (to-mark-reads.Asked, to-mark-reads.Learnt, marks-of-reads.Asked, marks-of-reads.Learnt) reads.Pre reads.Post Inv-loop μ-loop
+
+abbrev Ready : List ℕ → ℕ → ℕ → ℕ → List Binding → Type 0
+Ready w x j i bs = (i ≤ 8) × laws.Ahead w x j i bs × (8 ≤ i → bindAt w j ≡ preventOne x (bindAt w j))
+
+ready : (c : After1) → Ready (c .before .before .before .before .before .args .w .now) (c .before .before .before .before .before .args .x) (c .before .before .loop .j) (c .if1 .i) (c .if1 .bs)
+ready c =
+    let at-loop = c .before .before in
+    let at-entry = at-loop .before .before .before in
+    let s = at-loop .loop .inv .3 in
+    let h : at-loop .loop .j < getD (at-entry .args .w .now) 1 0 = omega arith in
+    ⊎-elim
+    (λ t. rw (t .6, t .7) (omega arith, laws.ahead-load s (t .5 .result) (t .5 .ensures), λ l. absurd (omega arith)))
+    (⊎-elim
+    (λ t. rw (t .4, t .5) (at-loop .loop .inv .5, at-loop .loop .inv .6, λ l. laws.swept-not (at-entry .pre) s h (t .2 .result) (t .2 .ensures) (t .3 .left)))
+    (λ t. rw (t .1, t .2) (at-loop .loop .inv .5, at-loop .loop .inv .6, λ l. absurd (omega (arith, below (at-loop .loop .i) (at-loop .loop .inv .5) (t .0 .left))))))
+    (c .if1 .came)
+
+-- after the second branch binding j is done
+abbrev After3 : Type 0
+After3 = lts.Joined3 (to-mark-reads.Asked, to-mark-reads.Learnt, marks-of-reads.Asked, marks-of-reads.Learnt) reads.Pre reads.Post Inv-loop μ-loop
+
+abbrev Done : List ℕ → List ℕ → ℕ → ℕ → ℕ → List Binding → Type 0
+Done w₀ w x j i bs = laws.Swept w₀ w x (j + 1) × (i ≤ 8) × laws.Ahead w₀ x (j + 1) i bs
+
+done : (c : After3) → Done (c .before .before .before .before .before .before .args .w .now) (c .if3 .w) (c .before .before .before .before .before .before .args .x) (c .before .before .before .loop .j) (c .if3 .i) (c .before .if1 .bs)
+done c =
+    let at-if1 = c .before in
+    let at-loop = at-if1 .before .before in
+    let at-entry = at-loop .before .before .before in
+    let w₀ = at-entry .args .w .now in
+    let x = at-entry .args .x in
+    let j = at-loop .loop .j in
+    let i = at-if1 .if1 .i in
+    let bs = at-if1 .if1 .bs in
+    let s = at-loop .loop .inv .3 in
+    let h : j < getD w₀ 1 0 = omega arith in
+    let r = ready at-if1 in
+    ⊎-elim
+    (λ t.
+    let this = laws.ahead-this w₀ x j i bs (omega arith) (r .1) (t .0 .taken) h in
+    rw (t .3, t .4) (
+      ⊎-elim (λ u. rw (u .1) (laws.swept-hit (at-entry .pre) s h (sym (u .0 .taken) ∙ this))) (λ u. rw (u .1) (laws.swept-miss (at-entry .pre) s h (sym (u .0 .left) ∙ this))) (t .2 .came),
+      omega (arith, t .0 .taken),
+      laws.ahead-next w₀ x j i bs (r .1),
+    ))
+    (λ t. rw (t .1, t .2) (laws.swept-same (at-entry .pre) s h (r .2 (omega (arith, t .0 .left))), r .0, λ q l m. absurd (omega (arith, t .0 .left))))
+    (c .if3 .came)
 
 slice-read-n : tie.Need-slice-read-n Inv-loop μ-loop
 slice-read-n c = search needs
@@ -29,91 +88,112 @@ cast-n c = search needs
 loop-holds : tie.Need-loop-holds Inv-loop μ-loop
 loop-holds c =
     let at-entry = c .before .before in
-    (omega arith, refl, at-entry .pre, refl, sym (sums.sum-zero (λ j. lenAt (at-entry .args .w .now) j)), λ j l. absurd (omega arith))
-
-mul-m : tie.Need-mul-m Inv-loop μ-loop
-mul-m c = search needs
-
-add-m : tie.Need-add-m Inv-loop μ-loop
-add-m c = search needs
-
-add-m-2 : tie.Need-add-m-2 Inv-loop μ-loop
-add-m-2 c = search needs
-
-mul-m-2 : tie.Need-mul-m-2 Inv-loop μ-loop
-mul-m-2 c = search needs
-
-slice-read-m : tie.Need-slice-read-m Inv-loop μ-loop
-slice-read-m c =
-    let at-loop = c .before .before in
-    omega (arith, at-loop .loop .inv .2 .long, at-loop .loop .inv .2 .count)
-
-cast-m : tie.Need-cast-m Inv-loop μ-loop
-cast-m c =
-    let at-loop = c .before .before in
-    let w = at-loop .loop .w in
-    let k = at-loop .loop .k in
-    let part = sums.sum-part (λ j. lenAt w j) k (getD w 1 0) (omega arith) in
-    omega (arith, at-loop .loop .inv .2 .vals)
+    let w = at-entry .args .w .now in
+    (omega arith, refl, refl, laws.swept-self w (at-entry .args .x) 0 (λ q l. absurd (omega arith)), sym (sums.sum-zero (λ q. lenAt w q)), omega arith, λ q l m. absurd (omega arith))
 
 to-mark-requires : tie.Need-to-mark-requires Inv-loop μ-loop
 to-mark-requires c κs =
     let at-loop = c .before .before .before in
-    (at-loop .loop .inv .2, omega arith, at-loop .loop .inv .4)
-
-mark-from-requires : tie.Need-mark-from-requires Inv-loop μ-loop
-mark-from-requires c κs =
-    let at-loop = c .before .before .before .before .before .before in
-    (at-loop .loop .inv .2, omega arith, at-loop .loop .inv .4, at-loop .loop .inv .5)
-
-same-length : tie.Need-same-length Inv-loop μ-loop
-same-length c = search needs
-
-returns : tie.Need-returns Inv-loop μ-loop
-returns c =
-    let at-call = c .before .before in
-    let at-loop = at-call .before .before .before .before .before .before .before in
     let at-entry = at-loop .before .before .before in
-    subst (λ (v : List ℕ). Becomes v (at-call .mark-from .last .0) (preventInline (at-entry .args .x) (stack v))) (at-loop .loop .inv .1) (at-call .mark-from .ensures)
+    let s = at-loop .loop .inv .3 in
+    let n : getD (at-loop .loop .w) 1 0 ≡ getD (at-entry .args .w .now) 1 0 = s .kept .counts 1 (omega arith) (omega arith) in
+    (laws.swept-good (at-entry .pre) s (omega arith), omega arith, at-loop .loop .inv .4 ∙ sym (laws.runs-off (at-entry .pre) (s .runs) (at-loop .loop .j) (omega (arith, at-entry .pre .count))))
 
-add-at : tie.Need-add-at Inv-loop μ-loop
-add-at c =
-    let at-loop = c .before .before .before .before .before in
-    let w = at-loop .loop .w in
-    let k = at-loop .loop .k in
-    let part = sums.sum-part (λ j. lenAt w j) k (getD w 1 0) (omega arith) in
-    omega (arith, at-loop .loop .inv .2 .vals)
+marks-of-requires : tie.Need-marks-of-requires Inv-loop μ-loop
+marks-of-requires c κs =
+    let at-loop = c .before .before .before .before .before .before in
+    let at-entry = at-loop .before .before .before in
+    let s = at-loop .loop .inv .3 in
+    let n : getD (at-loop .loop .w) 1 0 ≡ getD (at-entry .args .w .now) 1 0 = s .kept .counts 1 (omega arith) (omega arith) in
+    (laws.swept-good (at-entry .pre) s (omega arith), omega arith, at-loop .loop .inv .4 ∙ sym (laws.runs-off (at-entry .pre) (s .runs) (at-loop .loop .j) (omega (arith, at-entry .pre .count))))
 
-add-k : tie.Need-add-k Inv-loop μ-loop
-add-k c = search needs
+mul-if4 : tie.Need-mul-if4 Inv-loop μ-loop
+mul-if4 c = search needs
+
+element-copy-out-if4 : tie.Need-element-copy-out-if4 Inv-loop μ-loop
+element-copy-out-if4 c = c .before .if3 .taken
+
+mul-w : tie.Need-mul-w Inv-loop μ-loop
+mul-w c = search needs
+
+add-w : tie.Need-add-w Inv-loop μ-loop
+add-w c = search needs
+
+add-w-2 : tie.Need-add-w-2 Inv-loop μ-loop
+add-w-2 c = search needs
+
+mul-w-2 : tie.Need-mul-w-2 Inv-loop μ-loop
+mul-w-2 c = search needs
+
+slice-write-w : tie.Need-slice-write-w Inv-loop μ-loop
+slice-write-w c = search needs
+
+add-i : tie.Need-add-i Inv-loop μ-loop
+add-i c = omega (arith, ready (c .before .before .before) .0)
+
+mul-o : tie.Need-mul-o Inv-loop μ-loop
+mul-o c = search needs
+
+add-o : tie.Need-add-o Inv-loop μ-loop
+add-o c = search needs
+
+add-o-2 : tie.Need-add-o-2 Inv-loop μ-loop
+add-o-2 c = search needs
+
+mul-o-2 : tie.Need-mul-o-2 Inv-loop μ-loop
+mul-o-2 c = search needs
+
+slice-read-o : tie.Need-slice-read-o Inv-loop μ-loop
+slice-read-o c =
+    let at-entry = c .before .before .before .before .before .before .before in
+    omega (arith, done (c .before) .0 .kept .size, at-entry .pre .long, at-entry .pre .count)
+
+cast-o : tie.Need-cast-o Inv-loop μ-loop
+cast-o c =
+    let at-loop = c .before .before .before .before in
+    let at-entry = at-loop .before .before .before in
+    let w₀ = at-entry .args .w .now in
+    let j = at-loop .loop .j in
+    let part = sums.sum-part (λ q. lenAt w₀ q) j (getD w₀ 1 0) (omega arith) in
+    let len : lenAt (c .before .if3 .w) j ≡ lenAt w₀ j = done (c .before) .0 .runs .lens j (omega (arith, at-entry .pre .count)) in
+    omega (arith, at-entry .pre .vals)
+
+add-o-3 : tie.Need-add-o-3 Inv-loop μ-loop
+add-o-3 c =
+    let at-loop = c .before .before .before .before in
+    let at-entry = at-loop .before .before .before in
+    let w₀ = at-entry .args .w .now in
+    let j = at-loop .loop .j in
+    let part = sums.sum-part (λ q. lenAt w₀ q) j (getD w₀ 1 0) (omega arith) in
+    let len : lenAt (c .before .if3 .w) j ≡ lenAt w₀ j = done (c .before) .0 .runs .lens j (omega (arith, at-entry .pre .count)) in
+    omega (arith, at-entry .pre .vals)
+
+add-j : tie.Need-add-j Inv-loop μ-loop
+add-j c = search needs
 
 loop-less : tie.Need-loop-less Inv-loop μ-loop
 loop-less c = search needs
 
 loop-again : tie.Need-loop-again Inv-loop μ-loop
 loop-again c =
-    let at-loop = c .before .before .before .before .before in
-    let x = at-loop .before .before .before .args .x in
-    let w = at-loop .loop .w in
-    let k = at-loop .loop .k in
-    let inv = at-loop .loop .inv in
-    let this : bindAt w k ≡ preventOne x (bindAt w k) = laws.missing-not w k x (c .before .to-mark .result) (c .before .to-mark .ensures) (c .if1 .left) in
-    let next : at-loop .loop .at + lenAt w k ≡ off w (k + 1) = omega (arith, sums.sum-next (λ j. lenAt w j) k) in
-    (omega arith, inv .1, inv .2, inv .3, next, λ j l. ⊎-elim (λ (e : j ≡ k). rw e this) (λ (h : j < k). inv .5 j h) (eq-or-lt-of-le (omega arith)))
+    let at-loop = c .before .before .before .before in
+    let at-entry = at-loop .before .before .before in
+    let w₀ = at-entry .args .w .now in
+    let j = at-loop .loop .j in
+    let d = done (c .before) in
+    let len : lenAt (c .before .if3 .w) j ≡ lenAt w₀ j = d .0 .runs .lens j (omega (arith, at-entry .pre .count)) in
+    let next : at-loop .loop .o + lenAt (c .before .if3 .w) j ≡ off w₀ (j + 1) = omega (arith, sums.sum-next (λ q. lenAt w₀ q) j) in
+    (omega arith, d .0 .kept .size, at-loop .loop .inv .2, d .0, next, d .1, d .2)
 
-same-length-2 : tie.Need-same-length-2 Inv-loop μ-loop
-same-length-2 c = search needs
+same-length : tie.Need-same-length Inv-loop μ-loop
+same-length c = search needs
 
-returns-2 : tie.Need-returns-2 Inv-loop μ-loop
-returns-2 c =
+returns : tie.Need-returns Inv-loop μ-loop
+returns c =
     let at-loop = c .before in
     let at-entry = at-loop .before .before .before in
-    let x = at-entry .args .x in
-    let w = at-loop .loop .w in
-    let inv = at-loop .loop .inv in
-    let e : at-loop .loop .k ≡ getD w 1 0 = omega arith in
-    let all : Becomes w w (preventInline x (stack w)) = laws.swept-all x (inv .2) (laws.swept-self w x (getD w 1 0) (λ j l. inv .5 j (omega arith))) in
-    subst (λ (v : List ℕ). Becomes v w (preventInline x (stack v))) (inv .1) all
+    let e : at-loop .loop .j ≡ getD (at-entry .args .w .now) 1 0 = omega arith in
+    laws.swept-all (at-entry .args .x) (at-entry .pre) (rw e at (at-loop .loop .inv .3))
 
 pub prevent-inline-spec : {M : Type 1} → statement M
 prevent-inline-spec =
@@ -124,19 +204,25 @@ prevent-inline-spec =
     slice-read-n
     cast-n
     loop-holds
-    mul-m
-    add-m
-    add-m-2
-    mul-m-2
-    slice-read-m
-    cast-m
     to-mark-requires
-    mark-from-requires
-    same-length
-    returns
-    add-at
-    add-k
+    marks-of-requires
+    mul-if4
+    element-copy-out-if4
+    mul-w
+    add-w
+    add-w-2
+    mul-w-2
+    slice-write-w
+    add-i
+    mul-o
+    add-o
+    add-o-2
+    mul-o-2
+    slice-read-o
+    cast-o
+    add-o-3
+    add-j
     loop-less
     loop-again
-    same-length-2
-    returns-2)
+    same-length
+    returns)
