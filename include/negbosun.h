@@ -21,8 +21,8 @@
 
    Time. An ordinary script of 1,000 nodes takes under a millisecond. Yet a small file can take very long: a list of statements is walked again inside
    each list around it, and a right side of && or || is walked twice. With functions in one another, `var v = function () { ... };`, each further one
-   doubles the time: 18 take a tenth of a second, 22 take two seconds, and 31, the most that the limits let through, some twenty minutes, in a file of 156
-   nodes; with hundreds of statements in the innermost it is days. A call cannot be interrupted: whoever takes scripts from strangers makes it in a process
+   doubles the time: 18 take a tenth of a second, 22 take two seconds, and 31, the most that the limits let through, would at that rate take a quarter of
+   an hour, in a file of 156 nodes; with hundreds of statements in the innermost, days. A call cannot be interrupted: whoever takes scripts from strangers makes it in a process
    of its own and ends that after a time. docs/PERFORMANCE.md has figures. */
 #ifndef NEGBOSUN_H
 #define NEGBOSUN_H

@@ -32,8 +32,8 @@
 //! Every call ends, and an ordinary gate script of 1,000 nodes takes under a millisecond. Yet a small file can take very long, in the
 //! port as in the original: a list of statements is walked again inside each list around it, and a right side of `&&` or `||` is walked
 //! twice. With functions in one another, `var v = function () { … };`, each further one doubles the time: 18 take a tenth of a
-//! second, 22 take two seconds, and 31, the most that the limits let through, some twenty minutes, in a file of 156 nodes; with hundreds
-//! of statements in the innermost it is days. docs/PERFORMANCE.md has figures.
+//! second, 22 take two seconds, and 31, the most that the limits let through, would at that rate take a quarter of an hour, in a file
+//! of 156 nodes; with hundreds of statements in the innermost, days. docs/PERFORMANCE.md has figures.
 //!
 //! A call cannot be interrupted. Whoever takes scripts from strangers makes it in a process of its own and ends that after a time, as
 //! the tool `negbosun-inline` does with itself (`--time-limit`).
