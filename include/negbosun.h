@@ -92,6 +92,20 @@ struct negbosun_listed {
     size_t count;
 };
 
+/* The answer of negbosun_root. */
+struct negbosun_binding {
+    /* a refusal's number, or 0 */
+    uint32_t refused;
+    /* 1 if there is a root binding of that number; otherwise 0, and so are the fields below */
+    uint32_t found;
+    /* its context, which tells apart variables of one name */
+    uint64_t context;
+    /* the number of its name among the file's texts */
+    uint32_t text;
+    /* 1 if it must not be inlined, else 0 */
+    uint32_t prevented;
+};
+
 /* Runs the pass on a tree file, at most `runs` times, and writes the result's tree file from the beginning of `result`.
 
    file, file_length      the tree file, in bytes
@@ -107,7 +121,8 @@ struct negbosun_inlined negbosun_inline(const uint8_t *file, size_t file_length,
                                         size_t word_count, uint32_t runs);
 
 /* Runs the same pass and writes its root bindings instead: for each NEGBOSUN_ROOT_WORDS words, the number of its name among the file's texts, the low
-   and the high half of its context, and 1 if it must not be inlined, else 0. Each root binding comes once; their order is open.
+   and the high half of its context, and 1 if it must not be inlined, else 0. Each root binding comes once, the oldest first:
+   in the order in which the pass made them.
 
    file, file_length  the tree file, in bytes
    roots, root_words  room for the root bindings, in words; NEGBOSUN_ROOT_WORDS * NEGBOSUN_MOST_ROOTS always suffice
@@ -117,6 +132,11 @@ struct negbosun_inlined negbosun_inline(const uint8_t *file, size_t file_length,
    afterwards is as above, `roots` in place of `result`. */
 struct negbosun_listed negbosun_roots(const uint8_t *file, size_t file_length, uint32_t *roots, size_t root_words, uint32_t *words,
                                       size_t word_count, uint32_t runs);
+
+/* Runs the same pass and tells its n-th root binding, counted from 0 in the order of negbosun_roots, or that there is none. Any n will do.
+
+   Refusals 1 to 9, as above; 10 never, since no buffer is lent for the answer. The words are as above. */
+struct negbosun_binding negbosun_root(const uint8_t *file, size_t file_length, uint32_t *words, size_t word_count, uint32_t runs, uint32_t n);
 
 #ifdef __cplusplus
 }

@@ -1,4 +1,4 @@
-/* A small program over include/negbosun.h, in the C and C++ that both have: `header FILE.tree` takes a file through both functions and holds them to
+/* A small program over include/negbosun.h, in the C and C++ that both have: `header FILE.tree` takes a file through the functions and holds them to
    what the header promises. The last line is `N passed, M failed`. */
 #include <negbosun.h>
 
@@ -67,6 +67,9 @@ static void layout(void) {
     check(offsetof(struct negbosun_inlined, changed) == 20, "its mark is at 20");
     check(sizeof(struct negbosun_listed) == 16, "the other one has 16");
     check(offsetof(struct negbosun_listed, count) == 8, "its count is at 8");
+    check(sizeof(struct negbosun_binding) == 24, "a root binding has 24");
+    check(offsetof(struct negbosun_binding, context) == 8, "its context is at 8");
+    check(offsetof(struct negbosun_binding, prevented) == 20, "its mark is at 20");
 }
 
 static void results(void) {
@@ -92,6 +95,32 @@ static void lists(void) {
     check(lists_refusal(list_roots(file_length, used - 1, NEGBOSUN_WORDS, NEGBOSUN_MOST_RUNS), NEGBOSUN_REFUSED_ROOM), "one word below is 10");
 }
 
+static struct negbosun_binding root_of(size_t length, size_t count, uint32_t runs, uint32_t n) {
+    memset(words, BYTE, sizeof words);
+    return negbosun_root(file, length, words, count, runs, n);
+}
+
+static int is_none(struct negbosun_binding answer, uint32_t number) {
+    return answer.refused == number && answer.found == 0 && answer.context == 0 && answer.text == 0 && answer.prevented == 0;
+}
+
+/* the n-th of the listing is the root binding of number n */
+static void numbers(void) {
+    struct negbosun_listed done = list_roots(file_length, ROOT_WORDS, NEGBOSUN_WORDS, NEGBOSUN_MOST_RUNS);
+    for (uint32_t n = 0; n < done.count; n++) {
+        const uint32_t *at = roots + NEGBOSUN_ROOT_WORDS * n;
+        struct negbosun_binding one = root_of(file_length, NEGBOSUN_WORDS + BEHIND, NEGBOSUN_MOST_RUNS, n);
+        check(one.refused == 0 && one.found == 1 && one.text == at[0] && one.prevented == at[3], "a root binding by its number");
+        check(one.context == ((uint64_t)at[2] << 32 | at[1]), "its context");
+        check(words_cleared(), "a root binding leaves cleared words");
+    }
+    check(is_none(root_of(file_length, NEGBOSUN_WORDS, NEGBOSUN_MOST_RUNS, (uint32_t)done.count), 0), "none behind the last");
+    check(is_none(root_of(file_length, NEGBOSUN_WORDS, NEGBOSUN_MOST_RUNS, UINT32_MAX), 0), "none at the greatest number");
+    check(is_none(root_of(file_length, NEGBOSUN_WORDS - 1, 1, 0), NEGBOSUN_REFUSED_RUNS_OR_WORDS), "a word less is 1");
+    check(all_are(words, sizeof words, BYTE), "1 keeps the words");
+    check(is_none(root_of(file_length - 1, NEGBOSUN_WORDS, 1, 0), NEGBOSUN_REFUSED_LENGTHS), "a byte less is 4");
+}
+
 static void refusals(void) {
     check(is_refusal(inline_file(file_length, sizeof result, NEGBOSUN_WORDS, 0), NEGBOSUN_REFUSED_RUNS_OR_WORDS), "no run is 1");
     check(is_refusal(inline_file(file_length, sizeof result, NEGBOSUN_WORDS, NEGBOSUN_MOST_RUNS + 1), NEGBOSUN_REFUSED_RUNS_OR_WORDS), "17 runs are 1");
@@ -115,6 +144,7 @@ int main(int count, char **given) {
     layout();
     results();
     lists();
+    numbers();
     refusals();
     printf("%d passed, %d failed\n", passed, failed);
     return failed != 0;

@@ -1,7 +1,7 @@
-/* Calls the C functions of crates/pass. A line of standard input is `inline HEX ROOM WORDS RUNS` or `roots HEX ROOM WORDS RUNS`: a
-   file's bytes (`-` for none), the length of the buffer for the answer (bytes, or words of root bindings), the number of working words
-   and the run limit. For each it prints `REFUSED LENGTH RUNS CHANGED WRITTEN KEPT STATE STACK`: the numbers of the answer (0 0 for the
-   runs and mark of `roots`), what was written, in hex digits (`-` for nothing), whether all behind it and the file are as they were, the
+/* Calls the C functions of crates/pass. A line of standard input is `inline HEX ROOM WORDS RUNS`, `roots HEX ROOM WORDS RUNS` or `root HEX N
+   WORDS RUNS`: a file's bytes (`-` for none), the length of the buffer for the answer (bytes, or words of root bindings) or the number of a root
+   binding, the number of working words and the run limit. For each it prints `REFUSED LENGTH RUNS CHANGED WRITTEN KEPT STATE STACK`: the numbers of the answer (0 0 for the
+   runs and mark of `roots`; of `root` whether there is one as the length, and its four words as what was written), what was written, in hex digits (`-` for nothing), whether all behind it and the file are as they were, the
    working words: `same`, `clear` (the first 16,384 are 0, the others as they were) or `other`, and how many bytes of stack were used.
    Each call has a painted stack of 256 KiB with a guard below it. */
 #include <pthread.h>
@@ -17,11 +17,12 @@
 enum { STACK = 256 * 1024, PAGE = 4096, PAINT = 0x5a };
 
 struct call {
-    int wants_roots;
+    char what;
     const uint8_t *file;
     size_t file_length;
     uint8_t *result;
     size_t room;
+    size_t number;
     uint32_t *words;
     size_t count;
     uint32_t runs;
@@ -36,7 +37,13 @@ static void *on_stack(void *given) {
     struct call *c = given;
     uint8_t here;
     c->top = &here;
-    if (c->wants_roots) {
+    if (c->what == 'n') {
+        struct negbosun_binding r = negbosun_root(c->file, c->file_length, c->words, c->count, c->runs, (uint32_t)c->number);
+        uint32_t all[4] = {r.text, (uint32_t)r.context, (uint32_t)(r.context >> 32), r.prevented};
+        c->answer = (struct negbosun_inlined){r.refused, r.found, 0, 0};
+        c->written = 16 * (size_t)r.found;
+        memcpy(c->result, all, c->written);
+    } else if (c->what == 'r') {
         struct negbosun_listed r = negbosun_roots(c->file, c->file_length, (uint32_t *)c->result, c->room, c->words, c->count, c->runs);
         c->answer = (struct negbosun_inlined){r.refused, r.count, 0, 0};
         c->written = 16 * r.count;
@@ -80,8 +87,13 @@ static void show(const struct call *c, size_t all, const uint8_t *before, size_t
 }
 
 static void run(const char *what, const char *hex, size_t room, size_t count, uint32_t runs) {
-    int wants_roots = strcmp(what, "roots") == 0;
-    size_t all = room * (wants_roots ? 4 : 1) + GUARD;
+    /* `i` the result, `r` all root bindings, `n` the one of a number, for whose words there is room */
+    char asks = strcmp(what, "root") == 0 ? 'n' : what[0];
+    size_t number = room;
+    if (asks == 'n') {
+        room = 4;
+    }
+    size_t all = room * (asks == 'i' ? 1 : 4) + GUARD;
     uint8_t *file = malloc(strlen(hex) + 1), *before = malloc(strlen(hex) + 1);
     uint8_t *result = malloc(all);
     uint32_t *words = malloc((count + GUARD) * sizeof *words);
@@ -93,7 +105,7 @@ static void run(const char *what, const char *hex, size_t room, size_t count, ui
     for (size_t i = 0; i < count + GUARD; i++) {
         words[i] = word_at(i);
     }
-    struct call c = {wants_roots, file, n, result, room, words, count, runs, {0, 0, 0, 0}, 0, NULL};
+    struct call c = {asks, file, n, result, room, number, words, count, runs, {0, 0, 0, 0}, 0, NULL};
     size_t used = call_on_stack(&c);
     show(&c, all, before, used);
     free(file);

@@ -42,7 +42,7 @@ class Port:
         return (*map(int, line[:4]), bytes.fromhex(line[4].strip("-")), line[5] == "1", line[6])
 
     def answer(self, file, runs=16):
-        """What the program prints, the root lines sorted; or what is wrong with the buffers."""
+        """What the program prints; or what is wrong with the buffers."""
         refused, _, done, changed, result, kept, state = self.call("inline", file, MOST_BYTES, runs=runs)
         again, count, _, _, roots, kept2, state2 = self.call("roots", file, MOST_ROOTS, runs=runs)
         if again != refused or not kept or not kept2 or state != state2 or state != ("same" if refused == 1 else "clear"):
@@ -68,14 +68,9 @@ def texts_of(file):
 
 
 def root_lines(roots, count):
-    """The lines of the root bindings, four words each, sorted: their order is open."""
+    """The lines of the root bindings, four words each, in their order."""
     all_words = (struct.unpack_from("<4I", roots, 16 * i) for i in range(count))
-    return sorted("root %d %08x%08x %d" % (text, high, low, mark) for text, low, high, mark in all_words)
-
-
-def by_root(printed):
-    lines = printed.splitlines()
-    return "\n".join([x for x in lines if x[:5] != "root "] + sorted(x for x in lines if x[:5] == "root ")) + "\n"
+    return ["root %d %08x%08x %d" % (text, high, low, mark) for text, low, high, mark in all_words]
 
 
 def vectors():
@@ -107,8 +102,21 @@ def replay(count, port, stored):
     """Every stored vector through both C functions."""
     for number, (file, runs, answer) in enumerate(stored):
         got = port.answer(file, runs)
-        count.check(got == by_root(answer), "vector %d: %.200r, not %.200r", number, got, answer)
+        count.check(got == answer, "vector %d: %.200r, not %.200r", number, got, answer)
     print("vectors: %d" % len(stored))
+
+
+def by_number(count, port, stored):
+    """Every root binding of the stored vectors by its number, none behind the last, and none at the greatest number."""
+    asked = 0
+    for number, (file, runs, answer) in enumerate(stored):
+        refused, many, _, _, roots, _, state = port.call("roots", file, MOST_ROOTS, runs=runs)
+        for n in [*range(many), many, 2 ** 32 - 1]:
+            want = (refused, int(n < many), 0, 0, roots[16 * n:16 * n + 16] if n < many else b"", True, state)
+            got = port.call("root", file, n, runs=runs)
+            count.check(got == want, "vector %d, root binding %d: %r, not %r", number, n, got, want)
+            asked += 1
+    print("root bindings by number: %d" % asked)
 
 
 def program(count, path, stored):
@@ -119,7 +127,7 @@ def program(count, path, stored):
     files += [(struct.pack("<8I", *header(1025, 0, 0)) + bytes(70000), "refused 3\n"), (bytes(70000), "refused 2\n")]
     for number, (file, answer) in enumerate(files):
         got = subprocess.run([path], input=file, capture_output=True, check=False)
-        count.check(got.returncode == 0 and by_root(got.stdout.decode()) == by_root(answer), "program, file %d: %.200r", number, got.stdout)
+        count.check(got.returncode == 0 and got.stdout.decode() == answer, "program, file %d: %.200r", number, got.stdout)
     print("program: %d" % len(files))
 
 
@@ -320,6 +328,7 @@ def stack(count, port):
 def main(driver, path):
     count, port, stored = Count(), Port(driver), list(vectors())
     replay(count, port, stored)
+    by_number(count, port, stored)
     row1(count, port, stored)
     row10(count, port, stored)
     pairs(count, port, stored)

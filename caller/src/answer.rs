@@ -54,13 +54,32 @@ impl Inlined {
         self.tree().nodes()
     }
 
-    /// Each root binding once; the order is open.
+    /// Each root binding once, the oldest first.
     pub fn roots(&self) -> Roots<'_> {
         Roots {
             file: self.tree(),
             rest: self.roots.iter(),
         }
     }
+
+    /// The n-th root binding, counted from 0, the oldest first.
+    #[must_use]
+    pub fn root(&self, n: usize) -> Option<Root<'_>> {
+        let words = self.roots.get(n)?;
+        Some(Root::new(self.tree(), *words))
+    }
+}
+
+/// What [`root_of`](crate::root_of) tells of a root binding.
+#[derive(Clone, Copy, Debug, PartialEq, Eq)]
+#[non_exhaustive]
+pub struct RootBinding {
+    /// The number of its name among the file's texts.
+    pub text: u32,
+    /// Its context, which tells apart variables of one name.
+    pub context: u64,
+    /// Its own mark: whether it must not be inlined.
+    pub prevented: bool,
 }
 
 /// A binding of the root scope.

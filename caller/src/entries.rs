@@ -16,6 +16,16 @@ pub(crate) struct Roots {
     pub count: usize,
 }
 
+/// A refusal's number; or 0, and 1 if there is a root binding of the number asked for: then its context, text number and mark.
+#[repr(C)]
+pub(crate) struct Binding {
+    pub refused: u32,
+    pub found: u32,
+    pub context: u64,
+    pub text: u32,
+    pub prevented: u32,
+}
+
 extern "C" {
     pub(crate) fn negbosun_inline(
         file: *const u8,
@@ -36,4 +46,13 @@ extern "C" {
         word_count: usize,
         runs: u32,
     ) -> Roots;
+
+    pub(crate) fn negbosun_root(
+        file: *const u8,
+        file_length: usize,
+        words: *mut u32,
+        word_count: usize,
+        runs: u32,
+        n: u32,
+    ) -> Binding;
 }

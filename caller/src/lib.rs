@@ -52,7 +52,7 @@ mod kind;
 mod refusal;
 mod tree;
 
-pub use answer::{printed, Inlined, Root, Roots};
+pub use answer::{printed, Inlined, Root, RootBinding, Roots};
 pub use kind::Kind;
 pub use refusal::Refusal;
 pub use tree::{Node, Nodes, TreeFile};
@@ -120,7 +120,7 @@ pub fn inline_into(
     }
 }
 
-/// Runs the same pass and writes the root bindings instead: text number, the context's low and high half, and the prevented mark of
+/// Runs the same pass and writes the root bindings instead, the oldest first: text number, the context's low and high half, and the prevented mark of
 /// each. Answers how many there are; [`MOST_ROOTS`] always suffice. The words are as with [`inline_into`].
 ///
 /// # Errors
@@ -148,6 +148,39 @@ pub fn roots_into(
     match Refusal::from_number(answer.refused) {
         Some(refusal) => Err(refusal),
         None => Ok(answer.count),
+    }
+}
+
+/// Runs the same pass and tells its n-th root binding, counted from 0 in the order of [`roots_into`], or that there is none. Any `n` will
+/// do. The words are as with [`inline_into`]. [`Inlined::roots`] has all of them after one pass.
+///
+/// # Errors
+///
+/// Those of [`inline_into`] but [`Refusal::Room`].
+pub fn root_of(
+    file: &[u8],
+    words: &mut [u32],
+    runs: u32,
+    n: u32,
+) -> Result<Option<RootBinding>, Refusal> {
+    // SAFETY: as in `inline_into`, with two slices.
+    let answer = unsafe {
+        entries::negbosun_root(
+            file.as_ptr(),
+            file.len(),
+            words.as_mut_ptr(),
+            words.len(),
+            runs,
+            n,
+        )
+    };
+    match Refusal::from_number(answer.refused) {
+        Some(refusal) => Err(refusal),
+        None => Ok((answer.found != 0).then_some(RootBinding {
+            text: answer.text,
+            context: answer.context,
+            prevented: answer.prevented != 0,
+        })),
     }
 }
 

@@ -9,7 +9,8 @@ mod files;
 
 use files::{one, seven, tree_file};
 use negbosun::{
-    inline, inline_into, printed, roots_into, Inliner, Refusal, MOST_BYTES, MOST_RUNS, WORDS,
+    inline, inline_into, printed, root_of, roots_into, Inliner, Refusal, MOST_BYTES, MOST_RUNS,
+    WORDS,
 };
 
 fn marked_words(count: usize) -> Vec<u32> {
@@ -49,6 +50,25 @@ fn root_bindings_have_their_context_whole() {
     assert_eq!(inlined.roots().len(), 1);
     assert_eq!((inlined.runs(), inlined.nodes().len()), (2, 6));
     assert!(inlined.to_string().ends_with("root 1 0000000300000002 0\n"));
+}
+
+#[test]
+fn root_bindings_have_numbers_from_0() {
+    let mut words = marked_words(WORDS);
+    let first = root_of(&one(), &mut words, MOST_RUNS, 0).unwrap().unwrap();
+    assert_eq!(
+        (first.text, first.context, first.prevented),
+        (1, 0x0000_0003_0000_0002, false)
+    );
+    assert!(words.iter().all(|word| *word == 0));
+    for n in [1, 2, u32::MAX] {
+        assert_eq!(root_of(&one(), &mut words, MOST_RUNS, n), Ok(None));
+    }
+    assert_eq!(root_of(&one(), &mut words, 0, 0), Err(Refusal::RunsOrWords));
+    assert_eq!(root_of(b"", &mut words, 1, 0), Err(Refusal::Header));
+    let inlined = inline(&one(), MOST_RUNS).unwrap();
+    assert_eq!(inlined.root(0), inlined.roots().next());
+    assert_eq!(inlined.root(1), None);
 }
 
 #[test]

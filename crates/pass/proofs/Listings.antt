@@ -1,10 +1,12 @@
--- The ends of the C function that lists the root bindings: row 1, rows 2 to 9, row 10, and all bindings. Assumes nothing.
+-- The ends of the C functions that tell the root bindings: row 1, rows 2 to 9, row 10, and all bindings or the one of a number. Assumes nothing.
 use mathlib.Core.Path.{_≡_, refl, sym, ap, _∙_, subst}
 use mathlib.Core.Bool.{Bool, true, false}
+use mathlib.Core.Option.{Option, none, some}
 use mathlib.Core.List.{List, map}
 use Prim.Native.Nat.{ℕ}
 use native.Mathlib.Omega.{arith}
 use lib.ListN.{length, getD}
+use Rattle.def_tree.specs.Base.{toNat}
 use Rattle.words.specs.Moved.{Cleared}
 use Rattle.def_file.specs.declared.Raw.{Raw}
 use Rattle.def_file.specs.Script.{zeroNode}
@@ -24,35 +26,46 @@ use Rattle.pass_answers.specs.declared.Roots.{Roots}
 use Rattle.pass_run.specs.Inline.{readRuns, Final, FileIs}
 use Rattle.pass_answers.specs.Entry.{enough}
 use Rattle.pass_roots.specs.Listing.{Known, rootsIn, Listing, refused, listed, inRoom, left, SaysSo, WroteRoots}
-use Rattle.pass_answers.specs.Roots.{answered, listing, numbers, RootsIs}
+use Rattle.pass_roots.specs.declared.RootAt.{RootAt}
+use Rattle.pass_roots.specs.declared.RootAt.the-variants as RootAt
+use Rattle.pass_roots.specs.Nth.{nth, nthIs}
+use Rattle.pass_answers.specs.declared.RootBinding.{RootBinding}
+use Rattle.pass_answers.specs.Roots.{said, overRoots, listing, numbers, RootsIs, NthRoot, stopped, given, nthRoot, nthNumbers, RootIs}
 use Rattle.pass_run.proofs.Files.{is-found, node-count}
 
--- how it ends, by row 1
-listing-by : (n words : ℕ) (bs : List ℕ) (room : ℕ) (p : Bool) → enough n words ≡ p → listing n words bs room ≡ elim p [ false ↦ refused 1 | true ↦ answered room (passReadF n (read bs)) ]
-unfolding listing passFileF
-listing-by n words bs room p e =
-    ap {B = Listing} (λ (q : Bool). elim q [ false ↦ refused 1 | true ↦ answered room (passFile n bs) ]) e
-    ∙ ap {B = Listing} (λ (x : Answer). elim p [ false ↦ refused 1 | true ↦ answered room x ]) (sym (file-same n bs))
+-- what is said of the root bindings: how it ends, by row 1, and by rows 2 to 9
+module _ {Z : Type 0} (stop : ℕ → Z) (of : List Root → Z) where
+  over-by : (n words : ℕ) (bs : List ℕ) (p : Bool) → enough n words ≡ p → overRoots stop of n words bs ≡ elim p [ false ↦ stop 1 | true ↦ said stop of (passReadF n (read bs)) ]
+  unfolding overRoots passFileF
+  over-by n words bs p e =
+      ap {B = Z} (λ (q : Bool). elim q [ false ↦ stop 1 | true ↦ said stop of (passFile n bs) ]) e
+      ∙ ap {B = Z} (λ (x : Answer). elim p [ false ↦ stop 1 | true ↦ said stop of x ]) (sym (file-same n bs))
+
+  none-said : (n m : ℕ) (x : Read) → refusedF m ≡ readRuns n x → said stop of (passReadF n x) ≡ stop m
+  unfolding passF
+  none-said n m (bad k) e = ap stop (sym (number m k e))
+    where
+      number : (m k : ℕ) → refusedF m ≡ refusedF k → m ≡ k
+      number m k e = cc
+  none-said n m (script s) e = ap (λ (x : OutcomeF). said stop of (answerF s x)) (sym e)
+
+  pub row-one : (n words : ℕ) (bs : List ℕ) → enough n words ≡ false → overRoots stop of n words bs ≡ stop 1
+  row-one n words bs e = over-by n words bs false e
+
+  pub row-middle : {bs w u : List ℕ} (n m : ℕ) → enough n (length w) ≡ true → FileIs bs w u n (Ran.Refused m) → overRoots stop of n (length w) bs ≡ stop m
+  row-middle {bs} {w} n m e G = over-by n (length w) bs true e ∙ none-said n m (read bs) (G .is)
 
 roots-is : {bs r r′ w w′ : List ℕ} {c : Roots} (n : ℕ) (p : Bool) (z : Listing) → enough n (length w) ≡ p → listing n (length w) bs (length r) ≡ z → c ≡ numbers z → r′ ≡ left r z → WordsAre w w′ p → RootsIs bs r r′ w w′ n c
 roots-is {bs} {r} {r′} {w} {w′} n p z q e a l h = record { answer = a ∙ ap numbers (sym e); roots = l ∙ ap (left r) (sym e); words = subst (WordsAre w w′) (sym q) h }
 
 pub first-row : {bs r w : List ℕ} (n : ℕ) → enough n (length w) ≡ false → RootsIs bs r r w w n (record { refused = 1; count = 0 })
-first-row {bs} {r} {w} n e = roots-is n false (refused 1) e (listing-by n (length w) bs (length r) false e) refl refl refl
+first-row {bs} {r} {w} n e = roots-is n false (refused 1) e (row-one refused (inRoom (length r)) n (length w) bs e) refl refl refl
 
 -- rows 2 to 9
-no-listing : (n room m : ℕ) (x : Read) → refusedF m ≡ readRuns n x → answered room (passReadF n x) ≡ refused m
-unfolding passF
-no-listing n room m (bad k) e = ap {B = Listing} (λ (i : ℕ). refused i) (sym (number m k e))
-  where
-    number : (m k : ℕ) → refusedF m ≡ refusedF k → m ≡ k
-    number m k e = cc
-no-listing n room m (script s) e = ap (λ (x : OutcomeF). answered room (answerF s x)) (sym e)
-
 pub middle-row : {bs r w u : List ℕ} {x : Ran} (n m : ℕ) → enough n (length w) ≡ true → FileIs bs w u n x → x ≡ Ran.Refused m → RootsIs bs r r w u n (record { refused = m; count = 0 })
 middle-row {bs} {r} {w} {u} {x} n m e F q =
     let G : FileIs bs w u n (Ran.Refused m) = subst (FileIs bs w u n) q F in
-    roots-is n true (refused m) e (listing-by n (length w) bs (length r) true e ∙ no-listing n (length r) m (read bs) (G .is)) refl refl (G .words)
+    roots-is n true (refused m) e (row-middle refused (inRoom (length r)) n m e G) refl refl (G .words)
 
 -- the identifiers are those of the file's nodes
 pub known : {bs w u : List ℕ} → Final bs w u → Known bs u
@@ -75,6 +88,26 @@ says-so (Written.Refused k) (refused m) h = same k m h
     same i j e = cc
 says-so (Written.Refused k) (listed rs) h = absurd h
 
+-- the binding of a number: the answer's numbers, and the rows
+abbrev pub tells : RootAt → RootBinding
+tells (RootAt.Found text context prevented) = record { refused = 0; found = 1; context = context; text = text; prevented = toNat prevented }
+tells RootAt.Nothing = record { refused = 0; found = 0; context = 0; text = 0; prevented = 0 }
+
+tells-so : (r : Option Root) → tells (nthIs r) ≡ nthNumbers (given r)
+tells-so none = refl
+tells-so (some r) = refl
+
+root-is : {bs w w′ : List ℕ} {c : RootBinding} (n i : ℕ) (p : Bool) (z : NthRoot) → enough n (length w) ≡ p → nthRoot n (length w) bs i ≡ z → c ≡ nthNumbers z → WordsAre w w′ p → RootIs bs w w′ n i c
+root-is {bs} {w} {w′} n i p z q e a h = record { answer = a ∙ ap nthNumbers (sym e); words = subst (WordsAre w w′) (sym q) h }
+
+pub nth-first : {bs w : List ℕ} (n i : ℕ) → enough n (length w) ≡ false → RootIs bs w w n i (record { refused = 1; found = 0; context = 0; text = 0; prevented = 0 })
+nth-first {bs} {w} n i e = root-is n i false (stopped 1) e (row-one stopped (λ rs. given (nth i rs)) n (length w) bs e) refl refl
+
+pub nth-middle : {bs w u : List ℕ} {x : Ran} (n i m : ℕ) → enough n (length w) ≡ true → FileIs bs w u n x → x ≡ Ran.Refused m → RootIs bs w u n i (record { refused = m; found = 0; context = 0; text = 0; prevented = 0 })
+nth-middle {bs} {w} {u} {x} n i m e F q =
+    let G : FileIs bs w u n (Ran.Refused m) = subst (FileIs bs w u n) q F in
+    root-is n i true (stopped m) e (row-middle stopped (λ rs. given (nth i rs)) n m e G) refl (G .words)
+
 -- all bindings, or row 10
 abbrev asRoot : Raw → Bool → Root
 asRoot x b = record { key = x; mark = b }
@@ -87,17 +120,30 @@ module _ {bs w u : List ℕ} {a : Ran} {n k : ℕ} {c : Bool} (f : FileIs bs w u
   unfolding rootOf
   same-roots = ap (λ (is : List Raw). map (λ (r : ℕ × Bool). asRoot (getD is (r .0) zeroNode) (r .1)) (rootMarks (stack u))) (ran .words .ids)
 
-  some-listing : (room : ℕ) → answered room (passReadF n (read bs)) ≡ inRoom room (rootsIn bs u)
+  pub row-last : {Z : Type 0} (stop : ℕ → Z) (of : List Root → Z) → enough n (length w) ≡ true → overRoots stop of n (length w) bs ≡ of (rootsIn bs u)
   unfolding passF
-  some-listing room =
-      ap (λ (x : Read). answered room (passReadF n x)) (ran .words .is)
-      ∙ ap (λ (x : OutcomeF). answered room (answerF (ran .words .script) x)) (sym (ran .is ∙ ap (readRuns n) (ran .words .is)))
-      ∙ ap (inRoom room) (sym same-roots)
+  row-last stop of e =
+      over-by stop of n (length w) bs true e
+      ∙ ap (λ (x : Read). said stop of (passReadF n x)) (ran .words .is)
+      ∙ ap (λ (x : OutcomeF). said stop of (answerF (ran .words .script) x)) (sym (ran .is ∙ ap (readRuns n) (ran .words .is)))
+      ∙ ap of (sym same-roots)
+
+  pub words-are : {w′ : List ℕ} → Cleared u w′ → WordsAre w w′ true
+  words-are C = record { size = C .size ∙ ran .words .kept .size; here = C .here; rest = C .rest ∙ ran .words .kept .rest }
 
   pub last-row : {r r′ w′ : List ℕ} {x : Written} → WroteRoots r r′ (inRoom (length r) (rootsIn bs u)) x → Cleared u w′ → enough n (length w) ≡ true → (z : Written) → x ≡ z → RootsIs bs r r′ w w′ n (wrote z)
   last-row {r} {r′} {w′} {x} O C e z h =
       roots-is n true (inRoom (length r) (rootsIn bs u)) e
-      (listing-by n (length w) bs (length r) true e ∙ some-listing (length r))
+      (row-last refused (inRoom (length r)) e)
       (ap wrote (sym h) ∙ says-so x (inRoom (length r) (rootsIn bs u)) (O .says))
       (O .leaves)
-      (record { size = C .size ∙ ran .words .kept .size; here = C .here; rest = C .rest ∙ ran .words .kept .rest })
+      (words-are C)
+
+  -- the binding of a number
+  pub nth-row : {w′ : List ℕ} {x : RootAt} (i : ℕ) → x ≡ nthIs (nth i (rootsIn bs u)) → Cleared u w′ → enough n (length w) ≡ true → (z : RootAt) → x ≡ z → RootIs bs w w′ n i (tells z)
+  nth-row {w′} {x} i O C e z h =
+      root-is n i true (given (nth i (rootsIn bs u))) e (row-last stopped (λ rs. given (nth i rs)) e) (ap tells (sym h ∙ O) ∙ tells-so (nth i (rootsIn bs u))) (words-are C)
+
+  -- with the mark as a number
+  pub nth-found : {w′ : List ℕ} {x : RootAt} {text context m : ℕ} {p : Bool} (i : ℕ) → x ≡ nthIs (nth i (rootsIn bs u)) → Cleared u w′ → enough n (length w) ≡ true → x ≡ RootAt.Found text context p → m ≡ toNat p → RootIs bs w w′ n i (record { refused = 0; found = 1; context = context; text = text; prevented = m })
+  nth-found {w′} {x} {text} {context} {m} {p} i O C e h q = subst (λ (v : ℕ). RootIs bs w w′ n i (record { refused = 0; found = 1; context = context; text = text; prevented = v })) (sym q) (nth-row i O C e (RootAt.Found text context p) h)

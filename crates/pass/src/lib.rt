@@ -2,11 +2,14 @@
 ghost use mathlib.Core.Path.{_≡_};
 ghost use Rattle.def_tree.specs.Base.{toNat};
 ghost use Rattle.pass_answers.specs.Entry.{enough, InlineIs};
-ghost use Rattle.pass_answers.specs.Roots.{RootsIs};
+ghost use Rattle.pass_answers.specs.Roots.{RootsIs, RootIs};
 use file_write::Written;
 use file_write::write;
 use pass_answers::Inlined;
+use pass_answers::RootBinding;
 use pass_answers::Roots;
+use pass_roots::RootAt;
+use pass_roots::root_at;
 use pass_roots::write_roots;
 use pass_run::Ran;
 use pass_run::inline::inline_file;
@@ -72,8 +75,8 @@ pub extern "C" fn negbosun_inline(
     }
 }
 
-// Rows 1 to 10, of the pass over the file. What is written are the root bindings, four words for each: text number, context's low and high
-// half, prevented mark.
+// Rows 1 to 10, of the pass over the file. What is written are the root bindings, oldest first, four words for each: text number, context's low
+// and high half, prevented mark.
 #[no_mangle]
 pub extern "C" fn negbosun_roots(
     file: &[u8],
@@ -103,5 +106,58 @@ pub extern "C" fn negbosun_roots(
             }
         }
         Ran::Refused(refused) => Roots { refused, count: 0 },
+    }
+}
+
+// Rows 1 to 9, of the pass over the file. The answer is the n-th root binding, from 0, oldest first, or that there is none.
+#[no_mangle]
+pub extern "C" fn negbosun_root(file: &[u8], words: &mut [u32], runs: u32, n: u32) -> RootBinding
+    ensures { λ r. ⌜ RootIs (now (file .entry)) (now (words .entry)) (now (words .exit)) runs n r ⌝ }
+{
+    if !enough(runs, words.len()) {
+        return RootBinding {
+            refused: 1,
+            found: 0,
+            context: 0,
+            text: 0,
+            prevented: 0,
+        };
+    }
+    let ran = inline_file(file, words, runs);
+    match ran {
+        Ran::Done {
+            runs: _,
+            changed: _,
+        } => {
+            let root = root_at(file, words, n as usize);
+            clear(words);
+            match root {
+                RootAt::Found {
+                    text,
+                    context,
+                    prevented,
+                } => RootBinding {
+                    refused: 0,
+                    found: 1,
+                    context,
+                    text,
+                    prevented: number(prevented),
+                },
+                RootAt::Nothing => RootBinding {
+                    refused: 0,
+                    found: 0,
+                    context: 0,
+                    text: 0,
+                    prevented: 0,
+                },
+            }
+        }
+        Ran::Refused(refused) => RootBinding {
+            refused,
+            found: 0,
+            context: 0,
+            text: 0,
+            prevented: 0,
+        },
     }
 }

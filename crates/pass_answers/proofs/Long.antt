@@ -10,11 +10,12 @@ use lib.Dec.{leb, eqb}
 use lib.ListN.{length, take, drop, length-take}
 use Rattle.def_file.specs.Read.{Read, bad, number, u32, header, parts, read}
 use Rattle.laws_roundtrip.proofs.Header.{row3, row4, headed, and-true}
-use Rattle.def_pass.specs.Script.{passRead, passFile}
+use Rattle.def_pass.specs.Script.{Root, passRead, passFile}
 use Rattle.def_pass.specs.Entry.{Entry, refused, entryRead, entry}
 use Rattle.pass_roots.specs.Listing as lists
+use Rattle.pass_roots.specs.Nth.{nth}
 use Rattle.pass_answers.specs.Entry.{enough}
-use Rattle.pass_answers.specs.Roots.{answered, listing}
+use Rattle.pass_answers.specs.Roots.{said, overRoots, stopped, given}
 use Rattle.pass_answers.specs.Long.{cutAt, CutAlike}
 
 -- a field that is kept whole
@@ -71,9 +72,14 @@ cut-entry : (runs words : ℕ) (bs : List ℕ) (room m : ℕ) → 21537 ≤ m �
 unfolding entry
 cut-entry runs words bs room m k l = ap {B = Entry} (λ (x : Read). elim (enough runs words) [ false ↦ refused 1 | true ↦ entryRead runs room x ]) (cut-read m bs k l)
 
-cut-listing : (runs words : ℕ) (bs : List ℕ) (room m : ℕ) → 21537 ≤ m → 21537 ≤ length bs → listing runs words (take m bs) room ≡ listing runs words bs room
-unfolding listing passFile
-cut-listing runs words bs room m k l = ap {B = lists.Listing} (λ (x : Read). elim (enough runs words) [ false ↦ lists.refused 1 | true ↦ answered room (passRead runs x) ]) (cut-read m bs k l)
+-- what is said of the root bindings
+cut-over : {Z : Type 0} (stop : ℕ → Z) (of : List Root → Z) (runs words : ℕ) (bs : List ℕ) (m : ℕ) → 21537 ≤ m → 21537 ≤ length bs → overRoots stop of runs words (take m bs) ≡ overRoots stop of runs words bs
+unfolding overRoots passFile
+cut-over {Z} stop of runs words bs m k l = ap {B = Z} (λ (x : Read). elim (enough runs words) [ false ↦ stop 1 | true ↦ said stop of (passRead runs x) ]) (cut-read m bs k l)
 
 pub cut-alike : CutAlike
-cut-alike runs words bs room l = (cut-entry runs words bs room cutAt (omega arith) l, cut-listing runs words bs room cutAt (omega arith) l)
+cut-alike runs words bs room n l = (
+  cut-entry runs words bs room cutAt (omega arith) l,
+  cut-over lists.refused (lists.inRoom room) runs words bs cutAt (omega arith) l,
+  cut-over stopped (λ rs. given (nth n rs)) runs words bs cutAt (omega arith) l,
+)

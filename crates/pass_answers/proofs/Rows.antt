@@ -10,15 +10,17 @@ use lib.ListN.{length, drop}
 use Rattle.def_pass.specs.Tree.{Tree}
 use Rattle.def_file.specs.Script.{Script, idents}
 use Rattle.def_file.specs.Read.{Read, bad, script, u32, endsFrom, textsFrom, nodesFrom, rising, distinct, nodesOk, checked, read}
-use Rattle.def_pass.specs.Script.{Answer, no!, yes!, answer, coreTree, passTree, pass, passRead, passFile}
+use Rattle.def_pass.specs.Script.{Root, Answer, no!, yes!, answer, coreTree, passTree, pass, passRead, passFile}
 use Rattle.def_pass.specs.Entry.{Entry, refused, passed, written, entryRead, entry}
 use Rattle.def_pass.specs.Paired.{fileOf}
 use Rattle.pass_roots.specs.Listing as lists
+use Rattle.pass_roots.specs.Nth.{nth}
 use Rattle.pass_answers.specs.Roots as roots
 use Rattle.pass_answers.specs.declared.Inlined.{Inlined}
 use Rattle.pass_answers.specs.declared.Roots.{Roots}
+use Rattle.pass_answers.specs.declared.RootBinding.{RootBinding}
 use Rattle.pass_answers.specs.Entry.{numbers}
-use Rattle.pass_answers.specs.Rows.{EntryRow, ListingRow, Rows, Result, Listed, InlineZero, RootsZero}
+use Rattle.pass_answers.specs.Rows.{EntryRow, ListingRow, NthRow, Rows, Result, Listed, Given, InlineZero, RootsZero, RootZero}
 use Rattle.def_pass.specs.Walk as Walk
 use Rattle.laws_pass.proofs.Refusals.{Low, runs-low}
 
@@ -73,7 +75,7 @@ r-read bs =
     (r-test (rising 0 ends b && distinct texts) 5 (checked s) (omega arith, omega arith)
     (r-test (nodesOk s) 6 _ (omega arith, omega arith) (r-test (leb (length (idents s)) 256) 7 (script s) (omega arith, omega arith) tt)))))
 
--- both C functions
+-- the C functions
 r-written : (room : ℕ) (s : Script) (x : Answer) → Answers x → EntryRow (written room s x)
 r-written room s (no! n) h = (omega (arith, h .0), omega (arith, h .1))
 r-written room s (yes! k c xs rs) h = go (leb (length (fileOf s xs)) room)
@@ -82,9 +84,8 @@ r-written room s (yes! k c xs rs) h = go (leb (length (fileOf s xs)) room)
     go true = tt
     go false = (omega arith, omega arith)
 
-r-listed : (room : ℕ) (x : Answer) → Answers x → ListingRow (roots.answered room x)
-r-listed room (no! n) h = (omega (arith, h .0), omega (arith, h .1))
-r-listed room (yes! k c xs rs) h = go (leb (4 * length rs) room)
+r-room : (room : ℕ) (rs : List Root) → ListingRow (lists.inRoom room rs)
+r-room room rs = go (leb (4 * length rs) room)
   where
     go : (p : Bool) → ListingRow (elim p [ false ↦ lists.refused 10 | true ↦ lists.listed rs ])
     go true = tt
@@ -106,16 +107,28 @@ r-entry runs words bs room = go (leb 1 runs && leb runs 16 && leb 16384 words)
     go true = r-entryRead runs room (read bs) (r-read bs)
     go false = (omega arith, omega arith)
 
+-- what is said of the root bindings
+module _ {Z : Type 0} (R : Z → Type 0) (stop : ℕ → Z) (of : List Root → Z) (stops : (m : ℕ) → 1 ≤ m → m ≤ 9 → R (stop m)) (any : (rs : List Root) → R (of rs)) where
+  r-said : (x : Answer) → Answers x → R (roots.said stop of x)
+  r-said (no! n) h = stops n (omega (arith, h .0)) (h .1)
+  r-said (yes! k c xs rs) h = any rs
+
+  r-over : (runs words : ℕ) (bs : List ℕ) → R (roots.overRoots stop of runs words bs)
+  unfolding roots.overRoots passFile
+  r-over runs words bs = go (leb 1 runs && leb runs 16 && leb 16384 words)
+    where
+      go : (p : Bool) → R (elim p [ false ↦ stop 1 | true ↦ roots.said stop of (passFile runs bs) ])
+      go true = r-said (passFile runs bs) (r-passRead runs (read bs) (r-read bs))
+      go false = stops 1 (omega arith) (omega arith)
+
 r-listing : (runs words : ℕ) (bs : List ℕ) (room : ℕ) → ListingRow (roots.listing runs words bs room)
-unfolding roots.listing passFile
-r-listing runs words bs room = go (leb 1 runs && leb runs 16 && leb 16384 words)
-  where
-    go : (p : Bool) → ListingRow (elim p [ false ↦ lists.refused 1 | true ↦ roots.answered room (passFile runs bs) ])
-    go true = r-listed room (passFile runs bs) (r-passRead runs (read bs) (r-read bs))
-    go false = (omega arith, omega arith)
+r-listing runs words bs room = r-over ListingRow lists.refused (lists.inRoom room) (λ m h k. (h, omega (arith, k))) (r-room room) runs words bs
+
+r-nth : (runs words : ℕ) (bs : List ℕ) (n : ℕ) → NthRow (roots.nthRoot runs words bs n)
+r-nth runs words bs n = r-over NthRow roots.stopped (λ rs. roots.given (nth n rs)) (λ m h k. (h, k)) (λ rs. tt) runs words bs
 
 pub rows : Rows
-rows runs words bs room = (r-entry runs words bs room, r-listing runs words bs room)
+rows runs words bs room n = (r-entry runs words bs room, r-listing runs words bs room, r-nth runs words bs n)
 
 -- so 0 tells a result
 pub inline-zero : InlineZero
@@ -131,3 +144,10 @@ roots-zero bs r r′ w w′ runs c X z = go (roots.listing runs (length w) bs (l
     go : (e : lists.Listing) → ListingRow e → c .refused ≡ roots.numbers e .refused → Listed e
     go (lists.refused n) h q = absurd (omega (arith, h .0, q, z))
     go (lists.listed rs) h q = tt
+
+pub root-zero : RootZero
+root-zero bs w w′ runs n c X z = go (roots.nthRoot runs (length w) bs n) (r-nth runs (length w) bs n) (ap (λ (x : RootBinding). x .refused) (X .answer))
+  where
+    go : (e : roots.NthRoot) → NthRow e → c .refused ≡ roots.nthNumbers e .refused → Given e
+    go (roots.stopped m) h q = absurd (omega (arith, h .0, q, z))
+    go (roots.given r) h q = tt

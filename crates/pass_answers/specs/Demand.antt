@@ -1,5 +1,6 @@
 -- Demand 3 of the port: what two calls of one of its C functions on paired scripts have in common. Assumes nothing: these are definitions.
 use mathlib.Core.Path.{_≡_}
+use mathlib.Core.Option.{none, some}
 use mathlib.Core.List.{List}
 use Prim.Native.Nat.{ℕ}
 use lib.Dec.{leb}
@@ -8,12 +9,13 @@ use Rattle.def_file.specs.Script.{Script}
 use Rattle.def_file.specs.Read.{script, read}
 use Rattle.def_pass.specs.Script.{Answer, no!, yes!, passFile}
 use Rattle.def_pass.specs.Entry.{Entry, refused, passed}
-use Rattle.def_pass.specs.Paired.{Paired, AlikeRoots, AlikeEntry, Alike, Kept, fileOf}
+use Rattle.def_pass.specs.Paired.{Paired, Together, AlikeRoots, AlikeEntry, Alike, Kept, fileOf}
 use Rattle.pass_answers.specs.declared.Inlined.{Inlined}
 use Rattle.pass_answers.specs.declared.Roots.{Roots}
 use Rattle.pass_answers.specs.Entry.{numbers, left, InlineIs}
 use Rattle.pass_roots.specs.Listing.{Listing, listed}
-use Rattle.pass_answers.specs.Roots.{RootsIs}
+use Rattle.pass_answers.specs.Roots.{RootsIs, RootIs, NthRoot, stopped, given, nthNumbers}
+use Rattle.pass_answers.specs.declared.RootBinding.{RootBinding}
 use Rattle.pass_roots.specs.Listing as lists
 use Rattle.pass_answers.specs.Roots as roots
 
@@ -46,7 +48,7 @@ Demand3Inline = (as′ bs : List ℕ) (a b : Script) → read as′ ≡ script a
     → (runs : ℕ) (r r′ w w′ : List ℕ) (x : Inlined) (s s′ v v′ : List ℕ) (y : Inlined) → leb 16384 (length w) ≡ leb 16384 (length v)
     → InlineIs as′ r r′ w w′ runs x → InlineIs bs s s′ v v′ runs y → AlikeEnds as′ bs runs a b x y r r′ s s′
 
--- the root bindings pair by identifier, in one order, with equal marks; one list may fit its buffer where the other does not
+-- the root bindings pair by their places in the two lists: identifiers that stand together, and equal marks; one list may fit its buffer where the other does not
 abbrev pub AlikeListing : Script → Script → Listing → Listing → Type 0
 AlikeListing a b (lists.refused n) (lists.refused m) = n ≡ m
 AlikeListing a b (lists.refused n) (listed ss) = n ≡ 10
@@ -66,3 +68,25 @@ abbrev pub Demand3Roots : Type 0
 Demand3Roots = (as′ bs : List ℕ) (a b : Script) → read as′ ≡ script a → read bs ≡ script b → Paired a b
     → (runs : ℕ) (r r′ w w′ : List ℕ) (x : Roots) (s s′ v v′ : List ℕ) (y : Roots) → leb 16384 (length w) ≡ leb 16384 (length v)
     → RootsIs as′ r r′ w w′ runs x → RootsIs bs s s′ v v′ runs y → AlikeLists a b x y r r′ s s′
+
+-- the root bindings of one number: none in both, or identifiers that stand together, with equal marks
+abbrev pub AlikeNth : Script → Script → NthRoot → NthRoot → Type 0
+AlikeNth a b (stopped n) (stopped m) = n ≡ m
+AlikeNth a b (stopped n) (given s) = ⊥
+AlikeNth a b (given r) (stopped m) = ⊥
+AlikeNth a b (given none) (given none) = Unit {0}
+AlikeNth a b (given none) (given (some s)) = ⊥
+AlikeNth a b (given (some r)) (given none) = ⊥
+AlikeNth a b (given (some r)) (given (some s)) = Together a b (r .key) (s .key) × (r .mark ≡ s .mark)
+
+pub record AlikeBindings (a b : Script) (x y : RootBinding) : Type 0 where
+  pub one : NthRoot
+  pub two : NthRoot
+  pub one-answer : x ≡ nthNumbers one
+  pub two-answer : y ≡ nthNumbers two
+  pub alike : AlikeNth a b one two
+
+abbrev pub Demand3Root : Type 0
+Demand3Root = (as′ bs : List ℕ) (a b : Script) → read as′ ≡ script a → read bs ≡ script b → Paired a b
+    → (runs n : ℕ) (w w′ : List ℕ) (x : RootBinding) (v v′ : List ℕ) (y : RootBinding) → leb 16384 (length w) ≡ leb 16384 (length v)
+    → RootIs as′ w w′ runs n x → RootIs bs v v′ runs n y → AlikeBindings a b x y

@@ -4,13 +4,13 @@ use mathlib.Core.List.{List}
 use Prim.Native.Nat.{ℕ, _≤_}
 use lib.ListN.{length, take}
 use Rattle.def_pass.specs.Entry.{entry}
-use Rattle.pass_answers.specs.Roots.{listing}
+use Rattle.pass_answers.specs.Roots.{listing, nthRoot}
 
 -- one byte more than the longest readable file has
 abbrev pub cutAt : ℕ
 cutAt = 21537
 
--- of both C functions, for all arguments
+-- of the three C functions, for all arguments
 abbrev pub CutAlike : Type 0
-CutAlike = (runs words : ℕ) (bs : List ℕ) (room : ℕ) → 21537 ≤ length bs
-    → (entry runs words (take cutAt bs) room ≡ entry runs words bs room) × (listing runs words (take cutAt bs) room ≡ listing runs words bs room)
+CutAlike = (runs words : ℕ) (bs : List ℕ) (room n : ℕ) → 21537 ≤ length bs
+    → (entry runs words (take cutAt bs) room ≡ entry runs words bs room) × (listing runs words (take cutAt bs) room ≡ listing runs words bs room) × (nthRoot runs words (take cutAt bs) n ≡ nthRoot runs words bs n)

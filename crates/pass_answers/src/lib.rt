@@ -15,3 +15,13 @@ pub struct Roots {
     pub refused: u32,
     pub count: usize,
 }
+
+// A refusal's number; or 0, and 1 if there is a root binding of the number asked for: then its context, text number and prevented mark.
+#[repr(C)]
+pub struct RootBinding {
+    pub refused: u32,
+    pub found: u32,
+    pub context: u64,
+    pub text: u32,
+    pub prevented: u32,
+}

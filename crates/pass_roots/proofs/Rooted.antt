@@ -2,8 +2,10 @@
 use mathlib.Core.Path.{_≡_, refl, sym, ap, _∙_, subst}
 use mathlib.Core.Bool.{Bool, true, false}
 use mathlib.Core.List.{List, [], _∷_, _++_, map, map-append}
-use mathlib.Core.Option.{Option}
+use mathlib.Core.Logic.{⊎-elim}
+use mathlib.Core.Option.{Option, none, some}
 use Prim.Native.Nat.{ℕ, zero, suc, _+_, _-_, _*_, _≤_, _<_}
+use native.Mathlib.Nat.{eq-or-lt-of-le}
 use native.Mathlib.Omega.{arith}
 use borrow.Author.Tests.{le-leb, lt-leb}
 use lib.Dec.{leb}
@@ -23,6 +25,8 @@ use Rattle.def_pass.specs.Scope.{VarInfo}
 use Rattle.def_pass.specs.Script.{Root}
 use Rattle.def_pass.specs.Walk.{rootMarks}
 use Rattle.words_scopes.specs.State.{headAt, headsAt, heads, Fits, bindAt, binds, flags, consts, split, stack, Good}
+use Rattle.pass_roots.specs.declared.RootAt.the-variants as RootAt
+use Rattle.pass_roots.specs.Nth.{nth, nthIs}
 use Rattle.pass_roots.specs.Listing.{marksTo, rootAt, rootsIn, rootWords, rootList, refused, listed, inRoom, WroteRoots}
 
 -- identifier and mark of each binding
@@ -181,6 +185,40 @@ module _ (bs w : List ℕ) (n : ℕ) (h : rootMarks (stack w) ≡ marksTo w n) w
       let size : 0 + length (rootList rs) ≡ 4 * length rs = omega (arith, list-length rs) in
       let whole : sets r 0 (rootList rs) ≡ rootList rs ++ drop (4 * length rs) r = sets-eq (rootList rs) r 0 (omega (arith, list-length rs, roots-count)) ∙ ap (λ (k : ℕ). rootList rs ++ drop k r) size in
       subst (λ (p : Bool). WroteRoots r r′ (elim p [ false ↦ refused 10 | true ↦ listed rs ]) (Written.Done n)) (sym e) (record { says = sym roots-count; leaves = q ∙ ap (λ (ys : List Root). sets r 0 (rootList ys)) (sym roots-tab) ∙ whole })
+
+-- the binding of a number: one of those that a table has, or none behind them
+nth-append : (rs : List Root) (r : Root) (n : ℕ) → n < length rs → nth n (rs ++ (r ∷ [])) ≡ nth n rs
+nth-append [] r n l = absurd (omega arith)
+nth-append (x ∷ rs) r zero l = refl
+nth-append (x ∷ rs) r (suc n) l = nth-append rs r n (omega arith)
+
+nth-last : (rs : List Root) (r : Root) → nth (length rs) (rs ++ (r ∷ [])) ≡ some r
+nth-last [] r = refl
+nth-last (x ∷ rs) r = nth-last rs r
+
+nth-none : (rs : List Root) (n : ℕ) → length rs ≤ n → nth n rs ≡ none
+nth-none [] n l = refl
+nth-none (x ∷ rs) zero l = absurd (omega arith)
+nth-none (x ∷ rs) (suc n) l = nth-none rs n (omega arith)
+
+nth-tab : (c : ℕ) (f : ℕ → Root) (n : ℕ) → n < c → nth n (tab c f) ≡ some (f n)
+unfolding tab
+nth-tab zero f n l = absurd (omega arith)
+nth-tab (suc c) f n l = ⊎-elim (λ (e : n ≡ c). at-end e) (λ (h : n < c). nth-append (tab c f) (f c) n (omega (arith, length-tab c f, h)) ∙ nth-tab c f n h) (eq-or-lt-of-le (omega arith))
+  where
+    at-end : n ≡ c → nth n (tab c f ++ (f c ∷ [])) ≡ some (f n)
+    at-end e = ap (λ (m : ℕ). nth m (tab c f ++ (f c ∷ []))) (e ∙ sym (length-tab c f)) ∙ nth-last (tab c f) (f c) ∙ ap (λ (m : ℕ). some (f m)) (sym e)
+
+-- as it is answered
+pub found : {x y : Raw} {p q : Bool} → x ≡ y → p ≡ q → RootAt.Found (x .text) (x .bits) p ≡ nthIs (some (record { key = y; mark = q }))
+found e h = cc
+
+module _ (bs w : List ℕ) (c : ℕ) (h : rootMarks (stack w) ≡ marksTo w c) (n : ℕ) where
+  pub nth-out : c ≤ n → RootAt.Nothing ≡ nthIs (nth n (rootsIn bs w))
+  nth-out l = sym (ap nthIs (nth-none (rootsIn bs w) n (omega (arith, roots-count bs w c h))))
+
+  pub nth-in : n < c → nthIs (some (rootAt bs w n)) ≡ nthIs (nth n (rootsIn bs w))
+  nth-in l = sym (ap (λ (rs : List Root). nthIs (nth n rs)) (roots-tab bs w c h) ∙ ap nthIs (nth-tab c (λ k. rootAt bs w k) n l))
 
 -- a word as a mark
 pub no-flag : (v : ℕ) → v ≡ 0 → 0 ≡ toNat (yes v)

@@ -1,4 +1,4 @@
-// The bindings of the root scope, four words for each.
+// The bindings of the root scope, oldest first: all of them, four words for each, and the one of a number.
 ghost use mathlib.Core.Path.{_≡_};
 ghost use Prim.Native.Nat.{_+_, _*_, _≤_};
 ghost use lib.ListN.{length, getD};
@@ -11,10 +11,21 @@ ghost use Rattle.file_read.specs.Idents.{idsOf};
 ghost use Rattle.def_pass.specs.Walk.{rootMarks};
 ghost use Rattle.words_scopes.specs.State.{Good, stack};
 ghost use Rattle.pass_roots.specs.Listing.{Known, marksTo, rootAt, rootWords, rootList, rootsIn, inRoom, WroteRoots};
+ghost use Rattle.pass_roots.specs.Nth.{nth, nthIs};
 use def_file::Raw;
 use file_fields::fields::raw_at;
 use file_write::Written;
 use words::layout;
+
+// A root binding: its text number, its context, its own prevented mark; or that the root has none of that number.
+pub enum RootAt {
+    Found {
+        text: u32,
+        context: u64,
+        prevented: bool,
+    },
+    Nothing,
+}
 
 // How many bindings the root has: those before the second scope's.
 fn root_count(w: &[u32]) -> usize
@@ -90,4 +101,23 @@ pub fn write_roots(file: &[u8], words: &[u32], roots: &mut [u32]) -> Written
     }
     put_roots(file, words, roots, n);
     Written::Done(n)
+}
+
+// The n-th binding of the root, from 0, as its list stands.
+pub fn root_at(file: &[u8], words: &[u32], n: usize) -> RootAt
+    requires { ⌜ Good (now words) × Known (now file) (now words) ⌝ }
+    ensures { λ r. ⌜ r ≡ nthIs (nth n (rootsIn (now (file .entry)) (now (words .entry)))) ⌝ }
+{
+    let count = root_count(words);
+    if count <= n {
+        return RootAt::Nothing;
+    }
+    let i = words[layout::BINDINGS + n * 10] as usize;
+    let x = ident(file, words, i);
+    let mark = words[layout::BINDINGS + n * 10 + layout::PREVENTED];
+    RootAt::Found {
+        text: x.text,
+        context: x.bits,
+        prevented: mark != 0,
+    }
 }

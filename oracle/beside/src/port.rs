@@ -28,14 +28,6 @@ pub fn answer(inliner: &mut Inliner, file: &[u8], runs: u32) -> Result<Answer, S
     }))
 }
 
-/// The root bindings in one order: document 01 leaves it open.
-pub fn sorted(mut answer: Answer) -> Answer {
-    if let Answer::Done(done) = &mut answer {
-        done.roots.sort_unstable();
-    }
-    answer
-}
-
 fn marked_words() -> Vec<u32> {
     (0..WORDS as u32 + 8)
         .map(|i| i.wrapping_mul(2_654_435_761) | 1)

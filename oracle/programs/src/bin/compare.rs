@@ -31,16 +31,8 @@ fn next_file(rng: &mut Rng) -> (Vec<u8>, u32) {
     }
 }
 
-/// The root lines in one order.
-fn sorted(answer: &str) -> String {
-    let (mut roots, others): (Vec<&str>, Vec<&str>) =
-        answer.lines().partition(|line| line.starts_with("root "));
-    roots.sort_unstable();
-    [others, roots].concat().join("\n")
-}
-
 fn agrees(other: &mut Other, file: &[u8], runs: u32) -> bool {
-    sorted(&answer(file, runs).to_string()) == sorted(&other.answer(file, runs))
+    answer(file, runs).to_string().lines().eq(other.answer(file, runs).lines())
 }
 
 fn report(other: &mut Other, file: &[u8], runs: u32) {
