@@ -70,6 +70,17 @@ def limits():
         yield many + [more]
 
 
+def recorded():
+    """512 recorded nodes and one more: in the current scope, in the root, spread over 32 scopes, in constants alone."""
+    values = [WHOLE] * 46 + [ARRAY, ARRAY]
+    let = [(DECLARE, x, v, 2) for x, v in enumerate(values)]
+    deep = [(OPEN, 0, 0, 2)] * 31
+    spread = [c for i, d in enumerate(let) for c in deep[:i < 31] + [d]]
+    for full, more in (deep[:1] + let, DECLARE), (let + deep[:3], DECLARE), (spread, DECLARE), ([(CONST, x, v, 0) for x, v in enumerate(values)], CONST):
+        yield full
+        yield full + [(more, len(values), LITERAL, 2)]
+
+
 def behind():
     """Random sequences whose larger values begin behind the last node: they are none."""
     rng = random.Random(5)
@@ -79,7 +90,7 @@ def behind():
 
 def sequences():
     rng = random.Random(4)
-    return [sequence(rng) for _ in range(SEQUENCES)] + list(limits()) + list(behind())
+    return [sequence(rng) for _ in range(SEQUENCES)] + list(limits()) + list(behind()) + list(recorded())
 
 
 def script(path):

@@ -4,14 +4,14 @@ use mathlib.Core.Bool.{Bool, true, false, _||_}
 use mathlib.Core.Option.{Option, none, some}
 use mathlib.Core.List.{List, [], _∷_, _++_}
 use Prim.Native.Nat.{ℕ, zero, suc, _+_, _*_, _/_, _%_}
-use lib.Dec.{eqb}
+use lib.Dec.{eqb, ltb}
 use lib.ListN.{length, getD}
 use Rattle.def_tree.specs.Base.{pick, toNat}
 use Rattle.def_tree.specs.Tree.{Core, flat}
 use Rattle.def_tree.specs.Combine.{Res, stop, done, Nothing, ret, _>>_}
 use Rattle.def_file.specs.Script.{sameText}
 use Rattle.def_pass.specs.Tree.{Tree, Forest, node, nil, cons, count, countO}
-use Rattle.def_pass.specs.Scope.{VarType, param, vVar, vLet, vConst, ScopeKind, cond, loop, block, fn, VarInfo, Scope, Stack, newScope, defined, withValue, change, isSome, markOf, idxVal, findBinding, findBindingFromCurrent, hasConstant, findConstant, scopeFor, writePreventsInline, readPreventsInlining, shouldPreventInlineBecauseOfScope, varInlinePrevented, isInlinePrevented, hasSameThis, inLoop, recordedNodes, live, Init, noInit, recorded, seen, declare, addRead, addWrite, addConst, close, preventInline, preventInlineOfParams, markThisSensitive, storeInlineBarrier}
+use Rattle.def_pass.specs.Scope.{VarType, param, vVar, vLet, vConst, ScopeKind, cond, loop, block, fn, VarInfo, Scope, Stack, newScope, defined, withValue, change, isSome, markOf, idxVal, findBinding, findBindingFromCurrent, hasConstant, findConstant, scopeFor, writePreventsInline, readPreventsInlining, shouldPreventInlineBecauseOfScope, varInlinePrevented, isInlinePrevented, hasSameThis, inLoop, valuesIn, valuesOf, recordedNodes, live, Init, noInit, recorded, seen, declare, addRead, addWrite, addConst, close, preventInline, preventInlineOfParams, markThisSensitive, storeInlineBarrier}
 use Rattle.def_pass.specs.Walk.{St, M, declaring, mark, grow, opening}
 use Rattle.laws_vectors.specs.Vector.{chunks}
 
@@ -160,10 +160,15 @@ countNos st =
     toNat (inLoop st) ∷ length (here st) ∷ recordedNodes st ∷ live st ∷ toNat (isInlinePrevented (ident 0) st) ∷ toNat (isInlinePrevented (node 22 0 3 nil) st)
     ∷ toNat (isInlinePrevented member st) ∷ toNat (isInlinePrevented array st) ∷ toNat (isInlinePrevented called st) ∷ []
 
+-- n nodes are counted already: after how many scopes, from the current one outwards, they are over 512, if ever; k scopes are counted
+abbrev pub stopNos : ℕ → ℕ → Stack → List ℕ
+stopNos k n [] = elim (ltb 512 n) [ true ↦ 1 ∷ k ∷ [] | false ↦ 0 ∷ [] ]
+stopNos k n (s ∷ st) = elim (ltb 512 n) [ true ↦ 1 ∷ k ∷ [] | false ↦ stopNos (suc k) (n + valuesIn (s .bindings) + valuesOf (s .constants)) st ]
+
 -- a refusal's number; or 0 and the rest
 abbrev pub answerNos : Res St Nothing → List ℕ
 answerNos (stop n) = n ∷ []
-answerNos (done s t) = 0 ∷ scopeNos (s .stack) ++ lookNos 0 (s .stack) ++ lookNos 1 (s .stack) ++ lookNos 2 (s .stack) ++ lookNos 3 (s .stack) ++ countNos (s .stack)
+answerNos (done s t) = 0 ∷ scopeNos (s .stack) ++ lookNos 0 (s .stack) ++ lookNos 1 (s .stack) ++ lookNos 2 (s .stack) ++ lookNos 3 (s .stack) ++ countNos (s .stack) ++ stopNos 0 100 (s .stack) ++ stopNos 0 500 (s .stack) ++ stopNos 0 512 (s .stack) ++ stopNos 0 513 (s .stack)
 
 -- bytes two by two
 abbrev pub pairs : List ℕ → List ℕ

@@ -17,8 +17,10 @@ use scope::var_inline_prevented;
 use scope::write_prevents_inline;
 use scope_find::bound_here;
 use scope_find::in_loop;
+use scope_values::Sum;
 use scope_values::live;
 use scope_values::recorded_nodes;
+use scope_values::stops_at;
 use std::num::wrapping_add_u32;
 use words::layout;
 
@@ -207,6 +209,29 @@ fn show_look(w: &[u32], x: u8)
     put_bool(has_same_this(w, x, 4));
 }
 
+// After how many scopes n nodes and those recorded are more than row 9 allows, if ever.
+fn show_stop(w: &[u32], n: usize)
+    requires { ⌜ (Planted (now w)) × (n ≤ 1024) ⌝ }
+{
+    match stops_at(w, n) {
+        Sum::Within => put(0),
+        Sum::Over(k) => {
+            put(1);
+            put_size(k);
+        }
+    }
+}
+
+fn show_stops(w: &[u32])
+    requires { ⌜ Planted (now w) ⌝ }
+{
+    letter(b'o');
+    show_stop(w, 100);
+    show_stop(w, 500);
+    show_stop(w, 512);
+    show_stop(w, 513);
+}
+
 fn show_counts(w: &[u32])
     requires { ⌜ Planted (now w) ⌝ }
 {
@@ -231,6 +256,7 @@ fn show_all(w: &[u32])
     show_look(w, 2);
     show_look(w, 3);
     show_counts(w);
+    show_stops(w);
 }
 
 // A line: the number of a refusal, or the scopes.

@@ -22,7 +22,7 @@ module _ {A : Type 0} (f : A → ℕ) where
   total-append [] ys = omega arith
   total-append (x ∷ xs) ys = omega (arith, total-append xs ys)
 
-  total-cut : (n : ℕ) (xs : List A) → total f (take n xs) + total f (drop n xs) ≡ total f xs
+  pub total-cut : (n : ℕ) (xs : List A) → total f (take n xs) + total f (drop n xs) ≡ total f xs
   total-cut zero xs = omega arith
   total-cut (suc n) [] = refl
   total-cut (suc n) (x ∷ xs) = omega (arith, total-cut n xs)
@@ -48,7 +48,7 @@ pub values-in : (bs : List VarInfo) → valuesIn bs ≡ total nodesB bs
 values-in [] = refl
 values-in (b ∷ bs) = ap (λ (n : ℕ). nodesB b + n) (values-in bs)
 
-values-of : (cs : List (ℕ × Option Tree)) → valuesOf cs ≡ total nodesC cs
+pub values-of : (cs : List (ℕ × Option Tree)) → valuesOf cs ≡ total nodesC cs
 values-of [] = refl
 values-of (c ∷ cs) = ap (λ (n : ℕ). nodesC c + n) (values-of cs)
 
@@ -103,13 +103,20 @@ module _ (w : List ℕ) (g : Good w) where
   pub nodes-const : (k : ℕ) → k < getD w 3 0 → nodesC (constAt w k) ≡ clenAt w k
   nodes-const k h = count-whole (crunAt w k) (g .cwhole k h .one) ∙ run-length w 3088 (coff w k) (clenAt w k)
 
+  -- the first n
+  pub upto-binds : (n : ℕ) → n ≤ getD w 1 0 → total nodesB (tab n (λ k. bindAt w k)) ≡ off w n
+  upto-binds n l = total-tab nodesB n (λ k. bindAt w k) ∙ sum-ext (λ k. nodesB (bindAt w k)) (λ k. lenAt w k) n (λ k h. nodes-bind k (omega arith))
+
+  pub upto-consts : (n : ℕ) → n ≤ getD w 3 0 → total nodesC (tab n (λ k. constAt w k)) ≡ coff w n
+  upto-consts n l = total-tab nodesC n (λ k. constAt w k) ∙ sum-ext (λ k. nodesC (constAt w k)) (λ k. clenAt w k) n (λ k h. nodes-const k (omega arith))
+
   pub total-binds : total nodesB (binds w) ≡ off w (getD w 1 0)
   unfolding binds
-  total-binds = total-tab nodesB (getD w 1 0) (λ k. bindAt w k) ∙ sum-ext (λ k. nodesB (bindAt w k)) (λ k. lenAt w k) (getD w 1 0) nodes-bind
+  total-binds = upto-binds (getD w 1 0) (omega arith)
 
   pub total-consts : total nodesC (consts w) ≡ coff w (getD w 3 0)
   unfolding consts
-  total-consts = total-tab nodesC (getD w 3 0) (λ k. constAt w k) ∙ sum-ext (λ k. nodesC (constAt w k)) (λ k. clenAt w k) (getD w 3 0) nodes-const
+  total-consts = upto-consts (getD w 3 0) (omega arith)
 
   pub length-binds : length (binds w) ≡ getD w 1 0
   unfolding binds
@@ -146,6 +153,9 @@ pub depth-is : (w : List ℕ) → length (stack w) ≡ getD w 2 0
 unfolding stack heads
 depth-is w = length-split (heads w) (flags w) (binds w) (consts w) ∙ length-heads w (getD w 2 0)
 
--- the lengths of constants, as the table has them
+-- the lengths of constants and of bindings, as their tables have them
 pub words-const : (w : List ℕ) (k : ℕ) → sum (λ j. getD w (6673 + j * 2) 0) k ≡ coff w k
 words-const w k = sum-ext (λ j. getD w (6673 + j * 2) 0) (λ j. clenAt w j) k (λ j l. let e : 6673 + j * 2 ≡ 6672 + j * 2 + 1 = omega arith in ap (λ (i : ℕ). getD w i 0) e)
+
+pub words-bind : (w : List ℕ) (k : ℕ) → sum (λ j. getD w (4120 + j * 10) 0) k ≡ off w k
+words-bind w k = sum-ext (λ j. getD w (4120 + j * 10) 0) (λ j. lenAt w j) k (λ j l. let e : 4120 + j * 10 ≡ 4112 + j * 10 + 8 = omega arith in ap (λ (i : ℕ). getD w i 0) e)

@@ -2,3 +2,4 @@
 pub mod Count
 pub mod Store
 pub mod Listed
+pub mod Outwards

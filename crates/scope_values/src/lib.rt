@@ -9,6 +9,7 @@ ghost use Rattle.def_pass.specs.Scope.{recordedNodes, live, change, withValue};
 ghost use Rattle.words.specs.Tab.{sum};
 ghost use Rattle.words.specs.Layout.{Agree, run};
 ghost use Rattle.words_scopes.specs.State.{Good, stack, binds, consts, bindAt, off, coff, valueOf, runOf};
+ghost use Rattle.scope_values.specs.Outwards.{stopOf, stopsAt};
 ghost use Rattle.scope_values.specs.Steps.{Spliced, Listed, Grown};
 use words::layout;
 use words::shift;
@@ -28,14 +29,20 @@ pub enum Constant {
     At(usize, usize),
 }
 
-// The sum of the first k words of those from p on, each s behind the one before.
-fn lengths(w: &[u32], p: usize, s: usize, k: usize) -> usize
-    requires { ⌜ (16384 ≤ length (now w)) × (k ≤ 256) × (s ≤ 10) × (p ≤ 8192) × (sum (λ j. getD (now w) (p + j * s) 0) k ≤ 512) ⌝ }
-    ensures { λ r. ⌜ r ≡ sum (λ j. getD (now (w .entry)) (p + j * s) 0) k ⌝ }
+// Whether a sum of recorded nodes comes to more than row 9 allows: after how many scopes.
+pub enum Sum {
+    Within,
+    Over(usize),
+}
+
+// The sum of words a up to e of those from p on, each s behind the one before.
+fn lengths(w: &[u32], p: usize, s: usize, a: usize, e: usize) -> usize
+    requires { ⌜ (16384 ≤ length (now w)) × (a ≤ e) × (e ≤ 256) × (s ≤ 10) × (p ≤ 8192) × (sum (λ j. getD (now w) (p + j * s) 0) e ≤ 512) ⌝ }
+    ensures { λ r. ⌜ sum (λ j. getD (now (w .entry)) (p + j * s) 0) a + r ≡ sum (λ j. getD (now (w .entry)) (p + j * s) 0) e ⌝ }
 {
     let mut at: usize = 0;
-    let mut j: usize = 0;
-    while j < k {
+    let mut j = a;
+    while j < e {
         at += w[p + j * s] as usize;
         j += 1;
     }
@@ -76,7 +83,7 @@ pub fn const_offset(w: &[u32], k: usize) -> usize
     requires { ⌜ (Good (now w)) × (k ≤ getD (now w) 3 0) ⌝ }
     ensures { λ r. ⌜ (r ≡ coff (now (w .entry)) k) × (r ≤ 512) ⌝ }
 {
-    lengths(w, 6673, 2, k)
+    lengths(w, 6673, 2, 0, k)
 }
 
 // How many nodes are recorded.
@@ -97,6 +104,39 @@ pub fn live(w: &[u32]) -> usize
     w[layout::BINDING_COUNT] as usize + w[layout::CONSTANT_COUNT] as usize
 }
 
+// How many nodes scope k records: its bindings end before binding e, its constants before constant c.
+fn nodes_in(w: &[u32], k: usize, e: usize, c: usize) -> usize
+    requires { ⌜ (Good (now w)) × (k < 32) × (getD (now w) (7184 + k * 4 + 1) 0 ≤ e) × (e ≤ getD (now w) 1 0) × (getD (now w) (7184 + k * 4 + 2) 0 ≤ c) × (c ≤ getD (now w) 3 0) ⌝ }
+    ensures { λ r. ⌜ off (now (w .entry)) (getD (now (w .entry)) (7184 + k * 4 + 1) 0) + coff (now (w .entry)) (getD (now (w .entry)) (7184 + k * 4 + 2) 0) + r ≡ off (now (w .entry)) e + coff (now (w .entry)) c ⌝ }
+{
+    let a = w[layout::SCOPES + k * 4 + layout::FIRST_BINDING] as usize;
+    let b = w[layout::SCOPES + k * 4 + layout::FIRST_CONSTANT] as usize;
+    lengths(w, 4120, 10, a, e) + lengths(w, 6673, 2, b, c)
+}
+
+// Adds to n nodes those recorded, scope by scope from the current one outwards, and stops once they are more than row 9 allows.
+pub fn stops_at(w: &[u32], n: usize) -> Sum
+    requires { ⌜ (Good (now w)) × (n ≤ 1024) ⌝ }
+    ensures { λ r. ⌜ stopOf r ≡ stopsAt n (stack (now (w .entry))) ⌝ }
+{
+    let d = w[layout::SCOPE_COUNT] as usize;
+    let mut sum = n;
+    let mut e = w[layout::BINDING_COUNT] as usize;
+    let mut c = w[layout::CONSTANT_COUNT] as usize;
+    let mut i: usize = 0;
+    while sum <= 512 {
+        if i == d {
+            return Sum::Within;
+        }
+        let k = d - 1 - i;
+        sum += nodes_in(w, k, e, c);
+        e = w[layout::SCOPES + k * 4 + layout::FIRST_BINDING] as usize;
+        c = w[layout::SCOPES + k * 4 + layout::FIRST_CONSTANT] as usize;
+        i += 1;
+    }
+    Sum::Over(i)
+}
+
 // Are there more nodes than row 9 allows once old nodes give way to m: there can be only where m are more.
 fn nodes_pass(w: &[u32], old: usize, m: usize) -> bool
     requires { ⌜ (Good (now w)) × (old ≤ recordedNodes (stack (now w))) × (m ≤ 1024) ⌝ }
@@ -105,7 +145,10 @@ fn nodes_pass(w: &[u32], old: usize, m: usize) -> bool
     if m <= old {
         return false;
     }
-    512 < recorded_nodes(w) - old + m
+    match stops_at(w, m - old) {
+        Sum::Within => false,
+        Sum::Over(_) => true,
+    }
 }
 
 // Is row 9 passed once old nodes give way to m, and there are `more` records more.
