@@ -81,6 +81,19 @@ def recorded():
         yield full + [(more, len(values), LITERAL, 2)]
 
 
+def named():
+    """One name in many scopes, and many names: 256 in the root, one in each of 32 scopes, hoisted over a shadowed one, bound in the root alone and read from 31 scopes deep."""
+    let, var = (DECLARE, 0, LITERAL, 2), (DECLARE, 0, LITERAL, 1)
+    block, end = (OPEN, 0, 0, 2), (CLOSE, 0, 0, 0)
+    yield [(DECLARE, x, 0, 1) for x in range(256)]
+    yield [let] + [block, let] * 31
+    yield [let] + [block, let] * 31 + [end] * 30
+    yield [let, block, block, var, end]
+    yield [let, block, block, var, end, end]
+    yield [let, block, let, block, var, end, (READ, 0, 0, 0), end]
+    yield [var] + [block] * 31 + [(READ, 0, 0, 0), (WRITE, 0, 0, 0)]
+
+
 def behind():
     """Random sequences whose larger values begin behind the last node: they are none."""
     rng = random.Random(5)
@@ -90,7 +103,7 @@ def behind():
 
 def sequences():
     rng = random.Random(4)
-    return [sequence(rng) for _ in range(SEQUENCES)] + list(limits()) + list(behind()) + list(recorded())
+    return [sequence(rng) for _ in range(SEQUENCES)] + list(limits()) + list(behind()) + list(recorded()) + list(named())
 
 
 def script(path):

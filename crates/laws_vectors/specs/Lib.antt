@@ -3,6 +3,7 @@ pub mod Calls1
 pub mod Calls2
 pub mod Calls3
 pub mod Calls4
+pub mod Calls5
 pub mod Part0
 pub mod Part1
 pub mod Part2

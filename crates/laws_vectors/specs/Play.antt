@@ -165,10 +165,37 @@ abbrev pub stopNos : ℕ → ℕ → Stack → List ℕ
 stopNos k n [] = elim (ltb 512 n) [ true ↦ 1 ∷ k ∷ [] | false ↦ 0 ∷ [] ]
 stopNos k n (s ∷ st) = elim (ltb 512 n) [ true ↦ 1 ∷ k ∷ [] | false ↦ stopNos (suc k) (n + valuesIn (s .bindings) + valuesOf (s .constants)) st ]
 
--- a refusal's number; or 0 and the rest
+-- 1 + the number of the innermost binding, among all, root first, 0 if there is none; as the index has it, and as a walk finds it
+abbrev pub bound : Stack → ℕ
+bound [] = 0
+bound (s ∷ st) = length (s .bindings) + bound st
+
+abbrev pub orOuter : ℕ → ℕ → ℕ → ℕ
+orOuter zero n m = m
+orOuter (suc k) n m = n + suc k
+
+abbrev pub placeOf : ℕ → Stack → ℕ
+placeOf x [] = 0
+placeOf x (s ∷ st) = orOuter (placeNo (idxVal 0 x (s .bindings))) (bound st) (placeOf x st)
+
+abbrev pub twice : ℕ → List ℕ → List ℕ
+twice n ns = n ∷ n ∷ ns
+
+abbrev pub eachPlace : Stack → List VarInfo → List ℕ
+eachPlace st [] = []
+eachPlace st (b ∷ bs) = twice (placeOf (b .id) st) (eachPlace st bs)
+
+abbrev pub allPlaces : Stack → Stack → List ℕ
+allPlaces st [] = []
+allPlaces st (t ∷ ts) = allPlaces st ts ++ eachPlace st (t .bindings)
+
+abbrev pub placeNos : Stack → List ℕ
+placeNos st = twice (placeOf 0 st) (twice (placeOf 1 st) (twice (placeOf 2 st) (twice (placeOf 3 st) (allPlaces st st))))
+
+-- a refusal's number; or 0 and the rest; and 1: index and walk are alike after each call
 abbrev pub answerNos : Res St Nothing → List ℕ
-answerNos (stop n) = n ∷ []
-answerNos (done s t) = 0 ∷ scopeNos (s .stack) ++ lookNos 0 (s .stack) ++ lookNos 1 (s .stack) ++ lookNos 2 (s .stack) ++ lookNos 3 (s .stack) ++ countNos (s .stack) ++ stopNos 0 100 (s .stack) ++ stopNos 0 500 (s .stack) ++ stopNos 0 512 (s .stack) ++ stopNos 0 513 (s .stack)
+answerNos (stop n) = n ∷ 1 ∷ []
+answerNos (done s t) = 0 ∷ scopeNos (s .stack) ++ lookNos 0 (s .stack) ++ lookNos 1 (s .stack) ++ lookNos 2 (s .stack) ++ lookNos 3 (s .stack) ++ countNos (s .stack) ++ stopNos 0 100 (s .stack) ++ stopNos 0 500 (s .stack) ++ stopNos 0 512 (s .stack) ++ stopNos 0 513 (s .stack) ++ placeNos (s .stack) ++ 1 ∷ []
 
 -- bytes two by two
 abbrev pub pairs : List ℕ → List ℕ

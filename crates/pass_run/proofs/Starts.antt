@@ -13,6 +13,7 @@ use Rattle.words.proofs.Nodes.{tree-same, beyond-same}
 use Rattle.def_pass.specs.Scope.{Stack, fn, newScope}
 use Rattle.laws_flat.specs.PassF.{startF}
 use Rattle.words_scopes.specs.State.{Good, Becomes, heads, headsAt, stack, varTypeOf}
+use Rattle.words_scopes.proofs.Index.{beside-none}
 use Rattle.scope_values.specs.declared.Step.{Step}
 use Rattle.scope_values.specs.declared.Step.the-variants.{Done, Refused}
 use Rattle.scope_values.specs.Steps.{Limited}
@@ -23,28 +24,30 @@ use Rattle.words_state.specs.State.{modeOf, rest, Ok}
 use Rattle.words_state.proofs.Fields.{st-eq, becomes-rest, becomes-ok, count-kept}
 use Rattle.pass_run.specs.Start.{Loaded, Fields, Started}
 
-pub fields : {w u v z : List ℕ} → Zeroed w u 1 3 → Put5 u v 5 0 0 1 1 3 → Zeroed v z 10 2 → Fields w z
-fields {w} {u} {v} {z} a b c = record {
-  size = c .size ∙ b .size ∙ a .size;
-  nodes = c .low 0 (omega arith) ∙ b .low 0 (omega arith) ∙ a .low 0 (omega arith);
-  bindings = c .low 1 (omega arith) ∙ b .low 1 (omega arith) ∙ a .here 0 (omega arith);
-  scopes = c .low 2 (omega arith) ∙ b .low 2 (omega arith) ∙ a .here 1 (omega arith);
-  constants = c .low 3 (omega arith) ∙ b .low 3 (omega arith) ∙ a .here 2 (omega arith);
-  idents = c .low 4 (omega arith) ∙ b .low 4 (omega arith) ∙ a .high 4 (omega arith);
-  changed = c .low 5 (omega arith) ∙ b .at0;
-  inlining = c .low 6 (omega arith) ∙ b .at1;
-  isFirstRun = c .low 7 (omega arith) ∙ b .at2;
-  varDeclKind = c .low 8 (omega arith) ∙ b .at3;
-  patMode = c .low 9 (omega arith) ∙ b .at4;
-  inTest = c .here 0 (omega arith);
-  conds = c .here 1 (omega arith);
-  high = λ j l. c .high j (omega arith) ∙ b .high j (omega arith) ∙ a .high j (omega arith);
+pub fields : {w u v y z : List ℕ} → Zeroed w u 1 3 → Put5 u v 5 0 0 1 1 3 → Zeroed v y 10 2 → Zeroed y z 7568 256 → Fields w z
+fields {w} {u} {v} {y} {z} a b c d = record {
+  size = d .size ∙ c .size ∙ b .size ∙ a .size;
+  nodes = d .low 0 (omega arith) ∙ c .low 0 (omega arith) ∙ b .low 0 (omega arith) ∙ a .low 0 (omega arith);
+  bindings = d .low 1 (omega arith) ∙ c .low 1 (omega arith) ∙ b .low 1 (omega arith) ∙ a .here 0 (omega arith);
+  scopes = d .low 2 (omega arith) ∙ c .low 2 (omega arith) ∙ b .low 2 (omega arith) ∙ a .here 1 (omega arith);
+  constants = d .low 3 (omega arith) ∙ c .low 3 (omega arith) ∙ b .low 3 (omega arith) ∙ a .here 2 (omega arith);
+  idents = d .low 4 (omega arith) ∙ c .low 4 (omega arith) ∙ b .low 4 (omega arith) ∙ a .high 4 (omega arith);
+  changed = d .low 5 (omega arith) ∙ c .low 5 (omega arith) ∙ b .at0;
+  inlining = d .low 6 (omega arith) ∙ c .low 6 (omega arith) ∙ b .at1;
+  isFirstRun = d .low 7 (omega arith) ∙ c .low 7 (omega arith) ∙ b .at2;
+  varDeclKind = d .low 8 (omega arith) ∙ c .low 8 (omega arith) ∙ b .at3;
+  patMode = d .low 9 (omega arith) ∙ c .low 9 (omega arith) ∙ b .at4;
+  inTest = d .low 10 (omega arith) ∙ c .here 0 (omega arith);
+  conds = d .low 11 (omega arith) ∙ c .here 1 (omega arith);
+  index = d .here;
+  mid = λ j l h. d .low j h ∙ c .high j (omega arith) ∙ b .high j (omega arith) ∙ a .high j (omega arith);
+  high = λ j l. d .high j (omega arith) ∙ c .high j (omega arith) ∙ b .high j (omega arith) ∙ a .high j (omega arith);
 }
 
 -- no scope is open, and the words are good
 module _ {w u : List ℕ} (l : Loaded w) (f : Fields w u) where
   same-tree : tree u ≡ tree w
-  same-tree = tree-same w u (l .few) (f .nodes) (λ j p h. f .high j (omega arith))
+  same-tree = tree-same w u (l .few) (f .nodes) (λ j p h. f .mid j (omega arith) (omega arith))
 
   good : Good u
   unfolding heads headsAt sum
@@ -65,6 +68,7 @@ module _ {w u : List ℕ} (l : Loaded w) (f : Fields w u) where
     names = rw same-tree (l .names);
     whole = λ k h. absurd (omega (arith, f .bindings, h));
     cwhole = λ k h. absurd (omega (arith, f .constants, h));
+    beside = beside-none u (f .bindings) (f .scopes) (f .index);
   }
 
   pub planted : Planted u

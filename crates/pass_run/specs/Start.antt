@@ -1,7 +1,7 @@
 -- The words of a script that was read become the state before the first run. Assumes nothing: these are definitions.
 use mathlib.Core.Path.{_≡_}
 use mathlib.Core.List.{List}
-use Prim.Native.Nat.{ℕ, _≤_}
+use Prim.Native.Nat.{ℕ, _+_, _≤_, _<_}
 use lib.ListN.{length, getD}
 use Rattle.words.specs.Layout.{Agree, tree, beyond}
 use Rattle.laws_flat.specs.PassF.{startF}
@@ -16,7 +16,7 @@ pub record Loaded (w : List ℕ) : Type 0 where
   pub names : Names (tree w)
   pub one : One (tree w)
 
--- words 1 to 3 and 5 to 11 are stored, and all else is kept
+-- words 1 to 3, 5 to 11 and the index are stored, and all else is kept
 pub record Fields (w u : List ℕ) : Type 0 where
   pub size : length u ≡ length w
   pub nodes : getD u 0 0 ≡ getD w 0 0
@@ -31,7 +31,9 @@ pub record Fields (w u : List ℕ) : Type 0 where
   pub patMode : getD u 9 0 ≡ 3
   pub inTest : getD u 10 0 ≡ 0
   pub conds : getD u 11 0 ≡ 0
-  pub high : (j : ℕ) → 12 ≤ j → getD u j 0 ≡ getD w j 0
+  pub index : (x : ℕ) → x < 256 → getD u (7568 + x) 0 ≡ 0
+  pub mid : Agree 12 7568 w u
+  pub high : (j : ℕ) → 7824 ≤ j → getD u j 0 ≡ getD w j 0
 
 -- the same tree, and the visitor before its first run; the identifiers and the words past the first 16,384 are as they were
 pub record Started (w u : List ℕ) : Type 0 where
@@ -40,5 +42,5 @@ pub record Started (w u : List ℕ) : Type 0 where
   pub nodes : tree u ≡ tree w
   pub is : rest u ≡ startF (getD w 0 0)
   pub idents : getD u 4 0 ≡ getD w 4 0
-  pub high : Agree 7568 16384 w u
+  pub high : Agree 8080 16384 w u
   pub rest : beyond u ≡ beyond w

@@ -9,7 +9,7 @@ use words::layout;
 use words::put5;
 use words::wipe;
 
-// No scope, and the visitor's fields: not changed, Analysis, the first run, var, declaring, no test, no right side.
+// No scope, an empty index, and the visitor's fields: not changed, Analysis, the first run, var, declaring, no test, no right side.
 fn set_fields(w: &mut [u32])
     requires { ⌜ 16384 ≤ length (now w) ⌝ }
     ensures { λ _. ⌜ Fields (now (w .entry)) (now (w .exit)) ⌝ }
@@ -17,6 +17,7 @@ fn set_fields(w: &mut [u32])
     wipe(w, layout::BINDING_COUNT, 3);
     put5(w, layout::CHANGED, 0, 0, 1, 1, 3);
     wipe(w, layout::IN_TEST, 2);
+    wipe(w, layout::INDEX, 256);
 }
 
 // The fields, and an empty root scope.

@@ -13,6 +13,7 @@ use Rattle.words.specs.Layout.{tree}
 use Rattle.words.specs.Moved.{Cleared}
 use Rattle.words.proofs.Nodes.{tree-length}
 use Rattle.words_scopes.specs.State.{Good, Becomes, Names, heads, headsAt}
+use Rattle.words_scopes.proofs.Index.{beside-none}
 use Rattle.words_nodes.specs.Nodes.{Planted, Apart}
 use Rattle.scope_values.specs.Steps as records
 use Rattle.scope_values.specs.declared.Step as rstep
@@ -38,6 +39,7 @@ cleared {w} {u} l c = record {
   bindings = c .here 1 (omega arith);
   scopes = c .here 2 (omega arith);
   constants = c .here 3 (omega arith);
+  index = λ x l. c .here (7568 + x) (omega arith);
   is = rw (c .here 0 (omega arith)) refl;
 }
 
@@ -47,6 +49,7 @@ grown {w} {u} c h xs b = record {
   bindings = h .1 .low 1 (omega arith) (omega arith) ∙ b .bindings;
   scopes = h .1 .low 2 (omega arith) (omega arith) ∙ b .scopes;
   constants = h .1 .low 3 (omega arith) (omega arith) ∙ b .constants;
+  index = λ x l. h .1 .high (7568 + x) (omega arith) ∙ b .index x l;
   is = h .0 ∙ ap (λ (ys : List Core). ys ++ (c ∷ [])) (b .is);
 }
 
@@ -74,6 +77,7 @@ begun-good {w} {xs} b l n = record {
   names = rw (b .is) n;
   whole = λ k h. absurd (omega (arith, b .bindings, h));
   cwhole = λ k h. absurd (omega (arith, b .constants, h));
+  beside = beside-none w (b .bindings) (b .scopes) (b .index);
 }
 
 -- the tree that values are taken from

@@ -11,6 +11,7 @@ mod steps;
 mod values;
 
 use begin::begin;
+use show::alike;
 use show::show;
 use steps::call;
 
@@ -48,12 +49,14 @@ fn play(w: &mut [u32], s: &[u8], from: usize) -> usize
 {
     begin(w);
     let mut no: u32 = 0;
+    let mut same = true;
     let mut i = from;
     while byte(s, i) != 0 {
         no = next(w, s, i, no);
+        same = alike(w, same);
         i += 4;
     }
-    show(w, no);
+    show(w, no, same);
     i + 1
 }
 

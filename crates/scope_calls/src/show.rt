@@ -23,6 +23,7 @@ use scope_values::recorded_nodes;
 use scope_values::stops_at;
 use std::num::wrapping_add_u32;
 use words::layout;
+use words_scopes::find_by_walk;
 
 fn letter(c: u8) {
     let s = [b' ', c];
@@ -247,6 +248,45 @@ fn show_counts(w: &[u32])
     put_bool(is_inline_prevented(w, 9));
 }
 
+// Where the innermost binding of x is, by the index and by a walk: 1 more than its number, 0 if there is none.
+fn put_place(w: &[u32], x: u8)
+    requires { ⌜ Planted (now w) ⌝ }
+{
+    put_size(words_scopes::find_binding(w, x));
+    put_size(find_by_walk(w, x));
+}
+
+// The same of the first four identifiers, and of each binding's.
+fn show_places(w: &[u32])
+    requires { ⌜ Planted (now w) ⌝ }
+{
+    letter(b'p');
+    put_place(w, 0);
+    put_place(w, 1);
+    put_place(w, 2);
+    put_place(w, 3);
+    let n = word(w, 1);
+    let mut k: u32 = 0;
+    while k < n {
+        put_place(w, (of_binding(w, k, 0) % 256) as u8);
+        k += 1;
+    }
+}
+
+// Do index and walk place every identifier alike; no, if they did not before.
+pub fn alike(w: &[u32], before: bool) -> bool
+    requires { ⌜ Planted (now w) ⌝ }
+{
+    let mut x: u32 = 0;
+    while x < 256 {
+        if words_scopes::find_binding(w, x as u8) != find_by_walk(w, x as u8) {
+            return false;
+        }
+        x += 1;
+    }
+    before
+}
+
 fn show_all(w: &[u32])
     requires { ⌜ Planted (now w) ⌝ }
 {
@@ -257,10 +297,11 @@ fn show_all(w: &[u32])
     show_look(w, 3);
     show_counts(w);
     show_stops(w);
+    show_places(w);
 }
 
-// A line: the number of a refusal, or the scopes.
-pub fn show(w: &[u32], no: u32)
+// A line: the number of a refusal, or the scopes; and whether index and walk were alike after each call.
+pub fn show(w: &[u32], no: u32, same: bool)
     requires { ⌜ Planted (now w) ⌝ }
 {
     if no == 0 {
@@ -270,5 +311,7 @@ pub fn show(w: &[u32], no: u32)
         io::write_all(1, b"refused");
         put_word(no);
     }
+    letter(b'i');
+    put_bool(same);
     io::write_all(1, b"\n");
 }

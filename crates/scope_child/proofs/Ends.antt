@@ -2,6 +2,7 @@
 use mathlib.Core.Path.{_≡_, refl, sym, ap, _∙_}
 use mathlib.Core.List.{List, [], _∷_, _++_}
 use mathlib.Core.Bool.{Bool, true, false, _||_}
+use mathlib.Core.Logic.{_⊎_, inl, inr, ⊎-elim}
 use Prim.Native.Nat.{ℕ, zero, suc, _+_, _-_, _*_, _≤_, _<_}
 use native.Mathlib.Omega.{arith}
 use lib.ListN.{length, getD, set, drop, length-set, length-drop}
@@ -10,8 +11,10 @@ use Rattle.def_tree.specs.Base.{pick}
 use Rattle.def_pass.specs.Scope.{VarInfo, Scope, Stack, isFn, isVar, put, hoist, hoistAll, onBindings, close}
 use Rattle.words.specs.Tab.{tab, length-tab, getD-tab, sum-zero}
 use Rattle.words.specs.Layout.{Agree, tree}
+use Rattle.words.specs.Moved.{Zeroed}
 use Rattle.words.proofs.Nodes.{beyond-same, tree-same}
 use Rattle.words_scopes.specs.State.{Good, Becomes, bindAt, binds, stack, heads, headsAt, scopeKindOf, dropInner, lenAt, clenAt}
+use Rattle.words_scopes.proofs.Index.{beside-none}
 use Rattle.scope_values.proofs.Count.{depth-is}
 use Rattle.scope_values.proofs.Listed.{stack-none}
 use Rattle.scope_child.specs.Hoist.{recordAt, hoistUp}
@@ -78,30 +81,33 @@ up-same f g a zero st h = refl
 up-same f g a (suc n) st h = rw (h n (omega arith), up-same f g a n st (λ j l. h j (omega arith))) refl
 
 -- no scope, no record
-module _ (w : List ℕ) (g : Good w) where
+module _ (w u : List ℕ) (g : Good w) (zeroth : Zeroed w u 7568 256) where
   abbrev x : List ℕ
-  x = set (set (set w 1 0) 2 0) 3 0
+  x = set (set (set u 1 0) 2 0) 3 0
 
-  keeps : (j : ℕ) → (j ≡ 1 → ⊥) → (j ≡ 2 → ⊥) → (j ≡ 3 → ⊥) → getD x j 0 ≡ getD w j 0
-  keeps j a b c = getD-set-other (set (set w 1 0) 2 0) 3 j 0 0 c ∙ getD-set-other (set w 1 0) 2 j 0 0 b ∙ getD-set-other w 1 j 0 0 a
+  after : (j : ℕ) → (j ≡ 1 → ⊥) → (j ≡ 2 → ⊥) → (j ≡ 3 → ⊥) → getD x j 0 ≡ getD u j 0
+  after j a b c = getD-set-other (set (set u 1 0) 2 0) 3 j 0 0 c ∙ getD-set-other (set u 1 0) 2 j 0 0 b ∙ getD-set-other u 1 j 0 0 a
+
+  keeps : (j : ℕ) → (j < 7568) ⊎ (7824 ≤ j) → (j ≡ 1 → ⊥) → (j ≡ 2 → ⊥) → (j ≡ 3 → ⊥) → getD x j 0 ≡ getD w j 0
+  keeps j o a b c = after j a b c ∙ ⊎-elim (λ (l : j < 7568). zeroth .low j l) (λ (l : 7824 ≤ j). zeroth .high j l) o
 
   size : length x ≡ length w
-  size = simp length-set
+  size = simp length-set (zeroth .size)
 
   n1 : getD x 1 0 ≡ 0
-  n1 = let l = g .long in getD-set-other (set (set w 1 0) 2 0) 3 1 0 0 (λ e. omega arith) ∙ getD-set-other (set w 1 0) 2 1 0 0 (λ e. omega arith) ∙ getD-set-same w 1 0 0 (omega arith)
+  n1 = let l = g .long in getD-set-other (set (set u 1 0) 2 0) 3 1 0 0 (λ e. omega arith) ∙ getD-set-other (set u 1 0) 2 1 0 0 (λ e. omega arith) ∙ getD-set-same u 1 0 0 (omega (arith, zeroth .size))
 
   n2 : getD x 2 0 ≡ 0
-  n2 = let l = g .long in getD-set-other (set (set w 1 0) 2 0) 3 2 0 0 (λ e. omega arith) ∙ getD-set-same (set w 1 0) 2 0 0 (simp length-set (omega arith))
+  n2 = let l = g .long in getD-set-other (set (set u 1 0) 2 0) 3 2 0 0 (λ e. omega arith) ∙ getD-set-same (set u 1 0) 2 0 0 (simp length-set (omega (arith, zeroth .size)))
 
   n3 : getD x 3 0 ≡ 0
-  n3 = let l = g .long in getD-set-same (set (set w 1 0) 2 0) 3 0 0 (simp length-set (omega arith))
+  n3 = let l = g .long in getD-set-same (set (set u 1 0) 2 0) 3 0 0 (simp length-set (omega (arith, zeroth .size)))
 
   n0 : getD x 0 0 ≡ getD w 0 0
-  n0 = keeps 0 (λ e. omega arith) (λ e. omega arith) (λ e. omega arith)
+  n0 = keeps 0 (inl (omega arith)) (λ e. omega arith) (λ e. omega arith) (λ e. omega arith)
 
   no-tree : tree x ≡ tree w
-  no-tree = tree-same w x (g .nodes) n0 (λ j a b. keeps j (λ e. omega arith) (λ e. omega arith) (λ e. omega arith))
+  no-tree = tree-same w x (g .nodes) n0 (λ j a b. keeps j (inl (omega arith)) (λ e. omega arith) (λ e. omega arith) (λ e. omega arith))
 
   no-heads : heads x ≡ []
   unfolding heads headsAt
@@ -125,6 +131,7 @@ module _ (w : List ℕ) (g : Good w) where
     names = rw no-tree (g .names);
     whole = rw n1 (λ k l. absurd (omega arith));
     cwhole = rw n3 (λ k l. absurd (omega arith));
+    beside = beside-none x n1 n2 (λ y l. after (7568 + y) (λ e. omega arith) (λ e. omega arith) (λ e. omega arith) ∙ zeroth .here y l);
   }
 
   pub none-left : Becomes w x []
@@ -132,8 +139,8 @@ module _ (w : List ℕ) (g : Good w) where
     good = no-good;
     is = stack-none x n2;
     tree = no-tree;
-    others = record { low = λ j a b. keeps j (λ e. omega arith) (λ e. omega arith) (λ e. omega arith); high = λ j a b. keeps j (λ e. omega arith) (λ e. omega arith) (λ e. omega arith) };
-    rest = beyond-same w x size (λ j a. keeps j (λ e. omega arith) (λ e. omega arith) (λ e. omega arith));
+    others = record { low = λ j a b. keeps j (inl (omega arith)) (λ e. omega arith) (λ e. omega arith) (λ e. omega arith); high = λ j a b. keeps j (inr (omega arith)) (λ e. omega arith) (λ e. omega arith) (λ e. omega arith) };
+    rest = beyond-same w x size (λ j a. keeps j (inr (omega arith)) (λ e. omega arith) (λ e. omega arith) (λ e. omega arith));
   }
 
 -- two scopes or more

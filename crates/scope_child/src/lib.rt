@@ -17,6 +17,7 @@ use scope_values::Step;
 use scope_values::set_run;
 use words::flag_at;
 use words::layout;
+use words::wipe;
 use words_scopes::append_record;
 use words_scopes::drop_scope;
 use words_scopes::open;
@@ -105,6 +106,7 @@ fn drop_all(w: &mut [u32])
     requires { ⌜ Good (now w) ⌝ }
     ensures { λ _. ⌜ Becomes (now (w .entry)) (now (w .exit)) [] ⌝ }
 {
+    wipe(w, layout::INDEX, 256);
     w[layout::BINDING_COUNT] = 0;
     w[layout::SCOPE_COUNT] = 0;
     w[layout::CONSTANT_COUNT] = 0;

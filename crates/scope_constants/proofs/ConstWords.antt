@@ -1,6 +1,6 @@
 -- The words of constants: a value overwritten, a constant appended. Assumes nothing.
-use mathlib.Core.Path.{_≡_, refl, _∙_}
-use mathlib.Core.List.{List, [], _∷_, _++_}
+use mathlib.Core.Path.{_≡_, refl, ap, _∙_}
+use mathlib.Core.List.{List, [], _∷_, _++_, map}
 use mathlib.Core.Option.{none}
 use mathlib.Core.Logic.{_⊎_, inl, inr, ⊎-elim}
 use Prim.Native.Nat.{ℕ, _+_, _*_, _≤_, _<_}
@@ -14,6 +14,7 @@ use Rattle.words.proofs.Nodes.{beyond-same}
 use Rattle.words_scopes.specs.State.{heads, flags, binds, consts, constAt, clenAt, off, coff, crunAt, CFits, Good, Whole, valueOf, runOf}
 use Rattle.words_scopes.proofs.Words.{heads-part, part-tree, part-coff, part-crun, whole-none}
 use Rattle.words_scopes.proofs.Grow.{part-off, part-run, part-binds, part-flags}
+use Rattle.words_scopes.proofs.Index.{begins, beside-same}
 use Rattle.scope_values.specs.Steps.{Listed, Spliced}
 use Rattle.scope_constants.proofs.Constants.{Const, cfits-more}
 use Rattle.scope_values.proofs.Store as store
@@ -77,6 +78,7 @@ module _ {w w′ : List ℕ} (g : Good w) (t : CKept w w′) where
       names = rw ckept-tree (g .names);
       whole = rw n1 (λ k h. rw (part-run w′ g (getD w 1 0) (omega arith) bs bt k h) (g .whole k h));
       cwhole = rw is q;
+      beside = beside-same (g .beside) n1 (ap (map begins) ckept-heads) (λ k h. bt (4112 + k * 10) (omega arith) (omega arith)) (λ j a b. t .tail j (omega arith) (omega arith)) (g .count);
     }
 
   pub ckept-listed : (cs : List Const) → Good w′ → consts w′ ≡ cs → Listed w w′ (binds w) cs

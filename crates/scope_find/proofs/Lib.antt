@@ -2,3 +2,4 @@
 pub mod Out
 pub mod Facts
 pub mod Touch
+pub mod Placed

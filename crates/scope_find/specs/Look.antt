@@ -11,7 +11,7 @@ use Rattle.def_tree.specs.Tree.{Tree, kind, plant, firstT}
 use Rattle.def_pass.specs.Scope.{VarInfo, Scope, Stack, isFn, findIn, idxVal, isHoistedPrevented, preventParam}
 use Rattle.words.specs.Tab.{tab}
 use Rattle.words.specs.Layout.{tree}
-use Rattle.words_scopes.specs.State.{bindAt, constAt, Head, headAt, headsAt, scopeOf, split, indexIn}
+use Rattle.words_scopes.specs.State.{bindAt, constAt, Head, headAt, headsAt, scopeOf, split, indexIn, place}
 
 -- where the bindings and the constants of scope k begin; behind the last scope, where they end
 unfoldable pub first : List ℕ → ℕ → ℕ
@@ -35,6 +35,11 @@ below w k = split (headsAt w k) (tab (first w k) (λ j. getD w (4112 + j * 10 + 
 abbrev pub atPlace : List ℕ → ℕ → Option VarInfo
 atPlace w zero = none
 atPlace w (suc k) = some (bindAt w k)
+
+-- 1 + the number of the innermost binding of x in the first k scopes, 0 if there is none
+unfoldable pub placeBelow : List ℕ → ℕ → ℕ → ℕ
+unfolding first
+placeBelow w x k = place x (headsAt w k) (tab (first w k) (λ j. bindAt w j))
 
 -- x is looked for in scope k
 pub record FoundIn (w : List ℕ) (k x r : ℕ) : Type 0 where

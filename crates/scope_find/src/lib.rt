@@ -10,8 +10,8 @@ ghost use Rattle.def_pass.specs.Scope.{isSome, constIn, findBinding, findBindin
 ghost use Rattle.def_tree.specs.Tree.{kids};
 ghost use Rattle.def_pass.specs.Tree.{headT};
 ghost use Rattle.words.specs.Layout.{nodeOf};
-ghost use Rattle.words_scopes.specs.State.{Good, stack, bindAt, varTypeOf, lenAt, off};
-ghost use Rattle.scope_find.specs.Look.{first, cfirst, scopeAt, below, atPlace, FoundIn, idxHere, idxAt, readsO, kindO, nodeTree, held, barsHere, boundHere};
+ghost use Rattle.words_scopes.specs.State.{Good, stack, heads, binds, place, bindAt, varTypeOf, lenAt, off};
+ghost use Rattle.scope_find.specs.Look.{first, cfirst, scopeAt, below, atPlace, placeBelow, FoundIn, idxHere, idxAt, readsO, kindO, nodeTree, held, barsHere, boundHere};
 ghost use Rattle.scope_find.specs.Answers.{countOf};
 use words::arity_at;
 use words::flag_at;
@@ -19,7 +19,6 @@ use words::kind_at;
 use words::layout;
 use words::num_at;
 use words_scopes::find_binding;
-use words_scopes::find_in;
 use words_scopes::offset;
 
 // read_cnt: how often a binding was read, if there is one.
@@ -71,18 +70,35 @@ fn find_const(w: &[u32], a: usize, e: usize, x: u8) -> usize
     k
 }
 
-// 1 + the place of the binding of x in scope k, 0 if there is none.
-fn found_in(w: &[u32], k: usize, x: u8) -> usize
-    requires { ⌜ (Good (now w)) × (k < getD (now w) 2 0) ⌝ }
+// 1 + the place of the binding of x in scope k, 0 if there is none; p is that of the innermost one in the scopes up to k.
+fn found_from(w: &[u32], k: usize, x: u8, p: usize) -> usize
+    requires { ⌜ (Good (now w)) × (k < getD (now w) 2 0) × (p ≡ placeBelow (now w) x (suc k)) ⌝ }
     ensures { λ r. ⌜ FoundIn (now (w .entry)) k x r ⌝ }
 {
-    let a = first_of(w, k);
-    let e = first_of(w, k + 1);
-    let r = find_in(w, a, e, x);
-    if r < e {
-        return r + 1;
+    if first_of(w, k) < p {
+        return p;
     }
     0
+}
+
+// The same for a scope inside which no binding of x stands: the index says.
+fn found_in(w: &[u32], k: usize, x: u8) -> usize
+    requires { ⌜ (Good (now w)) × (k < getD (now w) 2 0) × (place x (heads (now w)) (binds (now w)) ≡ placeBelow (now w) x (suc k)) ⌝ }
+    ensures { λ r. ⌜ FoundIn (now (w .entry)) k x r ⌝ }
+{
+    let p = find_binding(w, x);
+    found_from(w, k, x, p)
+}
+
+// 1 + the place of the innermost binding of x in the scopes before k, 0 if there is none; p is the one in the scopes up to k, and has kept what it shadows.
+fn outside(w: &[u32], k: usize, x: u8, p: usize) -> usize
+    requires { ⌜ (Good (now w)) × (k < getD (now w) 2 0) × (p ≡ placeBelow (now w) x (suc k)) ⌝ }
+    ensures { λ r. ⌜ r ≡ placeBelow (now (w .entry)) x k ⌝ }
+{
+    if first_of(w, k) < p {
+        return w[layout::SHADOWED + p - 1] as usize;
+    }
+    p
 }
 
 // Is there a constant of x in scope k.
@@ -352,21 +368,23 @@ fn hoisted_prevented(w: &[u32], r: usize) -> bool
     false
 }
 
-// Does a scope before scope d leave x unresolved, or have a hoisted binding of it that is prevented.
-fn held_below(w: &[u32], d: usize, x: u8) -> bool
-    requires { ⌜ (Good (now w)) × (d ≤ getD (now w) 2 0) ⌝ }
+// Does a scope before scope d leave x unresolved, or have a hoisted binding of it that is prevented; q is the place of the innermost binding of x there.
+fn held_below(w: &[u32], d: usize, x: u8, q: usize) -> bool
+    requires { ⌜ (Good (now w)) × (d ≤ getD (now w) 2 0) × (q ≡ placeBelow (now w) x d) ⌝ }
     ensures { λ r. ⌜ r ≡ held x (below (now (w .entry)) d) ⌝ }
 {
     let mut k = d;
+    let mut p = q;
     while 0 < k {
         k -= 1;
         if flag_at(w, layout::UNRESOLVED + k * 8, x) != 0 {
             return true;
         }
-        let r = found_in(w, k, x);
+        let r = found_from(w, k, x, p);
         if hoisted_prevented(w, r) {
             return true;
         }
+        p = outside(w, k, x, p);
     }
     false
 }
@@ -383,7 +401,9 @@ pub fn should_prevent_inline_because_of_scope(w: &[u32], x: u8) -> bool
     if flag_at(w, layout::UNRESOLVED + (d - 1) * 8, x) != 0 {
         return true;
     }
-    held_below(w, d - 1, x)
+    let p = find_binding(w, x);
+    let q = outside(w, d - 1, x, p);
+    held_below(w, d - 1, x, q)
 }
 
 // The mark of the innermost binding of x.

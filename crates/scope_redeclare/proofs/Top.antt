@@ -11,8 +11,9 @@ use Rattle.def_pass.specs.Scope.{VarInfo, Scope, Stack, hasIn, findIn, findBind
 use Rattle.words.specs.Tab.{getD-tab}
 use Rattle.words.specs.Layout.{yes}
 use Rattle.words.specs.Flags.{flagAt}
-use Rattle.words_scopes.specs.State.{Good, Fits, split, scopeOf, headAt, headsAt, heads, flags, binds, consts, stack, bindAt, unresAt, place}
+use Rattle.words_scopes.specs.State.{Good, Fits, split, scopeOf, Head, headAt, headsAt, heads, flags, binds, consts, stack, bindAt, unresAt, place, indexIn}
 use Rattle.words_scopes.proofs.Split as laws
+use Rattle.words_scopes.proofs.Index as index
 use Rattle.words_scopes.proofs.Grow.{some-head}
 use Rattle.scope_values.proofs.Count.{length-binds, depth-is}
 use Rattle.scope_values.proofs.Listed.{bind-there}
@@ -73,24 +74,42 @@ module _ (w : List ℕ) (g : Good w) (z : 0 < getD w 2 0) where
   len : length (drop a (binds w)) ≡ getD w 1 0 - a
   len = length-drop a (binds w) ∙ ap (λ (n : ℕ). n - a) (length-binds w g)
 
-  module _ (x r : ℕ) (low : a ≤ r) (most : r ≤ getD w 1 0) (hit : r < getD w 1 0 → getD w (4112 + r * 10) 0 ≡ x) (miss : (j : ℕ) → a ≤ j → j < r → getD w (4112 + j * 10) 0 ≡ x → ⊥) where
-    other : (j : ℕ) → a + j < r → a + j < getD w 1 0 → getD (drop a (binds w)) j laws.noBind .id ≡ x → ⊥
-    other j h l q = miss (a + j) (omega arith) h (sym (ap (λ (b : VarInfo). b .id) (at j l)) ∙ q)
+  -- by the place of the innermost binding: it is the innermost scope's own, if it stands behind its beginning
+  module _ (x p : ℕ) (e : p ≡ place x (heads w) (binds w)) where
+    is : p ≡ place x (headAt w d ∷ headsAt w d) (binds w)
+    is = e ∙ ap (λ (hs : List Head). place x hs (binds w)) heads-top
 
-    is-there : r < getD w 1 0 → (hasIn x (drop a (binds w)) ≡ true) × (place x (heads w) (binds w) ≡ suc r) × (findIn x (drop a (binds w)) ≡ some (bindAt w r))
-    is-there h =
-        let e : a + (r - a) ≡ r = omega arith in
-        let name : getD (drop a (binds w)) (r - a) laws.noBind .id ≡ x = ap (λ (b : VarInfo). b .id) (at (r - a) (omega arith)) ∙ ap (λ (n : ℕ). getD w (4112 + n * 10) 0) e ∙ hit h in
-        let t = laws.in-hit x (drop a (binds w)) (r - a) (omega (arith, len)) name (λ j l. other j (omega arith) (omega arith)) in (
-          t .0,
-          rw heads-top (laws.place-yes x (headAt w d) (headsAt w d) (binds w) (t .0) ∙ omega (arith, t .1)),
-          laws.in-found x (drop a (binds w)) (t .0) ∙ ap some (ap (λ (n : ℕ). getD (drop a (binds w)) n laws.noBind) (t .1) ∙ at (r - a) (omega arith) ∙ ap (λ (n : ℕ). bindAt w n) e),
-        )
+    module _ (l : a < p) where
+      abbrev i : ℕ
+      i = indexIn x (drop a (binds w))
 
-    pub own : Own w x r
-    own = record {
-      most = most;
-      there = λ h. (is-there h .1, rw stack-top (is-there h .0), hit h);
-      found = λ h. rw stack-top (is-there h .2);
-      absent = λ h. rw stack-top (laws.in-miss x (drop a (binds w)) (λ j l. other j (omega (arith, len)) (omega (arith, len))));
+      has : hasIn x (drop a (binds w)) ≡ true
+      has = index.place-here x (headAt w d) (headsAt w d) (binds w) (omega (arith, is))
+
+      there : p ≡ suc (a + i)
+      there = is ∙ laws.place-yes x (headAt w d) (headsAt w d) (binds w) has
+
+      within : a + i < getD w 1 0
+      within = omega (arith, laws.index-lt x (drop a (binds w)) has, len)
+
+      name : getD w (4112 + (p - 1) * 10) 0 ≡ x
+      name = ap (λ (b : VarInfo). b .id) (sym (bind-there w (p - 1) (omega (arith, there, within)) laws.noBind)) ∙ ap (λ (n : ℕ). getD (binds w) (n - 1) laws.noBind .id) is ∙ index.place-id x (headAt w d) (headsAt w d) (binds w) (omega (arith, is))
+
+      pub own-there : Own w x (p - 1)
+      own-there =
+          let q : a + i ≡ p - 1 = omega (arith, there) in
+          let s : p ≡ suc (p - 1) = omega arith in
+          record {
+            most = omega (arith, there, within);
+            there = λ h. (sym e ∙ s, rw stack-top has, name);
+            found = λ h. rw stack-top (laws.in-found x (drop a (binds w)) has ∙ ap some (at i within ∙ ap (λ (n : ℕ). bindAt w n) q));
+            absent = λ h. absurd (omega (arith, there, within));
+          }
+
+    pub own-absent : p ≤ a → Own w x (getD w 1 0)
+    own-absent l = record {
+      most = omega arith;
+      there = λ h. absurd (omega arith);
+      found = λ h. absurd (omega arith);
+      absent = λ h. rw stack-top (index.place-above x (headAt w d) (headsAt w d) (binds w) (omega (arith, is)));
     }

@@ -8,11 +8,11 @@ ghost use Rattle.words_scopes.specs.State.{Good, binds, consts, bindAt, valueOf
 ghost use Rattle.scope_values.specs.Steps.{Listed, refill, Grown, putAt};
 ghost use Rattle.scope_redeclare.specs.Own.{Own};
 use scope_values::Step;
-use scope_values::first_at;
 use scope_values::passes;
 use scope_values::set_run;
 use words::layout;
 use words::put5;
+use words_scopes::find_binding;
 
 // Overwrites the words of binding k but its name and its value.
 pub fn rewrite(
@@ -49,8 +49,11 @@ pub fn own_binding(w: &[u32], x: u8) -> usize
 {
     let d = w[layout::SCOPE_COUNT] as usize - 1;
     let a = w[layout::SCOPES + d * 4 + layout::FIRST_BINDING] as usize;
-    let n = w[layout::BINDING_COUNT] as usize;
-    first_at(w, layout::BINDINGS, 10, a, n, x)
+    let r = find_binding(w, x);
+    if a < r {
+        return r - 1;
+    }
+    w[layout::BINDING_COUNT] as usize
 }
 
 // Binding k is declared again, with its value as it is.

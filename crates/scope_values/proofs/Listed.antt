@@ -183,7 +183,7 @@ module _ (w v : List ℕ) (g : Good w) (k i m : ℕ) (h : k < getD w 1 0) (hi : 
 
   value-good : runOf (valueOf (run w 16 i m)) ≡ run w 16 i m → Good w′
   value-good q =
-      kept-good g value-kept (omega (arith, store.vals-after 2064 len (omega arith) (omega arith) above alone w v (getD w 1 0) k i m h within (g .long) tree-long (g .vals) own s)) (λ j l. rw (named j) (g .ids j l))
+      kept-good g value-kept (omega (arith, store.vals-after 2064 len (omega arith) (omega arith) above alone w v (getD w 1 0) k i m h within (g .long) tree-long (g .vals) own s)) (λ j l. named j)
       (λ j l. ⊎-elim (λ (e : j ≡ k). rw (e, run-this) (record { one = q; names = store.run-names w i m (g .names) hi })) (λ (d : j ≡ k → ⊥). rw (run-other j l d) (g .whole j l)) (same-or-not j k))
 
   pub valued : runOf (valueOf (run w 16 i m)) ≡ run w 16 i m → Listed w w′ (set (binds w) k (withValue (valueOf (run w 16 i m)) (bindAt w k))) (consts w)

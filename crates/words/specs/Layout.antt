@@ -11,7 +11,9 @@
 -- 6672 to 7183      constants of all scopes, root first, 256   2: id, value's length
 -- 7184 to 7311      scopes, root first, 32                     4: kind, first binding, first constant, barrier before the first binding
 -- 7312 to 7567      unresolved: a bit for each identifier      8 for each scope
--- 7568 to 15503     free
+-- 7568 to 7823      index: of each identifier, 256             1: 1 + the number of its innermost binding, 0 where there is none
+-- 7824 to 8079      shadowed: of each binding, 256            1: what the index had of its identifier when it was appended
+-- 8080 to 15503     free
 -- 15504 to 15759    identifiers, 256                           1: the number of the first node that has it
 -- 15760 to 16015    the first identifier of each text, 256     1: its number from 1, or 0 where there is none; reading alone uses it
 -- 16016 to 16383    free

@@ -74,6 +74,12 @@ pub const INNER_FIRST: usize = 7189;
 // Unresolved identifiers, eight words for each scope: a bit for each identifier.
 pub const UNRESOLVED: usize = 7312;
 
+// Of each identifier 1 + the number of its innermost binding, 0 where there is none, one word each.
+pub const INDEX: usize = 7568;
+
+// Of each binding what the index had of its identifier when it was appended, one word each.
+pub const SHADOWED: usize = 7824;
+
 // The number of the first node of each identifier, one word each.
 pub const IDENTS: usize = 15504;
 

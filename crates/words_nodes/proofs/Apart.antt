@@ -1,6 +1,6 @@
 -- What a change of the tree's words alone leaves as it was: the scopes, and all that is good but the tree. Assumes nothing.
-use mathlib.Core.Path.{_≡_, refl, _∙_}
-use mathlib.Core.List.{List}
+use mathlib.Core.Path.{_≡_, refl, ap, _∙_}
+use mathlib.Core.List.{List, map}
 use Prim.Native.Nat.{ℕ, _+_, _*_, _≤_, _<_}
 use native.Mathlib.Omega.{arith}
 use lib.ListN.{length, getD}
@@ -11,6 +11,7 @@ use Rattle.words.specs.Layout.{Agree, tree, beyond}
 use Rattle.words.proofs.Nodes.{beyond-same}
 use Rattle.words_scopes.specs.State.{bindAt, heads, flags, binds, consts, stack, Good, Becomes, Others, Names}
 use Rattle.words_scopes.proofs.Words.{heads-part, part-consts, part-coff, part-crun, Runs, runs-off, runs-at, bind-same}
+use Rattle.words_scopes.proofs.Index.{begins, beside-same}
 use Rattle.words_nodes.specs.Nodes.{One, Planted, Apart, Replants}
 
 pub apart-self : (w : List ℕ) → Apart w w
@@ -81,6 +82,7 @@ module _ {w w′ : List ℕ} (g : Good w) (a : Beside w w′) where
         names = n;
         whole = rw one (λ k h. rw (runs-at g runs-same k h) (g .whole k h));
         cwhole = rw three (λ k h. rw (cs k h) (g .cwhole k h));
+        beside = beside-same (g .beside) one (ap (map begins) heads-same) (λ k h. a .high (4112 + k * 10) (omega arith)) (λ j x y. a .high j (omega arith)) (g .count);
       }
 
 beside : {w w′ : List ℕ} → Apart w w′ → Beside w w′

@@ -9,14 +9,16 @@ use native.Mathlib.Omega.{arith}
 use lib.ListN.{length, getD, set, length-set}
 use lib.Seq.{getD-set-same, getD-set-other}
 use Rattle.def_pass.specs.Scope.{VarInfo, append, newScope}
-use Rattle.words.specs.Tab.{tab, tab-suc, tab-zero, length-tab, getD-tab, getD-tab-out, tab-ext, below-or-not, sum-next, sum-ext, sum-part}
+use Rattle.words.specs.Tab.{tab, tab-suc, tab-zero, length-tab, getD-tab, getD-tab-out, tab-ext, below-or-not, same-or-not, sum-next, sum-ext, sum-part}
 use Rattle.words.specs.Layout.{yes, Agree, coreFrom, run, tree}
 use Rattle.words.specs.Moved.{Put4, Put5, Zeroed}
 use Rattle.words.proofs.Nodes.{run-same, beyond-same}
 use Rattle.words.specs.Flags.{flagAt}
 use Rattle.words.proofs.Flags.{flag-none}
-use Rattle.words_scopes.specs.State.{valueOf, varTypeOf, aliasAt, scopeKindOf, bareOf, lenAt, off, runAt, constAt, bindAt, Head, unresAt, headAt, headsAt, heads, flags, binds, consts, split, stack, Fits, Good, Becomes}
+use Rattle.words_scopes.specs.State.{valueOf, varTypeOf, aliasAt, scopeKindOf, bareOf, lenAt, off, runAt, constAt, bindAt, Head, unresAt, headAt, headsAt, heads, flags, binds, consts, split, stack, Fits, Good, Becomes, Beside, place}
+use Rattle.words_scopes.specs.Index.{Entered}
 use Rattle.words_scopes.proofs.Split as laws
+use Rattle.words_scopes.proofs.Index.{place-past, place-other, place-again, place-last}
 use Rattle.words_scopes.proofs.Words.{bind-eq, bind-same, heads-part, part-coff, part-crun, part-consts, part-tree, whole-none}
 
 -- the scopes begin before a longer list too
@@ -29,21 +31,31 @@ unfolding headsAt
 some-head w zero h = absurd (omega arith)
 some-head w (suc d) h = let e : suc d - 1 ≡ d = omega arith in rw e refl
 
-module _ (w u v : List ℕ) (g : Good w) (h : getD w 1 0 + getD w 3 0 < 256) (z : 0 < getD w 2 0) (id kind alias reads prevented undef sensitive hoisted : ℕ) (small : id < 256)
-    (one : Put5 w u (4112 + getD w 1 0 * 10) id kind alias reads prevented) (two : Put5 u v (4112 + getD w 1 0 * 10 + 5) undef sensitive hoisted 0 0) where
+-- the innermost scope begins among the bindings
+pub top-begins : (w : List ℕ) → Good w → 0 < getD w 2 0 → getD w (7184 + (getD w 2 0 - 1) * 4 + 1) 0 ≤ getD w 1 0
+unfolding heads
+top-begins w g z = let f : Fits (headAt w (getD w 2 0 - 1) ∷ headsAt w (getD w 2 0 - 1)) (getD w 1 0) = rw (some-head w (getD w 2 0) z) at (g .fits) in f .0
+
+module _ (w t u v : List ℕ) (g : Good w) (h : getD w 1 0 + getD w 3 0 < 256) (z : 0 < getD w 2 0) (id kind alias reads prevented undef sensitive hoisted : ℕ) (small : id < 256)
+    (zeroth : Entered w t (getD w 1 0) id (getD w (7184 + (getD w 2 0 - 1) * 4 + 1) 0)) (one : Put5 t u (4112 + getD w 1 0 * 10) id kind alias reads prevented) (two : Put5 u v (4112 + getD w 1 0 * 10 + 5) undef sensitive hoisted 0 0) where
   abbrev n : ℕ
   n = getD w 1 0
 
   abbrev w′ : List ℕ
   w′ = set v 1 (n + 1)
 
-  out : (j : ℕ) → (j < 4112 + n * 10) ⊎ (4112 + n * 10 + 10 ≤ j) → (j ≡ 1 → ⊥) → getD w′ j 0 ≡ getD w j 0
-  out j o d = getD-set-other v 1 j (n + 1) 0 d ∙ ⊎-elim
-      (λ (l : j < 4112 + n * 10). two .low j (omega arith) ∙ one .low j l)
-      (λ (l : 4112 + n * 10 + 10 ≤ j). two .high j (omega arith) ∙ one .high j (omega arith)) o
+  tail : (j : ℕ) → 6672 ≤ j → getD w′ j 0 ≡ getD t j 0
+  tail j l = getD-set-other v 1 j (n + 1) 0 (λ e. omega arith) ∙ two .high j (omega arith) ∙ one .high j (omega arith)
+
+  out : (j : ℕ) → (j < 4112 + n * 10) ⊎ (((4112 + n * 10 + 10 ≤ j) × (j < 7568)) ⊎ (8080 ≤ j)) → (j ≡ 1 → ⊥) → getD w′ j 0 ≡ getD w j 0
+  out j o d = ⊎-elim
+      (λ (l : j < 4112 + n * 10). getD-set-other v 1 j (n + 1) 0 d ∙ two .low j (omega arith) ∙ one .low j l ∙ zeroth .other j (λ e. omega arith) (λ e. omega arith))
+      (λ o′. ⊎-elim
+      (λ (l : (4112 + n * 10 + 10 ≤ j) × (j < 7568)). getD-set-other v 1 j (n + 1) 0 d ∙ two .high j (omega arith) ∙ one .high j (omega arith) ∙ zeroth .other j (λ e. omega arith) (λ e. omega arith))
+      (λ (l : 8080 ≤ j). tail j (omega arith) ∙ zeroth .other j (λ e. omega arith) (λ e. omega arith)) o′) o
 
   pub count : getD w′ 1 0 ≡ n + 1
-  count = let l = g .long in getD-set-same v 1 (n + 1) 0 (omega (arith, two .size, one .size))
+  count = let l = g .long in getD-set-same v 1 (n + 1) 0 (omega (arith, two .size, one .size, zeroth .size))
 
   -- the new record
   first : (j : ℕ) → 4112 + n * 10 ≤ j → j < 4112 + n * 10 + 5 → getD w′ j 0 ≡ getD u j 0
@@ -88,19 +100,19 @@ module _ (w u v : List ℕ) (g : Good w) (h : getD w 1 0 + getD w 3 0 < 256) (z 
 
   heads-new : heads w′ ≡ heads w
   unfolding heads
-  heads-new = let l = g .depth in rw (out 2 (inl (omega arith)) (λ e. omega arith)) (heads-part w w′ (getD w 2 0) (λ j a b. out j (inr (omega arith)) (λ e. omega arith)) (λ j a b. out j (inr (omega arith)) (λ e. omega arith)))
+  heads-new = let l = g .depth in rw (out 2 (inl (omega arith)) (λ e. omega arith)) (heads-part w w′ (getD w 2 0) (λ j a b. out j (inr (inl (omega arith, omega arith))) (λ e. omega arith)) (λ j a b. out j (inr (inl (omega arith, omega arith))) (λ e. omega arith)))
 
   abbrev cs : Agree 3088 4112 w w′
   cs = λ j a b. out j (inl (omega arith)) (λ e. omega arith)
 
   abbrev ct : Agree 6672 (6672 + getD w 3 0 * 2) w w′
-  ct = λ j a b. out j (inr (omega arith)) (λ e. omega arith)
+  ct = λ j a b. out j (inr (inl (omega arith, omega arith))) (λ e. omega arith)
 
   pub pushed-consts : getD w′ 3 0 ≡ getD w 3 0
   pushed-consts = out 3 (inl (omega arith)) (λ e. omega arith)
 
   size : length w′ ≡ length w
-  size = simp length-set (two .size ∙ one .size)
+  size = simp length-set (two .size ∙ one .size ∙ zeroth .size)
 
   push-tree : tree w′ ≡ tree w
   push-tree = part-tree w′ g (out 0 (inl (omega arith)) (λ e. omega arith)) (λ j a b. out j (inl (omega arith)) (λ e. omega arith))
@@ -108,6 +120,60 @@ module _ (w u v : List ℕ) (g : Good w) (h : getD w 1 0 + getD w 3 0 < 256) (z 
   push-fits : Fits (heads w) (n + 1)
   unfolding heads
   push-fits = let e = some-head w (getD w 2 0) z in rw e (fits-more (headAt w (getD w 2 0 - 1)) (headsAt w (getD w 2 0 - 1)) n (rw e at (g .fits)))
+
+  -- the parts
+  parts : (flags w′ ≡ flags w ++ (0 ∷ [])) × (binds w′ ≡ binds w ++ (new ∷ [])) × (consts w′ ≡ consts w)
+  unfolding flags binds consts
+  parts = (
+    rw count (tab-suc n (λ k. getD w′ (4112 + k * 10 + 9) 0) ∙ rw (flag-new, tab-ext n (λ k. getD w′ (4112 + k * 10 + 9) 0) (λ k. getD w (4112 + k * 10 + 9) 0) (λ k l. out (4112 + k * 10 + 9) (inl (omega arith)) (λ e. omega arith))) refl),
+    rw count (tab-suc n (λ k. bindAt w′ k) ∙ rw (bind-new, tab-ext n (λ k. bindAt w′ k) (λ k. bindAt w k) bind-old) refl),
+    rw (out 3 (inl (omega arith)) (λ e. omega arith)) (part-consts w′ g (getD w 3 0) (omega arith) cs ct),
+  )
+
+  -- the lists are as long as the count, and the innermost scope begins in them
+  lengths : (length (flags w) ≡ n) × (length (binds w) ≡ n)
+  unfolding flags binds
+  lengths = (length-tab n (λ k. getD w (4112 + k * 10 + 9) 0), length-tab n (λ k. bindAt w k))
+
+  -- the tables beside the bindings
+  top : heads w ≡ headAt w (getD w 2 0 - 1) ∷ headsAt w (getD w 2 0 - 1)
+  unfolding heads
+  top = some-head w (getD w 2 0) z
+
+  begins-in : getD w (7184 + (getD w 2 0 - 1) * 4 + 1) 0 ≤ n
+  begins-in = top-begins w g z
+
+  index-new : getD w′ (7568 + id) 0 ≡ place id (heads w) (binds w ++ (new ∷ []))
+  index-new =
+      let a : ℕ = getD w (7184 + (getD w 2 0 - 1) * 4 + 1) 0 in
+      let m : a ≤ length (binds w) = omega (arith, begins-in, lengths .1) in
+      let was : getD w (7568 + id) 0 ≡ place id (headAt w (getD w 2 0 - 1) ∷ headsAt w (getD w 2 0 - 1)) (binds w) = g .beside .index id small ∙ ap (λ (l : List Head). place id l (binds w)) top in
+      tail (7568 + id) (omega arith) ∙ ⊎-elim
+      (λ (l : a < getD w (7568 + id) 0). zeroth .again l ∙ was ∙ sym (rw top (place-again id (headAt w (getD w 2 0 - 1)) (headsAt w (getD w 2 0 - 1)) (binds w) new refl m (omega (arith, was)))))
+      (λ (l : getD w (7568 + id) 0 ≤ a). zeroth .first l ∙ sym (rw top (place-last id (headAt w (getD w 2 0 - 1)) (headsAt w (getD w 2 0 - 1)) (binds w) new refl m (omega (arith, was)) ∙ omega (arith, lengths .1))))
+      (below-or-not a (getD w (7568 + id) 0))
+
+  index-other : (x : ℕ) → x < 256 → (x ≡ id → ⊥) → getD w′ (7568 + x) 0 ≡ place x (heads w) (binds w ++ (new ∷ []))
+  index-other x l d = tail (7568 + x) (omega arith) ∙ zeroth .other (7568 + x) (λ e. omega arith) (λ e. d (omega arith)) ∙ g .beside .index x l ∙ sym (place-other x new (λ e. d (sym e)) (heads w) (binds w))
+
+  upto-old : (k : ℕ) → k ≤ n → tab k (λ j. bindAt w′ j) ≡ tab k (λ j. bindAt w j)
+  upto-old k l = tab-ext k (λ j. bindAt w′ j) (λ j. bindAt w j) (λ j m. bind-old j (omega arith))
+
+  name-new : getD w′ (4112 + n * 10) 0 ≡ id
+  name-new = first (4112 + n * 10) (omega arith) (omega arith) ∙ one .at0
+
+  shadow-new : getD w′ (7824 + n) 0 ≡ place (getD w′ (4112 + n * 10) 0) (heads w) (tab n (λ j. bindAt w j))
+  unfolding binds
+  shadow-new = tail (7824 + n) (omega arith) ∙ zeroth .shadow ∙ g .beside .index id small ∙ ap (λ (i : ℕ). place i (heads w) (tab n (λ j. bindAt w j))) (sym name-new)
+
+  shadow-old : (k : ℕ) → k < n → getD w′ (7824 + k) 0 ≡ place (getD w′ (4112 + k * 10) 0) (heads w) (tab k (λ j. bindAt w j))
+  shadow-old k l = tail (7824 + k) (omega arith) ∙ zeroth .other (7824 + k) (λ e. omega arith) (λ e. omega arith) ∙ g .beside .shadow k l ∙ ap (λ (i : ℕ). place i (heads w) (tab k (λ j. bindAt w j))) (sym (out (4112 + k * 10) (inl (omega arith)) (λ e. omega arith)))
+
+  push-beside : Beside w′
+  push-beside = record {
+    index = λ x l. rw (heads-new, parts .1) (⊎-elim (λ (e : x ≡ id). rw e index-new) (λ (d : x ≡ id → ⊥). index-other x l d) (same-or-not x id));
+    shadow = rw (count, heads-new) (λ k l. rw (upto-old k (omega arith)) (⊎-elim (λ (e : k ≡ n). rw e shadow-new) (λ (q : k < n). shadow-old k q) (eq-or-lt-of-le (omega arith))));
+  }
 
   push-good : Good w′
   push-good = record {
@@ -130,21 +196,8 @@ module _ (w u v : List ℕ) (g : Good w) (h : getD w 1 0 + getD w 3 0 < 256) (z 
     names = rw push-tree (g .names);
     whole = rw count (λ k l. ⊎-elim (λ (e : k ≡ n). rw (e, run-new) whole-none) (λ (q : k < n). rw (run-old k q) (g .whole k q)) (eq-or-lt-of-le (omega arith)));
     cwhole = rw (out 3 (inl (omega arith)) (λ e. omega arith)) (λ k l. rw (part-crun w′ g (getD w 3 0) (omega arith) cs ct k l) (g .cwhole k l));
+    beside = push-beside;
   }
-
-  -- the parts
-  parts : (flags w′ ≡ flags w ++ (0 ∷ [])) × (binds w′ ≡ binds w ++ (new ∷ [])) × (consts w′ ≡ consts w)
-  unfolding flags binds consts
-  parts = (
-    rw count (tab-suc n (λ k. getD w′ (4112 + k * 10 + 9) 0) ∙ rw (flag-new, tab-ext n (λ k. getD w′ (4112 + k * 10 + 9) 0) (λ k. getD w (4112 + k * 10 + 9) 0) (λ k l. out (4112 + k * 10 + 9) (inl (omega arith)) (λ e. omega arith))) refl),
-    rw count (tab-suc n (λ k. bindAt w′ k) ∙ rw (bind-new, tab-ext n (λ k. bindAt w′ k) (λ k. bindAt w k) bind-old) refl),
-    rw (out 3 (inl (omega arith)) (λ e. omega arith)) (part-consts w′ g (getD w 3 0) (omega arith) cs ct),
-  )
-
-  -- the lists are as long as the count, and the innermost scope begins in them
-  lengths : (length (flags w) ≡ n) × (length (binds w) ≡ n)
-  unfolding flags binds
-  lengths = (length-tab n (λ k. getD w (4112 + k * 10 + 9) 0), length-tab n (λ k. bindAt w k))
 
   on-top : split (heads w) (flags w ++ (0 ∷ [])) (binds w ++ (new ∷ [])) (consts w) ≡ append new (split (heads w) (flags w) (binds w) (consts w))
   unfolding heads
@@ -154,7 +207,7 @@ module _ (w u v : List ℕ) (g : Good w) (h : getD w 1 0 + getD w 3 0 < 256) (z 
       rw e (laws.append-split new (headAt w (getD w 2 0 - 1)) (headsAt w (getD w 2 0 - 1)) (flags w) (binds w) (consts w) (omega (arith, f .0, lengths .1)) (lengths .0 ∙ sym (lengths .1)))
 
   pub pushed-past : Agree (4112 + n * 10 + 10) 6672 w w′
-  pushed-past j a b = out j (inr (omega arith)) (λ e. omega arith)
+  pushed-past j a b = out j (inr (inl (omega arith, omega arith))) (λ e. omega arith)
 
   pub pushed : Becomes w w′ (append new (stack w))
   unfolding stack
@@ -162,8 +215,8 @@ module _ (w u v : List ℕ) (g : Good w) (h : getD w 1 0 + getD w 3 0 < 256) (z 
     good = push-good;
     is = rw (heads-new, parts .0, parts .1, parts .2) on-top;
     tree = push-tree;
-    others = record { low = λ j a b. out j (inl (omega arith)) (λ e. omega arith); high = λ j a b. out j (inr (omega arith)) (λ e. omega arith) };
-    rest = beyond-same w w′ size (λ j a. out j (inr (omega arith)) (λ e. omega arith));
+    others = record { low = λ j a b. out j (inl (omega arith)) (λ e. omega arith); high = λ j a b. out j (inr (inr (omega arith))) (λ e. omega arith) };
+    rest = beyond-same w w′ size (λ j a. out j (inr (inr (omega arith))) (λ e. omega arith));
   }
 
 -- the first n bindings are kept
@@ -250,6 +303,31 @@ module _ (w u v : List ℕ) (g : Good w) (h : getD w 2 0 < 32) (kind : ℕ) (one
   open-tree : tree x ≡ tree w
   open-tree = part-tree x g (low 0 (omega arith) (λ e. omega arith)) (λ j a b. low j (omega arith) (λ e. omega arith))
 
+  open-parts : (flags x ≡ flags w) × (binds x ≡ binds w) × (consts x ≡ consts w)
+  unfolding flags binds consts
+  open-parts = (
+    rw n1 (part-flags x g (getD w 1 0) (omega arith) ov ob),
+    rw n1 (part-binds x g (getD w 1 0) (omega arith) ov ob),
+    rw n3 (part-consts x g (getD w 3 0) (omega arith) ow oc),
+  )
+
+  open-lengths : (length (flags w) ≡ getD w 1 0) × (length (binds w) ≡ getD w 1 0) × (length (consts w) ≡ getD w 3 0)
+  unfolding flags binds consts
+  open-lengths = (length-tab (getD w 1 0) (λ k. getD w (4112 + k * 10 + 9) 0), length-tab (getD w 1 0) (λ k. bindAt w k), length-tab (getD w 3 0) (λ k. constAt w k))
+
+  beside-kept : (j : ℕ) → 7568 ≤ j → getD x j 0 ≡ getD w j 0
+  beside-kept j l = keeps j (inr (inr (omega arith))) (λ e. omega arith)
+
+  open-beside : Beside x
+  open-beside = record {
+    index = λ y l. beside-kept (7568 + y) (omega arith) ∙ g .beside .index y l ∙ sym (rw (heads-open, open-parts .1) (place-past y (headAt x d) (heads w) (binds w) (omega (arith, start-at, open-lengths .1))));
+    shadow = rw n1 (λ k l.
+        let i = getD w (4112 + k * 10) 0 in
+        let same : tab k (λ j. bindAt x j) ≡ tab k (λ j. bindAt w j) = tab-ext k (λ j. bindAt x j) (λ j. bindAt w j) (λ j m. part-bind x g (getD w 1 0) (omega arith) ov ob j (omega arith)) in
+        beside-kept (7824 + k) (omega arith) ∙ g .beside .shadow k l
+        ∙ sym (rw (heads-open, same, ob (4112 + k * 10) (omega arith) (omega arith)) (place-past i (headAt x d) (heads w) (tab k (λ j. bindAt w j)) (omega (arith, start-at, length-tab k (λ j. bindAt w j))))));
+  }
+
   open-good : Good x
   open-good = record {
     long = rw x-size (g .long);
@@ -268,19 +346,8 @@ module _ (w u v : List ℕ) (g : Good w) (h : getD w 2 0 < 32) (kind : ℕ) (one
     names = rw open-tree (g .names);
     whole = rw n1 (λ k l. rw (part-run x g (getD w 1 0) (omega arith) ov ob k l) (g .whole k l));
     cwhole = rw n3 (λ k l. rw (part-crun x g (getD w 3 0) (omega arith) ow oc k l) (g .cwhole k l));
+    beside = open-beside;
   }
-
-  open-parts : (flags x ≡ flags w) × (binds x ≡ binds w) × (consts x ≡ consts w)
-  unfolding flags binds consts
-  open-parts = (
-    rw n1 (part-flags x g (getD w 1 0) (omega arith) ov ob),
-    rw n1 (part-binds x g (getD w 1 0) (omega arith) ov ob),
-    rw n3 (part-consts x g (getD w 3 0) (omega arith) ow oc),
-  )
-
-  open-lengths : (length (flags w) ≡ getD w 1 0) × (length (binds w) ≡ getD w 1 0) × (length (consts w) ≡ getD w 3 0)
-  unfolding flags binds consts
-  open-lengths = (length-tab (getD w 1 0) (λ k. getD w (4112 + k * 10 + 9) 0), length-tab (getD w 1 0) (λ k. bindAt w k), length-tab (getD w 3 0) (λ k. constAt w k))
 
   pub opened : Becomes w x (newScope (scopeKindOf kind) ∷ stack w)
   unfolding stack

@@ -1,26 +1,28 @@
 -- A scope dropped: the counts shrink. Assumes nothing.
 use mathlib.Core.Path.{_≡_, refl, sym, ap, _∙_}
-use mathlib.Core.List.{List, _∷_}
+use mathlib.Core.List.{List, _∷_, map}
 use mathlib.Core.Bool.{true, _||_}
 use mathlib.Core.Logic.{_⊎_, inl, inr, ⊎-elim}
 use Prim.Native.Nat.{ℕ, zero, suc, _+_, _-_, _*_, _≤_, _<_}
 use native.Mathlib.Omega.{arith}
 use lib.ListN.{length, getD, set, take, length-set}
 use lib.Seq.{getD-set-same, getD-set-other}
-use Rattle.words.specs.Tab.{getD-tab, getD-tab-out, take-tab, below-or-not, sum-le}
+use Rattle.words.specs.Tab.{tab, length-tab, getD-tab, getD-tab-out, take-tab, below-or-not, sum-le}
 use Rattle.words.specs.Layout.{yes, Agree, tree}
 use Rattle.words.specs.Moved.{Merged}
 use Rattle.words.proofs.Nodes.{beyond-same}
 use Rattle.words.specs.Flags.{flagAt}
 use Rattle.words.proofs.Flags.{flag-or}
-use Rattle.words_scopes.specs.State.{scopeKindOf, lenAt, clenAt, constAt, bindAt, Head, unresAt, headAt, headsAt, heads, flags, binds, consts, stack, Fits, CFits, Good, Becomes, dropInner}
+use Rattle.words_scopes.specs.State.{scopeKindOf, lenAt, clenAt, constAt, bindAt, Head, unresAt, headAt, headsAt, heads, flags, binds, consts, stack, Fits, CFits, Good, Becomes, Beside, place, dropInner}
+use Rattle.words_scopes.specs.Index.{Restored}
 use Rattle.words_scopes.proofs.Split as laws
+use Rattle.words_scopes.proofs.Index.{named, begins, place-past, place-same, map-tab-same}
 use Rattle.words_scopes.proofs.Words.{heads-part, part-coff, part-crun, part-consts, part-tree}
 use Rattle.words_scopes.proofs.Grow.{some-head, part-off, part-run, part-binds, part-flags}
 
 -- d is the place of the scope that is closed
-module _ (w u : List ℕ) (g : Good w) (d : ℕ) (is : getD w 2 0 ≡ d + 1) (z : 0 < d)
-    (one : Merged w u (7312 + d * 8) (7312 + (d - 1) * 8) 8) where
+module _ (w t u : List ℕ) (g : Good w) (d : ℕ) (is : getD w 2 0 ≡ d + 1) (z : 0 < d)
+    (zeroth : Restored w t (getD w (7184 + d * 4 + 1) 0)) (one : Merged t u (7312 + d * 8) (7312 + (d - 1) * 8) 8) where
   abbrev n : ℕ
   n = getD w (7184 + d * 4 + 1) 0
 
@@ -33,23 +35,28 @@ module _ (w u : List ℕ) (g : Good w) (d : ℕ) (is : getD w 2 0 ≡ d + 1) (z 
   three : (j : ℕ) → (j ≡ 1 → ⊥) → (j ≡ 3 → ⊥) → (j ≡ 2 → ⊥) → getD x j 0 ≡ getD u j 0
   three j p q r = getD-set-other (set (set u 1 n) 3 c) 2 j d 0 r ∙ getD-set-other (set u 1 n) 3 j c 0 q ∙ getD-set-other u 1 j n 0 p
 
-  keeps : (j : ℕ) → (j < 7312 + (d - 1) * 8) ⊎ (7312 + d * 8 ≤ j) → (j ≡ 1 → ⊥) → (j ≡ 3 → ⊥) → (j ≡ 2 → ⊥) → getD x j 0 ≡ getD w j 0
-  keeps j o p q r = three j p q r ∙ ⊎-elim (λ (l : j < 7312 + (d - 1) * 8). one .low j l) (λ (l : 7312 + d * 8 ≤ j). one .high j (omega arith)) o
+  deep : d < 32
+  deep = omega (arith, g .depth)
+
+  keeps : (j : ℕ) → (j < 7312 + (d - 1) * 8) ⊎ (7824 ≤ j) → (j ≡ 1 → ⊥) → (j ≡ 3 → ⊥) → (j ≡ 2 → ⊥) → getD x j 0 ≡ getD w j 0
+  keeps j o p q r = three j p q r ∙ ⊎-elim
+      (λ (l : j < 7312 + (d - 1) * 8). one .low j l ∙ zeroth .other j (inl (omega (arith, deep))))
+      (λ (l : 7824 ≤ j). one .high j (omega (arith, deep)) ∙ zeroth .other j (inr l)) o
 
   low : (j : ℕ) → j < 7312 → (3 < j) ⊎ (j ≡ 0) → getD x j 0 ≡ getD w j 0
   low j l o = ⊎-elim (λ (a : 3 < j). keeps j (inl (omega arith)) (λ e. omega arith) (λ e. omega arith) (λ e. omega arith)) (λ (a : j ≡ 0). keeps j (inl (omega arith)) (λ e. omega arith) (λ e. omega arith) (λ e. omega arith)) o
 
   size : length x ≡ length w
-  size = simp length-set (one .size)
+  size = simp length-set (one .size ∙ zeroth .size)
 
   pub n1 : getD x 1 0 ≡ n
-  n1 = let l = g .long in getD-set-other (set (set u 1 n) 3 c) 2 1 d 0 (λ e. omega arith) ∙ getD-set-other (set u 1 n) 3 1 c 0 (λ e. omega arith) ∙ getD-set-same u 1 n 0 (omega (arith, one .size))
+  n1 = let l = g .long in getD-set-other (set (set u 1 n) 3 c) 2 1 d 0 (λ e. omega arith) ∙ getD-set-other (set u 1 n) 3 1 c 0 (λ e. omega arith) ∙ getD-set-same u 1 n 0 (omega (arith, one .size, zeroth .size))
 
   n3 : getD x 3 0 ≡ c
-  n3 = let l = g .long in getD-set-other (set (set u 1 n) 3 c) 2 3 d 0 (λ e. omega arith) ∙ getD-set-same (set u 1 n) 3 c 0 (simp length-set (omega (arith, one .size)))
+  n3 = let l = g .long in getD-set-other (set (set u 1 n) 3 c) 2 3 d 0 (λ e. omega arith) ∙ getD-set-same (set u 1 n) 3 c 0 (simp length-set (omega (arith, one .size, zeroth .size)))
 
   n2 : getD x 2 0 ≡ d
-  n2 = let l = g .long in getD-set-same (set (set u 1 n) 3 c) 2 d 0 (simp length-set (omega (arith, one .size)))
+  n2 = let l = g .long in getD-set-same (set (set u 1 n) 3 c) 2 d 0 (simp length-set (omega (arith, one .size, zeroth .size)))
 
   abbrev hs : List Head
   hs = headsAt w (d - 1)
@@ -71,7 +78,7 @@ module _ (w u : List ℕ) (g : Good w) (d : ℕ) (is : getD w 2 0 ≡ d + 1) (z 
       let t : List ℕ → ℕ → ℕ → ℕ = λ l k i. flagAt l (7312 + k * 8) i in
       ⊎-elim
       (λ (l : j < 256). rw (getD-tab 256 (t x (d - 1)) j 0 l, getD-tab 256 (t w d) j 0 l, getD-tab 256 (t w (d - 1)) j 0 l)
-      (flag-or w x (7312 + d * 8) (7312 + (d - 1) * 8) j l (λ i m. three (7312 + (d - 1) * 8 + i) (λ e. omega arith) (λ e. omega arith) (λ e. omega arith) ∙ one .here i m)))
+      (flag-or w x (7312 + d * 8) (7312 + (d - 1) * 8) j l (λ i m. three (7312 + (d - 1) * 8 + i) (λ e. omega arith) (λ e. omega arith) (λ e. omega arith) ∙ one .here i m ∙ rw (zeroth .other (7312 + d * 8 + i) (inl (omega (arith, deep))), zeroth .other (7312 + (d - 1) * 8 + i) (inl (omega (arith, deep)))) refl)))
       (λ (l : 256 ≤ j). rw (getD-tab-out 256 (t x (d - 1)) j 0 l, getD-tab-out 256 (t w d) j 0 l, getD-tab-out 256 (t w (d - 1)) j 0 l) refl)
       (below-or-not j 256)
 
@@ -102,6 +109,31 @@ module _ (w u : List ℕ) (g : Good w) (d : ℕ) (is : getD w 2 0 ≡ d + 1) (z 
   drop-tree : tree x ≡ tree w
   drop-tree = part-tree x g (low 0 (omega arith) (inr refl)) (λ j a b. low j (omega arith) (inl (omega arith)))
 
+  drop-parts : (flags x ≡ take n (flags w)) × (binds x ≡ take n (binds w)) × (consts x ≡ take c (consts w))
+  unfolding flags binds consts
+  drop-parts = (
+    rw n1 (part-flags x g n (fits .0) ov ob ∙ sym (take-tab n (getD w 1 0) (λ k. getD w (4112 + k * 10 + 9) 0) (fits .0))),
+    rw n1 (part-binds x g n (fits .0) ov ob ∙ sym (take-tab n (getD w 1 0) (λ k. bindAt w k) (fits .0))),
+    rw n3 (part-consts x g c (cfits .0) ow oc ∙ sym (take-tab c (getD w 3 0) (λ k. constAt w k) (cfits .0))),
+  )
+
+  -- the tables beside the bindings
+  begins-kept : map begins (heads x) ≡ map begins (headAt w (d - 1) ∷ hs)
+  begins-kept = rw heads-are (ap (λ (a : ℕ). a ∷ map begins hs) (head-word 1 (omega arith)))
+
+  drop-place : (i k : ℕ) → k ≤ n → place i (heads w) (tab k (λ j. bindAt w j)) ≡ place i (heads x) (tab k (λ j. bindAt x j))
+  drop-place i k l =
+      rw heads-were (place-past i (headAt w d) (headAt w (d - 1) ∷ hs) (tab k (λ j. bindAt w j)) (omega (arith, length-tab k (λ j. bindAt w j))))
+      ∙ sym (place-same i (headAt w (d - 1) ∷ hs) (heads x) (tab k (λ j. bindAt w j)) (tab k (λ j. bindAt x j)) begins-kept (map-tab-same named k (λ j. bindAt w j) (λ j. bindAt x j) (λ j m. ob (4112 + j * 10) (omega arith) (omega arith))))
+
+  drop-beside : Beside x
+  unfolding binds
+  drop-beside = record {
+    index = rw n1 (λ y l. three (7568 + y) (λ e. omega arith) (λ e. omega arith) (λ e. omega arith) ∙ one .high (7568 + y) (omega (arith, deep)) ∙ zeroth .index y l ∙ drop-place y n (omega arith));
+    shadow = rw n1 (λ k l. keeps (7824 + k) (inr (omega arith)) (λ e. omega arith) (λ e. omega arith) (λ e. omega arith) ∙ g .beside .shadow k (omega (arith, fits .0))
+        ∙ drop-place (getD w (4112 + k * 10) 0) k (omega arith) ∙ ap (λ (i : ℕ). place i (heads x) (tab k (λ j. bindAt x j))) (sym (ob (4112 + k * 10) (omega arith) (omega arith))));
+  }
+
   drop-good : Good x
   drop-good = record {
     long = rw size (g .long);
@@ -120,15 +152,8 @@ module _ (w u : List ℕ) (g : Good w) (d : ℕ) (is : getD w 2 0 ≡ d + 1) (z 
     names = rw drop-tree (g .names);
     whole = rw n1 (λ k l. rw (part-run x g n (fits .0) ov ob k l) (g .whole k (omega (arith, fits .0))));
     cwhole = rw n3 (λ k l. rw (part-crun x g c (cfits .0) ow oc k l) (g .cwhole k (omega (arith, cfits .0))));
+    beside = drop-beside;
   }
-
-  drop-parts : (flags x ≡ take n (flags w)) × (binds x ≡ take n (binds w)) × (consts x ≡ take c (consts w))
-  unfolding flags binds consts
-  drop-parts = (
-    rw n1 (part-flags x g n (fits .0) ov ob ∙ sym (take-tab n (getD w 1 0) (λ k. getD w (4112 + k * 10 + 9) 0) (fits .0))),
-    rw n1 (part-binds x g n (fits .0) ov ob ∙ sym (take-tab n (getD w 1 0) (λ k. bindAt w k) (fits .0))),
-    rw n3 (part-consts x g c (cfits .0) ow oc ∙ sym (take-tab c (getD w 3 0) (λ k. constAt w k) (cfits .0))),
-  )
 
   pub dropped-consts : getD x 3 0 ≤ getD w 3 0
   dropped-consts = omega (arith, n3, cfits .0)

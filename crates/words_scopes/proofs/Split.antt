@@ -65,10 +65,10 @@ module _ (i : ℕ) (b : VarInfo) (bs : List VarInfo) where
   pub has-no : eqb (b .id) i ≡ false → hasIn i (b ∷ bs) ≡ hasIn i bs
   has-no e = ap (λ (p : Bool). isSome {A = VarInfo} (elim p [ true ↦ some b | false ↦ findIn i bs ])) e
 
-  index-yes : eqb (b .id) i ≡ true → indexIn i (b ∷ bs) ≡ 0
+  pub index-yes : eqb (b .id) i ≡ true → indexIn i (b ∷ bs) ≡ 0
   index-yes e = ap (λ (p : Bool). elim p [ true ↦ 0 | false ↦ suc (indexIn i bs) ]) e
 
-  index-no : eqb (b .id) i ≡ false → indexIn i (b ∷ bs) ≡ suc (indexIn i bs)
+  pub index-no : eqb (b .id) i ≡ false → indexIn i (b ∷ bs) ≡ suc (indexIn i bs)
   index-no e = ap (λ (p : Bool). elim p [ true ↦ 0 | false ↦ suc (indexIn i bs) ]) e
 
   pub change-yes : (f : VarInfo → VarInfo) → eqb (b .id) i ≡ true → changeIn i f (b ∷ bs) ≡ f b ∷ bs
@@ -109,10 +109,10 @@ pub in-miss : (i : ℕ) (bs : List VarInfo) → ((j : ℕ) → j < length bs →
 in-miss i [] m = refl
 in-miss i (b ∷ bs) m = has-no i b bs (ne-eqb (b .id) i (m 0 (omega arith))) ∙ in-miss i bs (λ j l. m (suc j) (omega arith))
 
-never : false ≡ true → ⊥
+pub never : false ≡ true → ⊥
 never e = let z : _≡_ {A = ℕ} 0 1 = cc in omega arith
 
-index-lt : (i : ℕ) (bs : List VarInfo) → hasIn i bs ≡ true → indexIn i bs < length bs
+pub index-lt : (i : ℕ) (bs : List VarInfo) → hasIn i bs ≡ true → indexIn i bs < length bs
 index-lt i [] h = absurd (never h)
 index-lt i (b ∷ bs) h = tested (eqb (b .id) i)
     (λ e. omega (arith, index-yes i b bs e))

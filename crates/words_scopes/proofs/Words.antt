@@ -24,6 +24,7 @@ use Rattle.words.proofs.Flags.{flag-same}
 use Rattle.words.proofs.Nodes.{run-same, run-length, run-at, tree-same}
 use Rattle.words_scopes.specs.State.{scopeKindOf, split, varTypeOf, aliasAt, valueOf, lenAt, off, runAt, bindAt, clenAt, coff, crunAt, constAt, Head, unresAt, headAt, headsAt, heads, flags, binds, consts, stack, Fits, Good, Becomes, place, indexIn, hitAt, nameOf, recordAt, noRecord, Window, Whole, Others}
 use Rattle.words_scopes.proofs.Split as laws
+use Rattle.words_scopes.proofs.Index.{begins, beside-same}
 
 -- what holds of no place from a up to k, nor of k, holds of none up to k + 1
 pub none-more : {P : ℕ → Type 0} (a k : ℕ) → ((j : ℕ) → a ≤ j → j < k → P j → ⊥) → (P k → ⊥) → (j : ℕ) → a ≤ j → j < k + 1 → P j → ⊥
@@ -152,8 +153,8 @@ module _ {w w′ : List ℕ} (g : Good w) (t : Kept w w′) where
   kept-others : Others w w′
   kept-others = record { low = λ j a b. t .counts j (omega arith) b; high = λ j a b. t .tail j (omega arith) b }
 
-  -- the values are within their limit, those of bindings whole, and the bindings' names below 256
-  pub kept-good : off w′ (getD w 1 0) + coff w (getD w 3 0) ≤ 512 → ((k : ℕ) → k < getD w 1 0 → getD w′ (4112 + k * 10) 0 < 256) → ((k : ℕ) → k < getD w 1 0 → Whole (runAt w′ k)) → Good w′
+  -- the values are within their limit, those of bindings whole, and the bindings' names are kept
+  pub kept-good : off w′ (getD w 1 0) + coff w (getD w 3 0) ≤ 512 → ((k : ℕ) → k < getD w 1 0 → getD w′ (4112 + k * 10) 0 ≡ getD w (4112 + k * 10) 0) → ((k : ℕ) → k < getD w 1 0 → Whole (runAt w′ k)) → Good w′
   kept-good o i v = record {
     long = rw (t .size) (g .long);
     nodes = rw (t .counts 0 (omega arith) (omega arith)) (g .nodes);
@@ -166,11 +167,12 @@ module _ {w w′ : List ℕ} (g : Good w) (t : Kept w w′) where
     recorded = rw (t .counts 1 (omega arith) (omega arith), t .counts 3 (omega arith) (omega arith), part-coff w′ g (getD w 3 0) (omega arith) (t .cstore) kept-const (getD w 3 0) (omega arith)) o;
     fits = rw (kept-heads, t .counts 1 (omega arith) (omega arith)) (g .fits);
     cfits = rw (kept-heads, t .counts 3 (omega arith) (omega arith)) (g .cfits);
-    ids = rw (t .counts 1 (omega arith) (omega arith)) i;
+    ids = rw (t .counts 1 (omega arith) (omega arith)) (λ k h. rw (i k h) (g .ids k h));
     cids = rw (t .counts 3 (omega arith) (omega arith)) (λ k h. rw (kept-const (6672 + k * 2) (omega arith) (omega arith)) (g .cids k h));
     names = rw kept-tree (g .names);
     whole = rw (t .counts 1 (omega arith) (omega arith)) v;
     cwhole = rw (t .counts 3 (omega arith) (omega arith)) (λ k h. rw (part-crun w′ g (getD w 3 0) (omega arith) (t .cstore) kept-const k h) (g .cwhole k h));
+    beside = beside-same (g .beside) (t .counts 1 (omega arith) (omega arith)) (ap (map begins) kept-heads) i (λ j a b. t .tail j (omega arith) (omega arith)) (g .count);
   }
 
   -- the bindings changed to bs
@@ -201,7 +203,7 @@ module _ {w w′ : List ℕ} (g : Good w) (r : Runs w w′) where
       (run-same w w′ 2064 (off w k) (lenAt w k) 512 (omega (arith, sum-part (λ j. lenAt w j) k (getD w 1 0) h, g .vals)) (λ j a b. r .store j a (omega arith)))
 
   pub runs-good : Kept w w′ → Good w′
-  runs-good t = kept-good g t (rw (runs-off (getD w 1 0) (g .count)) (g .recorded)) (λ k h. let l = g .count in rw (r .ids k (omega arith)) (g .ids k h)) (λ k h. rw (runs-at k h) (g .whole k h))
+  runs-good t = kept-good g t (rw (runs-off (getD w 1 0) (g .count)) (g .recorded)) (λ k h. let l = g .count in r .ids k (omega arith)) (λ k h. rw (runs-at k h) (g .whole k h))
 
 -- a binding by its fields, and by its words
 pub bind-eq : {a a′ d d′ : ℕ} {b b′ : VarType} {c c′ : Option VarType} {e e′ f f′ h h′ i i′ : Bool} {v v′ : Option Tree} → a ≡ a′ → b ≡ b′ → c ≡ c′ → d ≡ d′ → e ≡ e′ → f ≡ f′ → v ≡ v′ → h ≡ h′ → i ≡ i′

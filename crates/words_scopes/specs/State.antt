@@ -162,7 +162,21 @@ pub record Whole (xs : List Core) : Type 0 where
   pub one : runOf (valueOf xs) ≡ xs
   pub names : Names xs
 
--- counts are within their limits, scopes are in order, identifiers are below 256, and values are whole
+-- 1 + the place in the list of all bindings of the innermost binding of an identifier, 0 if there is none
+abbrev pub indexIn : ℕ → List VarInfo → ℕ
+indexIn i [] = 0
+indexIn i (b ∷ bs) = elim (eqb (b .id) i) [ true ↦ 0 | false ↦ suc (indexIn i bs) ]
+
+abbrev pub place : ℕ → List Head → List VarInfo → ℕ
+place i [] bs = 0
+place i (h ∷ hs) bs = elim (hasIn i (drop (h .start) bs)) [ true ↦ suc (h .start + indexIn i (drop (h .start) bs)) | false ↦ place i hs (take (h .start) bs) ]
+
+-- the tables beside the bindings: of each identifier where its innermost binding is, and of each binding where the one of its identifier was when it was made
+pub record Beside (w : List ℕ) : Type 0 where
+  pub index : (x : ℕ) → x < 256 → getD w (7568 + x) 0 ≡ place x (heads w) (binds w)
+  pub shadow : (k : ℕ) → k < getD w 1 0 → getD w (7824 + k) 0 ≡ place (getD w (4112 + k * 10) 0) (heads w) (tab k (λ j. bindAt w j))
+
+-- counts are within their limits, scopes are in order, identifiers are below 256, values are whole, and the tables beside the bindings are those of the scopes
 pub record Good (w : List ℕ) : Type 0 where
   pub long : 16384 ≤ length w
   pub nodes : getD w 0 0 ≤ 1024
@@ -181,11 +195,12 @@ pub record Good (w : List ℕ) : Type 0 where
   pub names : Names (tree w)
   pub whole : (k : ℕ) → k < getD w 1 0 → Whole (runAt w k)
   pub cwhole : (k : ℕ) → k < getD w 3 0 → Whole (crunAt w k)
+  pub beside : Beside w
 
 -- the words that no scope has, among the first 16,384: the count of identifiers and what is reserved; what is free, and the first nodes of the identifiers
 pub record Others (w w′ : List ℕ) : Type 0 where
   pub low : Agree 4 16 w w′
-  pub high : Agree 7568 16384 w w′
+  pub high : Agree 8080 16384 w w′
 
 -- w became w′, whose scopes are st: all else is as it was
 pub record Becomes (w w′ : List ℕ) (st : Stack) : Type 0 where
@@ -200,15 +215,6 @@ abbrev pub dropInner : Stack → Stack
 dropInner [] = []
 dropInner (c ∷ []) = []
 dropInner (c ∷ s ∷ st) = record { kind = s .kind; inlineBarriers = s .inlineBarriers; bindings = s .bindings; unresolvedUsages = λ j. c .unresolvedUsages j || s .unresolvedUsages j; constants = s .constants } ∷ st
-
--- 1 + the place in the list of all bindings of the innermost binding of an identifier, 0 if there is none
-abbrev pub indexIn : ℕ → List VarInfo → ℕ
-indexIn i [] = 0
-indexIn i (b ∷ bs) = elim (eqb (b .id) i) [ true ↦ 0 | false ↦ suc (indexIn i bs) ]
-
-abbrev pub place : ℕ → List Head → List VarInfo → ℕ
-place i [] bs = 0
-place i (h ∷ hs) bs = elim (hasIn i (drop (h .start) bs)) [ true ↦ suc (h .start + indexIn i (drop (h .start) bs)) | false ↦ place i hs (take (h .start) bs) ]
 
 -- what prevent_inline asks of a binding
 abbrev pub hitAt : List ℕ → ℕ → ℕ → Bool

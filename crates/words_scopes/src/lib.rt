@@ -9,6 +9,7 @@ ghost use Rattle.def_pass.specs.Scope.{prevent, change, preventOne, preventInli
 ghost use Rattle.words.specs.Layout.{yes, Agree};
 ghost use Rattle.words_prevent.specs.Mark.{marked};
 ghost use Rattle.words_scopes.specs.State.{Good, Becomes, stack, heads, binds, place, off, bindAt, nameOf, hitAt, Window, varTypeOf, aliasAt, scopeKindOf, bareOf, dropInner};
+ghost use Rattle.words_scopes.specs.Index.{Entered, Restored};
 use words::layout;
 use words::merge;
 use words::put4;
@@ -34,6 +35,14 @@ pub fn find_in(w: &[u32], a: usize, e: usize, x: u8) -> usize
 
 // 1 + the place of the innermost binding of x, 0 if there is none.
 pub fn find_binding(w: &[u32], x: u8) -> usize
+    requires { ⌜ Good (now w) ⌝ }
+    ensures { λ r. ⌜ (r ≡ place x (heads (now (w .entry))) (binds (now (w .entry)))) × (r ≤ getD (now (w .entry)) 1 0) ⌝ }
+{
+    w[layout::INDEX + x as usize] as usize
+}
+
+// The same by a walk from the current scope to the root.
+pub fn find_by_walk(w: &[u32], x: u8) -> usize
     requires { ⌜ Good (now w) ⌝ }
     ensures { λ r. ⌜ (r ≡ place x (heads (now (w .entry))) (binds (now (w .entry)))) × (r ≤ getD (now (w .entry)) 1 0) ⌝ }
 {
@@ -195,6 +204,31 @@ pub fn offset(w: &[u32], k: usize) -> usize
     offset_from(w, 0, 0, k)
 }
 
+// Enters binding n, of identifier x, into the tables beside the bindings; the current scope begins at binding a.
+fn enter(w: &mut [u32], n: usize, x: u8, a: usize)
+    requires { ⌜ (16384 ≤ length (now w)) × (n < 256) ⌝ }
+    ensures { λ _. ⌜ Entered (now (w .entry)) (now (w .exit)) n x a ⌝ }
+{
+    let o = w[layout::INDEX + x as usize];
+    w[layout::SHADOWED + n] = o;
+    if o as usize <= a {
+        w[layout::INDEX + x as usize] = (n + 1) as u32;
+    }
+}
+
+// Sets the index back to what it was before the bindings from a on, the last one first.
+fn restore(w: &mut [u32], a: usize)
+    requires { ⌜ (Good (now w)) × (a ≤ getD (now w) 1 0) ⌝ }
+    ensures { λ _. ⌜ Restored (now (w .entry)) (now (w .exit)) a ⌝ }
+{
+    let mut j = w[layout::BINDING_COUNT] as usize;
+    while a < j {
+        j -= 1;
+        let x = w[layout::BINDINGS + j * 10] as usize;
+        w[layout::INDEX + x] = w[layout::SHADOWED + j];
+    }
+}
+
 // Appends a binding without a value, by its words, to the innermost scope.
 pub fn append_record(
     w: &mut [u32],
@@ -211,6 +245,9 @@ pub fn append_record(
     ensures { λ _. ⌜ (Becomes (now (w .entry)) (now (w .exit)) (append (bareOf id kind alias reads prevented undef sensitive hoisted) (stack (now (w .entry))))) × (Agree (4112 + getD (now (w .entry)) 1 0 * 10 + 10) 6672 (now (w .entry)) (now (w .exit))) × (getD (now (w .exit)) 1 0 ≡ getD (now (w .entry)) 1 0 + 1) × (getD (now (w .exit)) 3 0 ≡ getD (now (w .entry)) 3 0) ⌝ }
 {
     let n = w[layout::BINDING_COUNT] as usize;
+    let d = w[layout::SCOPE_COUNT] as usize - 1;
+    let a = w[layout::SCOPES + d * 4 + layout::FIRST_BINDING] as usize;
+    enter(w, n, id, a);
     put5(
         w,
         layout::BINDINGS + n * 10,
@@ -261,6 +298,7 @@ pub fn drop_scope(w: &mut [u32])
     let d = w[layout::SCOPE_COUNT] as usize - 1;
     let n = w[layout::SCOPES + d * 4 + layout::FIRST_BINDING];
     let c = w[layout::SCOPES + d * 4 + layout::FIRST_CONSTANT];
+    restore(w, n as usize);
     merge(
         w,
         layout::UNRESOLVED + d * 8,

@@ -41,7 +41,7 @@ pub record Ok (w u : List ℕ) : Type 0 where
   pub size : length u ≡ length w
   pub idents : getD u 4 0 ≡ getD w 4 0
   pub reserved : Agree 12 16 w u
-  pub high : Agree 7568 16384 w u
+  pub high : Agree 8080 16384 w u
   pub rest : beyond u ≡ beyond w
 
 -- a step's answer: 0, and the state is that of the result, or document 01's number of its refusal, of which nothing is said

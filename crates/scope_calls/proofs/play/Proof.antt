@@ -10,10 +10,10 @@ use Rattle.scope_calls.proofs.play.Statement.{statement}
 use Rattle.scope_calls.proofs.play.Tie as tie
 
 abbrev Inv-loop : tie.InvT-loop
-Inv-loop w₀ s from n₀ i₀ w n i = Planted w × (length w ≡ length w₀) × (from ≤ i) × (i ≤ length s + 4)
+Inv-loop w₀ s from n₀ same₀ i₀ w n same i = Planted w × (length w ≡ length w₀) × (from ≤ i) × (i ≤ length s + 4)
 
 abbrev μ-loop : tie.MeasureT-loop
-μ-loop w₀ s from n₀ i₀ w n i = length s + 4 - i
+μ-loop w₀ s from n₀ same₀ i₀ w n same i = length s + 4 - i
 
 begin-requires : tie.Need-begin-requires Inv-loop μ-loop
 begin-requires c κs = search needs
@@ -34,22 +34,25 @@ next-requires c κs =
     let at-entry = at-loop .before .before .before .before .before .before .before in
     let l = keep.inside (at-byte .byte .ensures) (at-if1 .if1 .taken) in (at-loop .loop .inv .0, omega (arith, l, at-entry .pre .2))
 
+alike-requires : tie.Need-alike-requires Inv-loop μ-loop
+alike-requires c κs = c .before .before .before .next .ensures
+
 add-i : tie.Need-add-i Inv-loop μ-loop
 add-i c =
-    let at-if1 = c .before .before .before .before in
+    let at-if1 = c .before .before .before .before .before .before in
     let at-byte = at-if1 .before in
     let at-entry = at-byte .before .before .before .before .before .before .before .before in
     let l = keep.inside (at-byte .byte .ensures) (at-if1 .if1 .taken) in omega (arith, l, at-entry .pre .2)
 
 loop-less : tie.Need-loop-less Inv-loop μ-loop
 loop-less c =
-    let at-if1 = c .before .before .before .before in
+    let at-if1 = c .before .before .before .before .before .before in
     let at-byte = at-if1 .before in
     let l = keep.inside (at-byte .byte .ensures) (at-if1 .if1 .taken) in omega (arith, l)
 
 loop-again : tie.Need-loop-again Inv-loop μ-loop
 loop-again c =
-    let at-next = c .before .before in
+    let at-next = c .before .before .before .before in
     let at-if1 = at-next .before .before in
     let at-byte = at-if1 .before in
     let at-loop = at-byte .before in
@@ -87,6 +90,7 @@ play-spec =
     loop-holds
     byte-requires
     next-requires
+    alike-requires
     add-i
     loop-less
     loop-again

@@ -6,6 +6,7 @@ use lib.ListN.{getD}
 use Rattle.def_pass.specs.Scope.{findBindingFromCurrent}
 use Rattle.scope_find.specs.Look.{below}
 use Rattle.scope_find.proofs.Out as out
+use Rattle.scope_find.proofs.Placed as placed
 use Rattle.scope_find.proofs.find_binding_from_current.Statement.{statement}
 use Rattle.scope_find.proofs.find_binding_from_current.Tie as tie
 
@@ -25,7 +26,7 @@ sub-found-in : tie.Need-sub-found-in
 sub-found-in c = search needs
 
 found-in-requires : tie.Need-found-in-requires
-found-in-requires c κs = search needs
+found-in-requires c κs = let e = c .before .before .before in (e .pre, omega arith, placed.placed-top (e .args .w .now) (e .args .x) (omega arith))
 
 returns-2 : tie.Need-returns-2
 returns-2 c =

@@ -1,25 +1,31 @@
 -- Outwards: the invariant is that the answer is that of the scopes left. Assumes nothing.
-use Prim.Native.Nat.{ℕ, _+_, _*_, _-_, _≤_}
+use Prim.Native.Nat.{ℕ, suc, _+_, _*_, _-_, _≤_}
 use mathlib.Core.Path.{_≡_, refl, sym, ap, _∙_}
 use native.Mathlib.Omega.{arith}
-use borrow.Author.Needs.{needs}
 use lib.ListN.{getD}
 use Rattle.def_pass.specs.Scope.{isHoistedPrevented}
 use Rattle.words.specs.Layout.{yes}
-use Rattle.scope_find.specs.Look.{scopeAt, below, held}
+use Rattle.scope_find.specs.Look.{scopeAt, below, held, placeBelow}
 use Rattle.scope_find.proofs.Facts as facts
 use Rattle.scope_find.proofs.Out as out
+use borrow.Author.Needs.{needs}
 use Rattle.scope_find.proofs.held_below.Statement.{statement}
 use Rattle.scope_find.proofs.held_below.Tie as tie
+use Rattle.scope_find.proofs.held_below.Reads as reads
+use Rattle.scope_find.proofs.held_below.Lts as lts
+use Rattle.scope_find.proofs.found_from.Reads as found-from-reads
+use Rattle.scope_find.proofs.hoisted_prevented.Reads as hoisted-prevented-reads
+use Rattle.scope_find.proofs.outside.Reads as outside-reads
+use Rattle.words.proofs.flag_at.Reads as flag-at-reads
 
 abbrev Inv-loop : tie.InvT-loop
-Inv-loop w d x k₀ k = (k ≤ d) × (held x (below w d) ≡ held x (below w k))
+Inv-loop w d x q k₀ p₀ k p = (k ≤ d) × (held x (below w d) ≡ held x (below w k)) × (p ≡ placeBelow w x k)
 
 abbrev μ-loop : tie.MeasureT-loop
-μ-loop w d x k₀ k = k
+μ-loop w d x q k₀ p₀ k p = k
 
 loop-holds : tie.Need-loop-holds Inv-loop μ-loop
-loop-holds c = (omega arith, refl)
+loop-holds c = (omega arith, refl, c .before .pre .2)
 
 sub-k : tie.Need-sub-k Inv-loop μ-loop
 sub-k c = search needs
@@ -42,8 +48,13 @@ returns c =
     let k = at-loop .loop .k in
     sym (at-loop .loop .inv .1 ∙ ap (held (at-entry .args .x)) (out.turn w k (at-entry .pre .0) (at-loop-test .loop-test .taken) (omega (arith, at-loop .loop .inv .0, at-entry .pre .1))) ∙ facts.held-unresolved (at-entry .args .x) (scopeAt w (k - 1)) (below w (k - 1)) (facts.unresolved-at w (k - 1) (at-entry .args .x) (omega arith) ∙ ap yes (sym (c .before .flag-at .ensures)) ∙ facts.flag-set (c .before .flag-at .result) (c .if1 .taken)))
 
-found-in-requires : tie.Need-found-in-requires Inv-loop μ-loop
-found-in-requires c κs = search needs
+found-from-requires : tie.Need-found-from-requires Inv-loop μ-loop
+found-from-requires c κs =
+    let at-loop = c .before .before .before in
+    let at-entry = at-loop .before .before in
+    let k = at-loop .loop .k in
+    let q : k ≡ suc (k - 1) = omega arith in
+    (at-entry .pre .0, omega (arith, at-loop .loop .inv .0, at-entry .pre .1), at-loop .loop .inv .2 ∙ ap (placeBelow (at-entry .args .w .now) (at-entry .args .x)) q)
 
 hoisted-prevented-requires : tie.Need-hoisted-prevented-requires Inv-loop μ-loop
 hoisted-prevented-requires c κs = search needs
@@ -51,28 +62,37 @@ hoisted-prevented-requires c κs = search needs
 returns-2 : tie.Need-returns-2 Inv-loop μ-loop
 returns-2 c =
     let at-hoisted-prevented = c .before in
-    let at-found-in = at-hoisted-prevented .before in
-    let at-loop-test = at-found-in .before .before .before in
+    let at-found-from = at-hoisted-prevented .before in
+    let at-loop-test = at-found-from .before .before .before in
     let at-loop = at-loop-test .before in
     let at-entry = at-loop .before .before in
     let w = at-entry .args .w .now in
     let k = at-loop .loop .k in
-    sym (at-loop .loop .inv .1 ∙ ap (held (at-entry .args .x)) (out.turn w k (at-entry .pre .0) (at-loop-test .loop-test .taken) (omega (arith, at-loop .loop .inv .0, at-entry .pre .1))) ∙ facts.held-hoisted (at-entry .args .x) (scopeAt w (k - 1)) (below w (k - 1)) (ap isHoistedPrevented (at-found-in .found-in .ensures .is) ∙ sym (at-hoisted-prevented .hoisted-prevented .ensures) ∙ c .if2 .taken))
+    sym (at-loop .loop .inv .1 ∙ ap (held (at-entry .args .x)) (out.turn w k (at-entry .pre .0) (at-loop-test .loop-test .taken) (omega (arith, at-loop .loop .inv .0, at-entry .pre .1))) ∙ facts.held-hoisted (at-entry .args .x) (scopeAt w (k - 1)) (below w (k - 1)) (ap isHoistedPrevented (at-found-from .found-from .ensures .is) ∙ sym (at-hoisted-prevented .hoisted-prevented .ensures) ∙ c .if2 .taken))
+
+outside-requires : tie.Need-outside-requires Inv-loop μ-loop
+outside-requires c κs =
+    let at-loop = c .before .before .before .before .before .before in
+    let at-entry = at-loop .before .before in
+    let k = at-loop .loop .k in
+    let q : k ≡ suc (k - 1) = omega arith in
+    (at-entry .pre .0, omega (arith, at-loop .loop .inv .0, at-entry .pre .1), at-loop .loop .inv .2 ∙ ap (placeBelow (at-entry .args .w .now) (at-entry .args .x)) q)
 
 loop-less : tie.Need-loop-less Inv-loop μ-loop
 loop-less c = search needs
 
 loop-again : tie.Need-loop-again Inv-loop μ-loop
 loop-again c =
-    let at-hoisted-prevented = c .before in
-    let at-found-in = at-hoisted-prevented .before in
-    let at-if1 = at-found-in .before in
+    let at-if2 = c .before in
+    let at-hoisted-prevented = at-if2 .before in
+    let at-found-from = at-hoisted-prevented .before in
+    let at-if1 = at-found-from .before in
     let at-loop-test = at-if1 .before .before in
     let at-loop = at-loop-test .before in
     let at-entry = at-loop .before .before in
     let w = at-entry .args .w .now in
     let k = at-loop .loop .k in
-    (omega arith, at-loop .loop .inv .1 ∙ ap (held (at-entry .args .x)) (out.turn w k (at-entry .pre .0) (at-loop-test .loop-test .taken) (omega (arith, at-loop .loop .inv .0, at-entry .pre .1))) ∙ facts.held-next (at-entry .args .x) (scopeAt w (k - 1)) (below w (k - 1)) (facts.unresolved-at w (k - 1) (at-entry .args .x) (omega arith) ∙ ap yes (sym (at-if1 .before .flag-at .ensures) ∙ at-if1 .if1 .left)) (ap isHoistedPrevented (at-found-in .found-in .ensures .is) ∙ sym (at-hoisted-prevented .hoisted-prevented .ensures) ∙ c .if2 .left))
+    (omega arith, at-loop .loop .inv .1 ∙ ap (held (at-entry .args .x)) (out.turn w k (at-entry .pre .0) (at-loop-test .loop-test .taken) (omega (arith, at-loop .loop .inv .0, at-entry .pre .1))) ∙ facts.held-next (at-entry .args .x) (scopeAt w (k - 1)) (below w (k - 1)) (facts.unresolved-at w (k - 1) (at-entry .args .x) (omega arith) ∙ ap yes (sym (at-if1 .before .flag-at .ensures) ∙ at-if1 .if1 .left)) (ap isHoistedPrevented (at-found-from .found-from .ensures .is) ∙ sym (at-hoisted-prevented .hoisted-prevented .ensures) ∙ at-if2 .if2 .left), c .outside .ensures)
 
 returns-3 : tie.Need-returns-3 Inv-loop μ-loop
 returns-3 c =
@@ -94,9 +114,10 @@ held-below-spec =
     add-flag-at
     flag-at-requires
     returns
-    found-in-requires
+    found-from-requires
     hoisted-prevented-requires
     returns-2
+    outside-requires
     loop-less
     loop-again
     returns-3)

@@ -1,4 +1,4 @@
--- A scan of the innermost scope. Assumes nothing.
+-- The index, and where the innermost scope begins. Assumes nothing.
 use Prim.Native.Nat.{_+_, _*_, _-_}
 use native.Mathlib.Omega.{arith}
 use lib.ListN.{getD}
@@ -6,6 +6,9 @@ use Rattle.scope_redeclare.proofs.Top as top
 use borrow.Author.Needs.{needs}
 use Rattle.scope_redeclare.proofs.own_binding.Statement.{statement}
 use Rattle.scope_redeclare.proofs.own_binding.Tie as tie
+use Rattle.scope_redeclare.proofs.own_binding.Reads as reads
+use Rattle.scope_redeclare.proofs.own_binding.Lts as lts
+use Rattle.words_scopes.proofs.find_binding.Reads as find-binding-reads
 
 shared-slice-read-d : tie.Need-shared-slice-read-d
 shared-slice-read-d c = search needs
@@ -36,23 +39,29 @@ cast-a c =
     let at-entry = c .before .before .before in
     omega (arith, c .shared-slice-known3 .given (7184 + (getD (at-entry .args .w .now) 2 0 - 1) * 4 + 1))
 
-shared-slice-read-n : tie.Need-shared-slice-read-n
-shared-slice-read-n c = search needs
+find-binding-requires : tie.Need-find-binding-requires
+find-binding-requires c κs = search needs
 
-cast-n : tie.Need-cast-n
-cast-n c = search needs
-
-first-at-requires : tie.Need-first-at-requires
-first-at-requires c κs =
-    let at-entry = c .before .before .before .before in
-    let g = at-entry .pre .0 in
-    (g .long, top.top-fits (at-entry .args .w .now) g (at-entry .pre .1), g .count, omega arith, omega arith)
+sub-result : tie.Need-sub-result
+sub-result c = search needs
 
 returns : tie.Need-returns
 returns c =
-    let at-entry = c .before .before .before .before .before in
-    let e = c .first-at .ensures in
-    top.own (at-entry .args .w .now) (at-entry .pre .0) (at-entry .pre .1) (at-entry .args .x) (c .first-at .result) (e .0) (e .1) (e .2) (e .3)
+    let at-find = c .before in
+    let at-entry = at-find .before .before .before .before in
+    top.own-there (at-entry .args .w .now) (at-entry .pre .0) (at-entry .pre .1) (at-entry .args .x) (at-find .find-binding .result) (at-find .find-binding .ensures .0) (c .if1 .taken)
+
+shared-slice-read-result : tie.Need-shared-slice-read-result
+shared-slice-read-result c = search needs
+
+cast-result : tie.Need-cast-result
+cast-result c = search needs
+
+returns-2 : tie.Need-returns-2
+returns-2 c =
+    let at-find = c .before .before in
+    let at-entry = at-find .before .before .before .before in
+    top.own-absent (at-entry .args .w .now) (at-entry .pre .0) (at-entry .pre .1) (at-entry .args .x) (at-find .find-binding .result) (at-find .find-binding .ensures .0) (omega arith)
 
 pub own-binding-spec : {M : Type 1} → statement M
 own-binding-spec =
@@ -67,7 +76,9 @@ own-binding-spec =
     mul-a-2
     shared-slice-read-a
     cast-a
-    shared-slice-read-n
-    cast-n
-    first-at-requires
-    returns)
+    find-binding-requires
+    sub-result
+    returns
+    shared-slice-read-result
+    cast-result
+    returns-2)
