@@ -1,4 +1,4 @@
--- What the pass asks of a tree is the same after its literals' origins are relabelled (`OriginBlind` of specs/Relabel). Assumes nothing.
+-- What the pass asks of a tree is the same after its origins are relabelled (`OriginBlind` of specs/Relabel). Assumes nothing.
 use mathlib.Core.Path.{_≡_, refl, ap, ap₂, _∙_, subst}
 use mathlib.Core.Bool.{Bool, true, false, _||_}
 use mathlib.Core.Option.{Option, none, some}
@@ -8,7 +8,7 @@ use lib.Dec.{T, eqb, eqb→eq}
 use Rattle.def_tree.specs.Base.{pick}
 use Rattle.def_pass.specs.Tree.{Tree, Forest, node, nil, cons, kind, form, num, kids, count, counts, countO, height, heights, hasThis, hasThisF, identList, identListF, headT, tailF, voidZero}
 use Rattle.def_pass.specs.Walk.{asIdent, isBind, butLast}
-use Rattle.def_pass.specs.Relabel.{relabel, relabelF}
+use Rattle.def_pass.specs.Relabel.{hasOrigin, relabel, relabelF}
 use Rattle.laws_pass.proofs.Tests.{is-T, or-left}
 
 -- a choice between two relabelled things, by two tests that agree
@@ -26,13 +26,17 @@ elim-same {A} {B} F c d x y x′ y′ e p q = ap {B = B} (λ b. elim b [ true �
     go true = p
     go false = q
 
--- a binding or an identifier is no literal
-pub id-not-lit : (k : ℕ) → T (eqb k 20 || eqb k 21) → eqb k 22 ≡ false
-id-not-lit k t = go (eqb k 22) refl
+-- a binding or an identifier has no origin
+pub no-origin : (k : ℕ) → T (eqb k 20 || eqb k 21) → hasOrigin k ≡ false
+no-origin k t = go (eqb k 22) refl (eqb k 33) refl
   where
-    go : (b : Bool) → eqb k 22 ≡ b → b ≡ false
-    go false h = refl
-    go true h = absurd (subst T (ap (λ m. eqb m 20 || eqb m 21) (eqb→eq k 22 (is-T (eqb k 22) h))) t)
+    not : (n : ℕ) → eqb k n ≡ true → T (eqb n 20 || eqb n 21)
+    not n h = subst T (ap (λ m. eqb m 20 || eqb m 21) (eqb→eq k n (is-T (eqb k n) h))) t
+
+    go : (b : Bool) → eqb k 22 ≡ b → (c : Bool) → eqb k 33 ≡ c → (b || c) ≡ false
+    go false h false i = refl
+    go true h c i = absurd (not 22 h)
+    go false h true i = absurd (not 33 i)
 
 module _ (r : ℕ → ℕ) where
   abbrev pub onO : Option Tree → Option Tree
@@ -40,8 +44,8 @@ module _ (r : ℕ → ℕ) where
   onO (some t) = some (relabel r t)
 
   -- an identifier's number stays
-  pub same-num : (k a : ℕ) → T (eqb k 20 || eqb k 21) → pick (eqb k 22) (r a) a ≡ a
-  same-num k a t = ap (λ b. pick b (r a) a) (id-not-lit k t)
+  pub same-num : (k a : ℕ) → T (eqb k 20 || eqb k 21) → pick (hasOrigin k) (r a) a ≡ a
+  same-num k a t = ap (λ b. pick b (r a) a) (no-origin k t)
 
   -- a binding, after relabelling: its number, and the identifier made from it
   pub record Bound (t : Tree) : Type 0 where
@@ -113,7 +117,7 @@ module _ (r : ℕ → ℕ) where
     same-idents (node k f a ts) rest = go (eqb k 20 || eqb k 21) refl (same-identsF ts rest)
       where
         go : (b : Bool) → (eqb k 20 || eqb k 21) ≡ b → identListF (relabelF r ts) rest ≡ identListF ts rest
-            → _≡_ {A = List Tree} (elim b [ true ↦ node k f (pick (eqb k 22) (r a) a) nil ∷ rest | false ↦ identListF (relabelF r ts) rest ]) (elim b [ true ↦ node k f a nil ∷ rest | false ↦ identListF ts rest ])
+            → _≡_ {A = List Tree} (elim b [ true ↦ node k f (pick (hasOrigin k) (r a) a) nil ∷ rest | false ↦ identListF (relabelF r ts) rest ]) (elim b [ true ↦ node k f a nil ∷ rest | false ↦ identListF ts rest ])
         go true e h = ap {B = List Tree} (λ n. node k f n nil ∷ rest) (same-num k a (is-T (eqb k 20 || eqb k 21) e))
         go false e h = h
 

@@ -9,7 +9,7 @@ use lib.Dec.{eqb}
 use lib.ListN.{length, length-map}
 use Rattle.def_tree.specs.Base.{pick, orElse}
 use Rattle.def_pass.specs.Tree.{Tree, Forest, node, nil, cons, kind, kids, isMember, headT}
-use Rattle.def_pass.specs.Relabel.{relabel, relabelF}
+use Rattle.def_pass.specs.Relabel.{hasOrigin, relabel, relabelF}
 use Rattle.def_pass.specs.Scope
 use Rattle.def_pass.specs.Scope.{VarInfo, Scope as Sc, Stack, Init, noInit, recorded, seen, VarType}
 use Rattle.laws_pass.proofs.Tests.{is-T}
@@ -114,7 +114,7 @@ module _ (r : ℕ → ℕ) where
   value-is i none = refl
   value-is i (some (node k f a ts)) = go (eqb k 21) refl
     where
-      go : (c : Bool) → eqb k 21 ≡ c → (c && eqb (pick (eqb k 22) (r a) a) i) ≡ (c && eqb a i)
+      go : (c : Bool) → eqb k 21 ≡ c → (c && eqb (pick (hasOrigin k) (r a) a) i) ≡ (c && eqb a i)
       go false e = refl
       go true e = ap (λ n. eqb n i) (ident-num r (node k f a ts) (is-T (eqb k 21) e))
 
@@ -250,7 +250,7 @@ module _ (r : ℕ → ℕ) where
   identOf-same none = refl
   identOf-same (some (node k f a ts)) = go (eqb k 21) refl
     where
-      go : (c : Bool) → eqb k 21 ≡ c → pick c (some (pick (eqb k 22) (r a) a)) none ≡ pick c (some a) none
+      go : (c : Bool) → eqb k 21 ≡ c → pick c (some (pick (hasOrigin k) (r a) a)) none ≡ pick c (some a) none
       go true e = ap some (ident-num r (node k f a ts) (is-T (eqb k 21) e))
       go false e = refl
 

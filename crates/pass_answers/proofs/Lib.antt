@@ -2,3 +2,4 @@ pub mod Demands
 pub mod Rows
 pub mod Long
 pub mod Again
+pub mod Assigns

@@ -4,3 +4,4 @@ pub mod Long
 pub mod Roots
 pub mod Rows
 pub mod Again
+pub mod Assigns

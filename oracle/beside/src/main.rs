@@ -1,7 +1,7 @@
 //! The original and the port beside one another in one process: `beside SEED TREES DAMAGED [JOBS]`.
 //!
 //! TREES random scripts, one in 10 of them near a limit, and DAMAGED damaged copies of such scripts. Every answer is compared:
-//! refusal, nodes, runs, mark, root marks. Of one tree in 8 also: rows 1 and 10 with their buffers, and two paired copies on the
+//! refusal, nodes, runs, mark, root bindings in their order; and each result has the assignments of its script. Of one tree in 8 also: rows 1 and 10 with their buffers, and two paired copies on the
 //! port. The files depend on SEED alone. What is answered otherwise is made as small as it will go.
 
 mod port;
@@ -11,7 +11,7 @@ use negbosun::Inliner;
 use programs::shrink::small_file;
 use std::sync::atomic::{AtomicU64, Ordering::Relaxed};
 use std::sync::Mutex;
-use tree_file::{on_deep_stack, to_hex, write, Answer, Script};
+use tree_file::{assignments, on_deep_stack, to_hex, write, Answer, Script, Tree};
 
 /// After so many differences there is nothing more to learn.
 const ENOUGH: u64 = 10;
@@ -31,6 +31,8 @@ struct Tally {
     other: u64,
     paired: u64,
     buffers: u64,
+    /// Assignments outside initialisers, in scripts that have a result.
+    assignments: u64,
 }
 
 impl Tally {
@@ -45,6 +47,7 @@ impl Tally {
         self.other += more.other;
         self.paired += more.paired;
         self.buffers += more.buffers;
+        self.assignments += more.assignments;
     }
 
     fn met(&mut self, answer: &Answer, script: Option<&Script>) {
@@ -138,6 +141,16 @@ impl Worker<'_> {
         }
     }
 
+    /// Every `=` outside an initialiser is in the result, with its target, in its order.
+    fn keeps_assignments(&mut self, script: &Script, result: &Tree, runs: u32) {
+        let targets = assignments::targets(&script.tree);
+        self.tally.assignments += targets.len() as u64;
+        if targets != assignments::targets(result) {
+            let file = to_hex(&write(script));
+            self.fails(format!("assignments\n{file} {runs}\n"));
+        }
+    }
+
     /// Rows 1 and 10, and paired copies.
     fn more(&mut self, rng: &mut Rng, script: &Script, answer: &Answer, runs: u32) {
         let file = write(script);
@@ -163,6 +176,9 @@ impl Worker<'_> {
                 continue;
             }
             let answer = self.compare(&write(&script), runs, Some(&script));
+            if let Some(Answer::Done(done)) = &answer {
+                self.keeps_assignments(&script, &done.tree, runs);
+            }
             if let (true, Some(answer)) = (rng.once_in(8), answer) {
                 self.more(rng, &script, &answer, runs);
             }
@@ -216,8 +232,8 @@ fn show(name: &str, tally: &Tally, reports: &[String]) {
     println!("  refusals {}", rows.join(", "));
     if tally.paired > 0 {
         println!(
-            "  results that differ from their script {}; with rows 1 and 10 {}, with paired copies {}",
-            tally.other, tally.buffers, tally.paired
+            "  results that differ from their script {}; with rows 1 and 10 {}, with paired copies {}; assignments kept {}",
+            tally.other, tally.buffers, tally.paired, tally.assignments
         );
     }
 }

@@ -3,6 +3,7 @@
 use std::collections::HashSet;
 use std::fmt;
 
+pub mod assignments;
 pub mod javascript;
 pub mod kinds;
 pub mod parse;
