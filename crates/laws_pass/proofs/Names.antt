@@ -1,7 +1,7 @@
--- A result has no more identifiers than its script: row 7 would not refuse it either. Assumes nothing.
+-- A result has no more identifiers than its script, so that row 7 would not refuse it either, and no more root bindings. Assumes nothing.
 use mathlib.Core.Path.{_≡_, refl, sym, ap, _∙_, subst}
 use mathlib.Core.Bool.{Bool, true, false, _&&_, _||_, not}
-use mathlib.Core.List.{List, [], _∷_, _++_}
+use mathlib.Core.List.{List, [], _∷_, _++_, map}
 use Prim.Native.Nat.{ℕ, zero, suc, _≤_, _<_}
 use native.Mathlib.Omega.{arith}
 use lib.Dec.{T, eqb, leb, eqb→eq, eqb-refl}
@@ -13,10 +13,15 @@ use Rattle.def_file.specs.Script.{Script, sameId, hasId, known, enter, enterAll
 use Rattle.def_file.specs.Core.{Out, hasText, identAt, back}
 use Rattle.laws_pass.specs.Again.{rawsOf}
 use Rattle.laws_pass.proofs.Tests.{is-T, and-left, and-right, both}
+use Rattle.def_file.specs.Read.{Read, bad, script, read}
+use Rattle.def_pass.specs.Walk.{Outcome, refused, result}
+use Rattle.def_pass.specs.Script.{Root, rootOf, answer, passTree, coreTree, pass}
+use Rattle.laws_pass.specs.Once.{Free, Once, FewIn, FewOf, RootsFew}
 use Rattle.laws_pass.proofs.Keep.{All, all-append}
+use Rattle.laws_pass.proofs.Keep as Keep
 use Rattle.laws_pass.proofs.Single.{or-no}
-use Rattle.laws_pass.proofs.Origin.{NamedC}
-use Rattle.laws_pass.proofs.Once.{Lone, lone-all}
+use Rattle.laws_pass.proofs.Origin.{NamedC, Named, NamedOut, to-ident, void-named, zero-named, out-named}
+use Rattle.laws_pass.proofs.Once.{Lone, lone-all, once-answer}
 
 abbrev Known : List Raw → Raw → Type 0
 Known zs y = T (known y zs)
@@ -122,3 +127,34 @@ module _ (s : Script) where
 
   pub names-few : (cs : List Core) → All (NamedC s) cs → length (enterAll [] (rawsOf s cs)) ≤ length (idents s)
   names-few cs h = few (enterAll [] (rawsOf s cs)) (idents s) (lone-all [] (rawsOf s cs) tt) (all-known (idents s) [] (rawsOf s cs) (backs-known cs h) tt)
+
+-- and no more root bindings
+key-count : (rs : List Root) → length (map (λ (r : Root). r .key) rs) ≡ length rs
+key-count [] = refl
+key-count (r ∷ rs) = ap suc (key-count rs)
+
+not-known : (x : Raw) (rs : List Root) → Free x rs → known x (map (λ (r : Root). r .key) rs) ≡ false
+not-known x [] h = refl
+not-known x (r ∷ rs) h = rw (h .0) (not-known x rs (h .1))
+
+lone-keys : (rs : List Root) → Once rs → Lone (map (λ (r : Root). r .key) rs)
+lone-keys [] h = tt
+lone-keys (r ∷ rs) h = (not-known (r .key) rs (h .0), lone-keys rs (h .1))
+
+module _ (s : Script) where
+  keys-known : (ms : List (ℕ × Bool)) → All (λ (m : ℕ × Bool). Keep.OkId (Named s) (to-ident s) (void-named s) (zero-named s) (m .0)) ms → All (Known (idents s)) (map (λ (r : Root). r .key) (map (rootOf s) ms))
+  unfolding rootOf
+  keys-known [] h = tt
+  keys-known (m ∷ ms) h = (in-list (identAt s (m .0)) (idents s) (m .0) (h .0 .ok .ident tt) refl refl, keys-known ms (h .1))
+
+  few-out : (o : Outcome) → NamedOut s o → FewIn s (answer s o)
+  few-out (refused n) h = tt
+  few-out (result k c t ms) h = (let rs = map (rootOf s) ms in omega (arith, key-count rs, few (map (λ (r : Root). r .key) rs) (idents s) (lone-keys rs (once-answer s (result k c t ms) h)) (keys-known ms (h .1))))
+
+pub roots-few : RootsFew
+unfolding pass
+roots-few n bs = go (read bs)
+  where
+    go : (r : Read) → FewOf n r
+    go (bad r) = tt
+    go (script s) = few-out s (passTree n (coreTree s)) (out-named s n)

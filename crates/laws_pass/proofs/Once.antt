@@ -109,7 +109,7 @@ module _ (s : Script) where
   once [] h e = tt
   once (m ∷ ms) h e = (free (m .0) (h .0 .ok .ident tt) ms (h .1) (e .0), once ms (h .1) (e .1))
 
-  once-answer : (o : Outcome) → NamedOut s o → OnceIn (answer s o)
+  pub once-answer : (o : Outcome) → NamedOut s o → OnceIn (answer s o)
   once-answer (refused n) h = tt
   once-answer (result k c t ms) h = once ms (h .1) (h .2)
 

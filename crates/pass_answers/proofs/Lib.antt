@@ -3,3 +3,4 @@ pub mod Rows
 pub mod Long
 pub mod Again
 pub mod Assigns
+pub mod Sizes

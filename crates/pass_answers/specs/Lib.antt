@@ -5,3 +5,4 @@ pub mod Roots
 pub mod Rows
 pub mod Again
 pub mod Assigns
+pub mod Sizes
