@@ -49,6 +49,13 @@ fi
 NEGBOSUN_ORIGINAL=$(cd "$sources" && pwd) && export NEGBOSUN_ORIGINAL
 one "oracle" bash -c "cd oracle && cargo build --release --offline --quiet -j '${JOBS:-1}'" || finish
 one "both in one process" bash -c "cd oracle && cargo build --release --offline --quiet -j '${JOBS:-1}' -p beside" || finish
+# The vectors that a request amends: the port's answers on the oracle's files.
+amended() {
+    oracle/target/release/vectors amended 1 >"$out/amended" 2>/dev/null &&
+        caller/target/release/negbosun-inline --batch <"$out/amended" >"$out/answers" &&
+        python3 -B tools/amended.py "$out/amended" "$out/answers" | cmp - tests/vectors/amended.txt
+}
+one "amended rewritten" amended
 count "quick round" oracle/target/release/beside "${SEED:-1}" 20000 10000
 count "tool beside the original" oracle/target/release/compare "${SEED:-1}" 3000 caller/target/release/negbosun-inline --batch
 finish

@@ -1,9 +1,9 @@
 #!/usr/bin/env python3
-"""Writes the vectors of a text file as tables that the checker computes the definition on.
+"""Writes the vectors of text files as tables that the checker computes the definition on.
 
-  tools/vectors.py tests/vectors/small.txt crates/laws_vectors/specs
+  tools/vectors.py crates/laws_vectors/specs tests/vectors/small.txt tests/vectors/amended.txt:1200
 
-A vector in the text file is a line `file HEX`, a line `runs N`, then what the program prints (document 01), up to an empty line:
+Behind a colon: the most bytes that a file of it may have to be taken. A vector in a text file is a line `file HEX`, a line `runs N`, then what the program prints (document 01), up to an empty line:
 `refused N`, or a head line, a line for each node and a line for each root binding. The tables go to Part0.antt, Part1.antt, ..
 in the folder, and their list to Lib.antt; older parts there are removed.
 """
@@ -92,8 +92,11 @@ def index(folder):
         f.write("".join("pub mod %s\n" % n for n in names))
 
 
-def main(text, folder):
-    vectors = [vector(b) for b in blocks(text)]
+def main(folder, texts):
+    vectors = []
+    for text in texts:
+        path, _, most = text.partition(":")
+        vectors += [v for v in map(vector, blocks(path)) if not most or v[1] <= int(most)]
     groups = list(tables(vectors))
     for name in os.listdir(folder):
         if name.startswith("Part") and name.endswith(".antt"):
@@ -116,6 +119,6 @@ def main(text, folder):
 
 
 if __name__ == "__main__":
-    if len(sys.argv) != 3:
+    if len(sys.argv) < 3:
         sys.exit(__doc__)
-    main(sys.argv[1], sys.argv[2])
+    main(sys.argv[1], sys.argv[2:])

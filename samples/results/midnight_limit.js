@@ -15,13 +15,13 @@ function closing(clock, before) {
   let today = before;
   const limit = today;
   today = minuteOf(clock);
-  if (today < today) {
+  if (today < limit) {
     today += 1440;
     nights += 1;
   }
-  if (shorter(today, today) > 45) {
+  if (shorter(limit, today) > 45) {
     lower("gate");
-    return today - today;
+    return today - limit;
   }
   hold("gate", nights);
   return 0;

@@ -129,7 +129,7 @@ c-fun = becomes 2 (fun2 (declTo 0 4 (name 2)) (name 4)) (fun2 (decl 0 4) (name 2
 
 -- let b = 1; const a = b; b = 2; a;
 abbrev pub c-const : Case
-c-const = becomes 2 (script (f4 (declTo 1 1 (lit 5)) (declTo 2 2 (name 1)) (do′ (assign 1 (lit 13))) (do′ (name 2)))) (script (f4 (decl 1 1) (declTo 2 2 (lit 5)) (do′ (assign 1 (lit 13))) (do′ (lit 13))))
+c-const = becomes 2 (script (f4 (declTo 1 1 (lit 5)) (declTo 2 2 (name 1)) (do′ (assign 1 (lit 13))) (do′ (name 2)))) (script (f4 (decl 1 1) (declTo 2 2 (lit 5)) (do′ (assign 1 (lit 13))) (do′ (name 2))))
 
 -- function f(y) { var y = b && [y]; z = [y]; }
 abbrev pub c-floor : Case

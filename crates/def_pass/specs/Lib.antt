@@ -1,5 +1,6 @@
 pub mod Tree
 pub mod Scope
+pub mod Targets
 pub mod Walk
 pub mod Script
 pub mod Entry
@@ -10,3 +11,4 @@ pub mod Table
 pub mod Imitations
 pub mod Refusals
 pub mod Traps
+pub mod Requests

@@ -1,4 +1,5 @@
 -- scope.rs: bindings, scopes, and the stack of the open scopes, innermost first, the root last.
+use mathlib.Core.Path.{_≡_}
 use mathlib.Core.Bool.{Bool, true, false, _&&_, _||_, not}
 use mathlib.Core.Option.{Option, none, some}
 use mathlib.Core.List.{List, [], _∷_, _++_, map}
@@ -165,9 +166,19 @@ abbrev pub putConst : ℕ → Option Tree → List (ℕ × Option Tree) → List
 putConst i v [] = (i, v) ∷ []
 putConst i v (c ∷ cs) = elim (eqb (c .0) i) [ true ↦ (i, v) ∷ cs | false ↦ c ∷ putConst i v cs ]
 
-abbrev pub addConst : ℕ → Option Tree → Stack → Stack
-addConst i v [] = []
-addConst i v (s ∷ st) = record { kind = s .kind; inlineBarriers = s .inlineBarriers; bindings = s .bindings; unresolvedUsages = s .unresolvedUsages; constants = putConst i v (s .constants) } ∷ st
+-- request 8: a constant's value, without an identifier that the script targets
+abbrev pub untargeted : (ℕ → Bool) → Option Tree → Option Tree
+untargeted tg none = none
+untargeted tg (some t) = pick (isIdent t && tg (num t)) none (some t)
+
+-- what a look-up of a constant promises of its value: an identifier is not targeted
+abbrev pub Free : (ℕ → Bool) → Option Tree → Type 0
+Free tg none = Unit {0}
+Free tg (some t) = isIdent t ≡ true → tg (num t) ≡ false
+
+abbrev pub addConst : (ℕ → Bool) → ℕ → Option Tree → Stack → Stack
+addConst tg i v [] = []
+addConst tg i v (s ∷ st) = record { kind = s .kind; inlineBarriers = s .inlineBarriers; bindings = s .bindings; unresolvedUsages = s .unresolvedUsages; constants = putConst i (untargeted tg v) (s .constants) } ∷ st
 
 -- has_constant
 abbrev pub hasConstant : ℕ → Stack → Bool

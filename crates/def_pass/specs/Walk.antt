@@ -9,13 +9,14 @@ use lib.ListN.{length, getD}
 use Rattle.def_tree.specs.Combine.{Res, stop, done, M as MS, Nothing, andThen, _>>=_, _>>_, ret, refuse, iff, within, each, split, eachBut, onKids}
 use Rattle.def_tree.specs.Base.{pick}
 use Rattle.def_pass.specs.Tree.{Tree, Forest, node, nil, cons, kind, form, num, kids, isIdent, isLit, isCheap, headT, tailF, count, counts, height, voidZero, hasThis, identList, identListF}
+use Rattle.def_pass.specs.Targets.{targets}
 use Rattle.def_pass.specs.Scope.{VarType, param, vVar, vLet, vConst, isVar, isConst, ScopeKind, cond, loop, block, fn, isFn, Scope, Stack, VarInfo, newScope, preventInline, isInlinePrevented, varInlinePrevented, preventedO, findBinding, findBindingFromCurrent, findConstant, addConst, addRead, addWrite, markThisSensitive, identOf, storeInlineBarrier, hasSameThis, Init, noInit, recorded, seen, seenInit, declare, close, change, withValue, defined, recordedNodes, live}
 
 -- PatFoldingMode
 pub data PatMode : Type 0 where
   assigning asParam asCatch declaring : PatMode
 
--- Inlining, without `ident_type` and `pass`, which nothing reads. `inlining`: the phase; `isFirstRun`: the first run; `conds`: the right sides open in their Cond scopes; `nodes`: of the tree now
+-- Inlining, without `ident_type` and `pass`, which nothing reads. `inlining`: the phase; `isFirstRun`: the first run; `conds`: the right sides open in their Cond scopes; `nodes`: of the tree now; `targeted`: by the script as read (request 8), and never changed
 pub record St : Type 0 where
   pub stack : Stack
   pub changed : Bool
@@ -26,6 +27,7 @@ pub record St : Type 0 where
   pub inTest : Bool
   pub conds : ℕ
   pub nodes : ℕ
+  pub targeted : ℕ → Bool
 
 abbrev pub M : Type 0 → Type 0
 M A = MS St A
@@ -38,31 +40,31 @@ when b m = iff b m (ret tt)
 
 -- changes of one field
 abbrev pub setStack : Stack → St → St
-setStack x s = record { stack = x; changed = s .changed; inlining = s .inlining; isFirstRun = s .isFirstRun; varDeclKind = s .varDeclKind; patMode = s .patMode; inTest = s .inTest; conds = s .conds; nodes = s .nodes }
+setStack x s = record { stack = x; changed = s .changed; inlining = s .inlining; isFirstRun = s .isFirstRun; varDeclKind = s .varDeclKind; patMode = s .patMode; inTest = s .inTest; conds = s .conds; nodes = s .nodes; targeted = s .targeted }
 
 abbrev pub setChanged : Bool → St → St
-setChanged x s = record { stack = s .stack; changed = x; inlining = s .inlining; isFirstRun = s .isFirstRun; varDeclKind = s .varDeclKind; patMode = s .patMode; inTest = s .inTest; conds = s .conds; nodes = s .nodes }
+setChanged x s = record { stack = s .stack; changed = x; inlining = s .inlining; isFirstRun = s .isFirstRun; varDeclKind = s .varDeclKind; patMode = s .patMode; inTest = s .inTest; conds = s .conds; nodes = s .nodes; targeted = s .targeted }
 
 abbrev pub setInlining : Bool → St → St
-setInlining x s = record { stack = s .stack; changed = s .changed; inlining = x; isFirstRun = s .isFirstRun; varDeclKind = s .varDeclKind; patMode = s .patMode; inTest = s .inTest; conds = s .conds; nodes = s .nodes }
+setInlining x s = record { stack = s .stack; changed = s .changed; inlining = x; isFirstRun = s .isFirstRun; varDeclKind = s .varDeclKind; patMode = s .patMode; inTest = s .inTest; conds = s .conds; nodes = s .nodes; targeted = s .targeted }
 
 abbrev pub setIsFirstRun : Bool → St → St
-setIsFirstRun x s = record { stack = s .stack; changed = s .changed; inlining = s .inlining; isFirstRun = x; varDeclKind = s .varDeclKind; patMode = s .patMode; inTest = s .inTest; conds = s .conds; nodes = s .nodes }
+setIsFirstRun x s = record { stack = s .stack; changed = s .changed; inlining = s .inlining; isFirstRun = x; varDeclKind = s .varDeclKind; patMode = s .patMode; inTest = s .inTest; conds = s .conds; nodes = s .nodes; targeted = s .targeted }
 
 abbrev pub setVarDeclKind : VarType → St → St
-setVarDeclKind x s = record { stack = s .stack; changed = s .changed; inlining = s .inlining; isFirstRun = s .isFirstRun; varDeclKind = x; patMode = s .patMode; inTest = s .inTest; conds = s .conds; nodes = s .nodes }
+setVarDeclKind x s = record { stack = s .stack; changed = s .changed; inlining = s .inlining; isFirstRun = s .isFirstRun; varDeclKind = x; patMode = s .patMode; inTest = s .inTest; conds = s .conds; nodes = s .nodes; targeted = s .targeted }
 
 abbrev pub setPatMode : PatMode → St → St
-setPatMode x s = record { stack = s .stack; changed = s .changed; inlining = s .inlining; isFirstRun = s .isFirstRun; varDeclKind = s .varDeclKind; patMode = x; inTest = s .inTest; conds = s .conds; nodes = s .nodes }
+setPatMode x s = record { stack = s .stack; changed = s .changed; inlining = s .inlining; isFirstRun = s .isFirstRun; varDeclKind = s .varDeclKind; patMode = x; inTest = s .inTest; conds = s .conds; nodes = s .nodes; targeted = s .targeted }
 
 abbrev pub setInTest : Bool → St → St
-setInTest x s = record { stack = s .stack; changed = s .changed; inlining = s .inlining; isFirstRun = s .isFirstRun; varDeclKind = s .varDeclKind; patMode = s .patMode; inTest = x; conds = s .conds; nodes = s .nodes }
+setInTest x s = record { stack = s .stack; changed = s .changed; inlining = s .inlining; isFirstRun = s .isFirstRun; varDeclKind = s .varDeclKind; patMode = s .patMode; inTest = x; conds = s .conds; nodes = s .nodes; targeted = s .targeted }
 
 abbrev pub setConds : ℕ → St → St
-setConds x s = record { stack = s .stack; changed = s .changed; inlining = s .inlining; isFirstRun = s .isFirstRun; varDeclKind = s .varDeclKind; patMode = s .patMode; inTest = s .inTest; conds = x; nodes = s .nodes }
+setConds x s = record { stack = s .stack; changed = s .changed; inlining = s .inlining; isFirstRun = s .isFirstRun; varDeclKind = s .varDeclKind; patMode = s .patMode; inTest = s .inTest; conds = x; nodes = s .nodes; targeted = s .targeted }
 
 abbrev pub setNodes : ℕ → St → St
-setNodes x s = record { stack = s .stack; changed = s .changed; inlining = s .inlining; isFirstRun = s .isFirstRun; varDeclKind = s .varDeclKind; patMode = s .patMode; inTest = s .inTest; conds = s .conds; nodes = x }
+setNodes x s = record { stack = s .stack; changed = s .changed; inlining = s .inlining; isFirstRun = s .isFirstRun; varDeclKind = s .varDeclKind; patMode = s .patMode; inTest = s .inTest; conds = s .conds; nodes = x; targeted = s .targeted }
 
 abbrev pub modify : (St → St) → M Nothing
 modify f = λ s. done (f s) tt
@@ -92,7 +94,7 @@ leave t = λ s. done (setNodes (s .nodes - count t) s) tt
 -- with_child: a new scope, `m` in it with its own copies of the visitor's fields, and its end
 unfoldable pub restore : St → St → St
 unfolding close
-restore old s = record { stack = close (s .stack); changed = s .changed; inlining = old .inlining; isFirstRun = s .isFirstRun; varDeclKind = old .varDeclKind; patMode = old .patMode; inTest = old .inTest; conds = s .conds; nodes = s .nodes }
+restore old s = record { stack = close (s .stack); changed = s .changed; inlining = old .inlining; isFirstRun = s .isFirstRun; varDeclKind = old .varDeclKind; patMode = old .patMode; inTest = old .inTest; conds = s .conds; nodes = s .nodes; targeted = s .targeted }
 
 unfoldable pub opening : ScopeKind → M Nothing
 opening k = λ s. elim (leb 32 (length (s .stack))) [ true ↦ stop 8 | false ↦ done (setVarDeclKind vVar (setStack (newScope k ∷ s .stack) s)) tt ]
@@ -191,6 +193,10 @@ declareM name v isChange k = do
   s ← get
   grow (declare (num name) v (isVar (s .varDeclKind) && not isChange && noValue v && s .inlining) k)
 
+-- constants.insert: without an identifier that the script as read targets (request 8)
+abbrev pub insertConst : ℕ → Option Tree → M Nothing
+insertConst i v = λ s. grow (addConst (s .targeted) i v) s
+
 -- 6 declarator: name, and the initialiser if there is one. visit_mut_var_declarator
 
 -- in Analysis, after the initialiser's walk: true if the name's walk is left out
@@ -203,7 +209,7 @@ declrAnalysis name none = do
 declrAnalysis name (some e) = do
   s ← get
   iff (isConst (s .varDeclKind)) (do
-    when (s .isFirstRun) (grow (addConst (num name) (pick (isCheap e) (some e) none)))
+    when (s .isFirstRun) (insertConst (num name) (pick (isCheap e) (some e) none))
     ret false) (iff (isCheap e) (do
       declareM name (seenInit e) false (s .varDeclKind)
       s₁ ← get
@@ -596,7 +602,7 @@ run t = do
 
 -- inlining: the visitor before its first run
 abbrev pub start : Tree → St
-start t = record { stack = newScope (fn false) ∷ []; changed = false; inlining = false; isFirstRun = true; varDeclKind = vVar; patMode = declaring; inTest = false; conds = 0; nodes = count t }
+start t = record { stack = newScope (fn false) ∷ []; changed = false; inlining = false; isFirstRun = true; varDeclKind = vVar; patMode = declaring; inTest = false; conds = 0; nodes = count t; targeted = targets t }
 
 -- the result of the pass: runs done, the last run's mark, the tree, and the root's bindings with their marks
 pub data Outcome : Type 0 where

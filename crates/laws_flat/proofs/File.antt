@@ -1,7 +1,7 @@
 -- A file that is read is one tree in preorder, whose literals have no children; so the pass on the list of its nodes is the pass of the
 -- definition. Assumes nothing.
-use mathlib.Core.Path.{_≡_, refl, sym, ap, ap₂, _∙_, subst}
-use mathlib.Core.Bool.{Bool, true, false, _&&_}
+use mathlib.Core.Path.{_≡_, refl, sym, ap, ap₂, _∙_, subst, fun-ext}
+use mathlib.Core.Bool.{Bool, true, false, _&&_, _||_}
 use mathlib.Core.Option.{none}
 use mathlib.Core.List.{List, [], _∷_}
 use Prim.Native.Nat.{ℕ, zero, suc, _+_, _-_, _*_, _≤_}
@@ -14,6 +14,7 @@ use Rattle.def_tree.specs.Tree.{Tree, Forest, node, nil, cons, lengthF, count, 
 use Rattle.def_tree.proofs.Whole.{Whole, length-dropF, unplant}
 use Rattle.def_tree.specs.Base.{pick, toNat}
 use Rattle.def_pass.specs.Tree.{headT}
+use Rattle.def_pass.specs.Targets.{aims, aimedAt, firstIs, targets, targetsF}
 use Rattle.def_pass.specs.Walk.{Outcome, refused, result, corePass}
 use Rattle.def_file.specs.Kinds.{allows, rowOf, formOk, countOk}
 use Rattle.def_file.specs.declared.Raw.{Raw}
@@ -23,7 +24,7 @@ use Rattle.def_file.specs.Core.{coreNode, coreFrom, coreNodes, back}
 use Rattle.def_pass.specs.Script.{Answer, answer, passTree, pass, rootOf, passRead, passFile}
 use Rattle.def_pass.specs.Entry.{Entry, refused as refusedE, written, entryRead, entry}
 use Rattle.laws_flat.specs.WalkF.{runsF, flatOutcome}
-use Rattle.laws_flat.specs.PassF.{startF, answerF, passF, passReadF, passFileF, entryReadF, entryF}
+use Rattle.laws_flat.specs.PassF.{some!, nextIs, targetsL, startF, answerF, passF, passReadF, passFileF, entryReadF, entryF}
 use Rattle.laws_flat.proofs.Sim.{pass-same}
 
 and-left : (p q : Bool) → T (p && q) → T p
@@ -165,6 +166,34 @@ mutual
   length-flats nil xs = sym (zero-add (length xs))
   length-flats (cons t ts) xs = length-flat t (flats ts xs) ∙ ap (λ (n : ℕ). count t + n) (length-flats ts xs) ∙ omega arith
 
+-- and what they target
+with-rest : (a b c : Bool) → ((a || b) || c) ≡ (a || (b || c))
+with-rest true b c = refl
+with-rest false b c = refl
+
+mutual
+  next-aimed : (i : ℕ) (t : Tree) (xs : List Core) → nextIs i (flat t xs) ≡ aimedAt i t
+  next-aimed i (node k f a ts) xs = ap {B = Bool} (λ (b : Bool). elim (eqb k 5 || eqb k 6) [ true ↦ b | false ↦ (eqb k 20 || eqb k 21) && eqb a i ]) (next-first i ts xs)
+
+  next-first : (i : ℕ) (ts : Forest) (xs : List Core) → (some! (lengthF ts) && nextIs i (flats ts xs)) ≡ firstIs i ts
+  next-first i nil xs = refl
+  next-first i (cons t ts) xs = next-aimed i t (flats ts xs)
+
+mutual
+  targets-flat : (i : ℕ) (t : Tree) (xs : List Core) → targetsL (flat t xs) i ≡ (targets t i || targetsL xs i)
+  targets-flat i (node k f a ts) xs = ap₂ (λ (b c : Bool). (aims k && b) || c) (next-first i ts xs) (targets-flats i ts xs) ∙ sym (with-rest (aims k && firstIs i ts) (targetsF ts i) (targetsL xs i))
+
+  targets-flats : (i : ℕ) (ts : Forest) (xs : List Core) → targetsL (flats ts xs) i ≡ (targetsF ts i || targetsL xs i)
+  targets-flats i nil xs = refl
+  targets-flats i (cons t ts) xs = targets-flat i t (flats ts xs) ∙ ap (λ (b : Bool). targets t i || b) (targets-flats i ts xs) ∙ sym (with-rest (targets t i) (targetsF ts i) (targetsL xs i))
+
+or-false : (b : Bool) → (b || false) ≡ b
+or-false true = refl
+or-false false = refl
+
+same-targets : (t : Tree) → targetsL (flat t []) ≡ targets t
+same-targets t = fun-ext (λ i. targets-flat i t [] ∙ or-false (targets t i))
+
 length-core : (s : Script) (n : ℕ) (xs : List Raw) → length (coreFrom s n xs) ≡ length xs
 unfolding coreNode
 length-core s n [] = refl
@@ -184,7 +213,8 @@ script-same n s t = go (planted-ok s t)
     go p =
         let u = p .tree in
         let k : length (s .nodes) ≡ count u = sym (length-core s 1 (s .nodes)) ∙ ap length (sym (p .nodes)) ∙ length-flat u [] ∙ omega arith in
-        ap₂ {C = Answer} (λ (cs : List Core) (m : ℕ). answerF s (runsF n 0 (record { nodes = cs; rest = startF m }))) (sym (p .nodes)) k
+        ap₂ {C = Answer} (λ (cs : List Core) (m : ℕ). answerF s (runsF n 0 (record { nodes = cs; rest = startF m (targetsL cs) }))) (sym (p .nodes)) k
+        ∙ ap (λ (tg : ℕ → Bool). answerF s (runsF n 0 (record { nodes = flat u []; rest = startF (count u) tg }))) (same-targets u)
         ∙ ap (answerF s) (pass-same n u)
         ∙ answer-same s (corePass n u)
         ∙ ap (λ (ts : Forest). answer s (passTree n (headT ts))) (sym (p .planted))

@@ -1,10 +1,12 @@
 -- The pass over a script, a file's bytes, and the entry, with the walks on the list: `pass`, `passFile` and `entry` of the definition
 -- without a tree. Assumes nothing: these are definitions.
-use mathlib.Core.Bool.{true, false, _&&_}
+use mathlib.Core.Bool.{Bool, true, false, _&&_, _||_}
 use mathlib.Core.List.{List, [], _∷_, map}
-use Prim.Native.Nat.{ℕ}
-use lib.Dec.{leb}
+use Prim.Native.Nat.{ℕ, zero, suc}
+use lib.Dec.{eqb, leb}
 use lib.ListN.{length}
+use Rattle.def_tree.specs.Tree.{Core}
+use Rattle.def_pass.specs.Targets.{aims}
 use Rattle.def_pass.specs.Scope.{vVar, fn, newScope}
 use Rattle.def_pass.specs.Walk.{St, declaring}
 use Rattle.def_file.specs.Script.{Script}
@@ -14,9 +16,22 @@ use Rattle.def_pass.specs.Script.{Answer, no!, yes!, rootOf}
 use Rattle.def_pass.specs.Entry.{Entry, refused, written}
 use Rattle.laws_flat.specs.WalkF.{OutcomeF, refusedF, resultF, runsF}
 
--- `start` of Walk, for a script of n nodes
-abbrev pub startF : ℕ → St
-startF n = record { stack = newScope (fn false) ∷ []; changed = false; inlining = false; isFirstRun = true; varDeclKind = vVar; patMode = declaring; inTest = false; conds = 0; nodes = n }
+abbrev pub some! : ℕ → Bool
+some! zero = false
+some! (suc n) = true
+
+-- `targets` of Targets: a node's first child is the next node of the list
+abbrev pub nextIs : ℕ → List Core → Bool
+nextIs i [] = false
+nextIs i (c ∷ cs) = elim (eqb (c .kind) 5 || eqb (c .kind) 6) [ true ↦ some! (c .arity) && nextIs i cs | false ↦ (eqb (c .kind) 20 || eqb (c .kind) 21) && eqb (c .num) i ]
+
+abbrev pub targetsL : List Core → ℕ → Bool
+targetsL [] i = false
+targetsL (c ∷ cs) i = (aims (c .kind) && (some! (c .arity) && nextIs i cs)) || targetsL cs i
+
+-- `start` of Walk, for a script of n nodes with these targets
+abbrev pub startF : ℕ → (ℕ → Bool) → St
+startF n tg = record { stack = newScope (fn false) ∷ []; changed = false; inlining = false; isFirstRun = true; varDeclKind = vVar; patMode = declaring; inTest = false; conds = 0; nodes = n; targeted = tg }
 
 -- `answer` of Script
 abbrev pub answerF : Script → OutcomeF → Answer
@@ -24,7 +39,7 @@ answerF s (refusedF n) = no! n
 answerF s (resultF k c cs ms) = yes! k c (map (back s) cs) (map (rootOf s) ms)
 
 unfoldable pub passF : ℕ → Script → Answer
-passF n s = answerF s (runsF n 0 (record { nodes = coreNodes s; rest = startF (length (s .nodes)) }))
+passF n s = answerF s (runsF n 0 (record { nodes = coreNodes s; rest = startF (length (s .nodes)) (targetsL (coreNodes s)) }))
 
 abbrev pub passReadF : ℕ → Read → Answer
 passReadF n (bad r) = no! r

@@ -1,12 +1,13 @@
 -- What the pass asks of a tree is the same after its origins are relabelled (`OriginBlind` of specs/Relabel). Assumes nothing.
 use mathlib.Core.Path.{_≡_, refl, ap, ap₂, _∙_, subst}
-use mathlib.Core.Bool.{Bool, true, false, _||_}
+use mathlib.Core.Bool.{Bool, true, false, _&&_, _||_}
 use mathlib.Core.Option.{Option, none, some}
 use mathlib.Core.List.{List, _∷_}
 use Prim.Native.Nat.{ℕ, suc, _+_, max}
 use lib.Dec.{T, eqb, eqb→eq}
 use Rattle.def_tree.specs.Base.{pick}
 use Rattle.def_pass.specs.Tree.{Tree, Forest, node, nil, cons, kind, form, num, kids, count, counts, countO, height, heights, hasThis, hasThisF, identList, identListF, headT, tailF, voidZero}
+use Rattle.def_pass.specs.Targets.{aims, aimedAt, firstIs, targets, targetsF}
 use Rattle.def_pass.specs.Walk.{asIdent, isBind, butLast}
 use Rattle.def_pass.specs.Relabel.{hasOrigin, relabel, relabelF}
 use Rattle.laws_pass.proofs.Tests.{is-T, or-left}
@@ -124,6 +125,26 @@ module _ (r : ℕ → ℕ) where
     pub same-identsF : (ts : Forest) (rest : List Tree) → identListF (relabelF r ts) rest ≡ identListF ts rest
     same-identsF nil rest = refl
     same-identsF (cons t ts) rest = same-idents t (identListF (relabelF r ts) rest) ∙ ap (identList t) (same-identsF ts rest)
+
+  mutual
+    same-aimed : (i : ℕ) (t : Tree) → aimedAt i (relabel r t) ≡ aimedAt i t
+    same-aimed i (node k f a ts) = elim-same (λ (b : Bool). b) (eqb k 5 || eqb k 6) (eqb k 5 || eqb k 6) (firstIs i ts) ((eqb k 20 || eqb k 21) && eqb a i) (firstIs i (relabelF r ts)) ((eqb k 20 || eqb k 21) && eqb (pick (hasOrigin k) (r a) a) i) refl (same-first i ts) (go (eqb k 20 || eqb k 21) refl)
+      where
+        go : (b : Bool) → (eqb k 20 || eqb k 21) ≡ b → (b && eqb (pick (hasOrigin k) (r a) a) i) ≡ (b && eqb a i)
+        go true e = ap (λ n. eqb n i) (same-num k a (is-T (eqb k 20 || eqb k 21) e))
+        go false e = refl
+
+    same-first : (i : ℕ) (ts : Forest) → firstIs i (relabelF r ts) ≡ firstIs i ts
+    same-first i nil = refl
+    same-first i (cons t ts) = same-aimed i t
+
+  mutual
+    pub same-targets : (i : ℕ) (t : Tree) → targets (relabel r t) i ≡ targets t i
+    same-targets i (node k f a ts) = ap₂ (λ (b c : Bool). (aims k && b) || c) (same-first i ts) (same-targetsF i ts)
+
+    same-targetsF : (i : ℕ) (ts : Forest) → targetsF (relabelF r ts) i ≡ targetsF ts i
+    same-targetsF i nil = refl
+    same-targetsF i (cons t ts) = ap₂ _||_ (same-targets i t) (same-targetsF i ts)
 
   -- the zero of `void 0` has origin 0, which stays
   pub same-void : r 0 ≡ 0 → relabel r voidZero ≡ voidZero

@@ -240,9 +240,18 @@ module _ (r : ℕ → ℕ) where
   putConst-same i v (c ∷ cs) = elim-same (map onC) (eqb (c .0) i) (eqb (c .0) i) ((i, v) ∷ cs) (c ∷ Scope.putConst i v cs) ((i, onO r v) ∷ map onC cs) (onC c ∷ Scope.putConst i (onO r v) (map onC cs)) refl refl
       (ap (λ (ds : List (ℕ × Option Tree)). onC c ∷ ds) (putConst-same i v cs))
 
-  pub addConst-same : (i : ℕ) (v : Option Tree) (st : Stack) → Scope.addConst i (onO r v) (on st) ≡ on (Scope.addConst i v st)
-  addConst-same i v [] = refl
-  addConst-same i v (s ∷ st) = ap (λ cs. two (record { kind = s .kind; inlineBarriers = s .inlineBarriers; bindings = map onB (s .bindings); unresolvedUsages = s .unresolvedUsages; constants = cs }) (on st)) (putConst-same i v (s .constants))
+  untargeted-same : (tg : ℕ → Bool) (v : Option Tree) → Scope.untargeted tg (onO r v) ≡ onO r (Scope.untargeted tg v)
+  untargeted-same tg none = refl
+  untargeted-same tg (some (node k f a ts)) = pick-same (onO r) (eqb k 21 && tg a) (eqb k 21 && tg (pick (hasOrigin k) (r a) a)) none (some (node k f a ts)) none (some (relabel r (node k f a ts))) (go (eqb k 21) refl) refl refl
+    where
+      go : (b : Bool) → eqb k 21 ≡ b → (b && tg (pick (hasOrigin k) (r a) a)) ≡ (b && tg a)
+      go true e = ap tg (ident-num r (node k f a ts) (is-T (eqb k 21) e))
+      go false e = refl
+
+  pub addConst-same : (tg : ℕ → Bool) (i : ℕ) (v : Option Tree) (st : Stack) → Scope.addConst tg i (onO r v) (on st) ≡ on (Scope.addConst tg i v st)
+  addConst-same tg i v [] = refl
+  addConst-same tg i v (s ∷ st) = ap (λ cs. two (record { kind = s .kind; inlineBarriers = s .inlineBarriers; bindings = map onB (s .bindings); unresolvedUsages = s .unresolvedUsages; constants = cs }) (on st))
+      (ap (λ w. Scope.putConst i w (map onC (s .constants))) (untargeted-same tg v) ∙ putConst-same i (Scope.untargeted tg v) (s .constants))
 
   -- is_inline_prevented
 

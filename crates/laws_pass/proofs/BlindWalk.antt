@@ -1,5 +1,5 @@
 -- A computation and the same computation on relabelled things: laws for the parts of walks. Assumes nothing.
-use mathlib.Core.Path.{_≡_, refl, sym, ap, ap₂, _∙_, subst}
+use mathlib.Core.Path.{_≡_, refl, sym, ap, ap₂, _∙_, subst, fun-ext}
 use mathlib.Core.Bool.{Bool, true, false, _&&_, _||_, not}
 use mathlib.Core.Option.{Option, none, some}
 use mathlib.Core.List.{List, [], _∷_, map}
@@ -15,7 +15,7 @@ use Rattle.def_pass.specs.Scope.{VarInfo, Stack, Init}
 use Rattle.def_pass.specs.Walk as Walk
 use Rattle.def_pass.specs.Walk.{St, M, Walks, get, when, modify, mark, grow, inScope, visitMutStmts, plain}
 use Rattle.laws_pass.proofs.Tests.{is-T, and-left}
-use Rattle.laws_pass.proofs.Blind.{pick-same, elim-same, onO, Bound, bound, ident-num, same-kind, same-form, same-head, same-tail, same-butLast, same-count, same-height, same-this, same-idents, same-identsF, same-void}
+use Rattle.laws_pass.proofs.Blind.{pick-same, elim-same, onO, Bound, bound, ident-num, same-kind, same-form, same-head, same-tail, same-butLast, same-count, same-targets, same-height, same-this, same-idents, same-identsF, same-void}
 use Rattle.laws_pass.proofs.BlindScope.{onB, onOB, onI, on, find-same, here-same, const-same, change-same, prevent-same, addRead-same, addWrite-same, sensitive-same, barrier-same, addConst-same, identOf-same, prevented-same, preventedO-same, varPrevented-same, sameThis-same, declare-same, close-same, recorded-same, live-same}
 
 module _ (r : ℕ → ℕ) where
@@ -123,7 +123,7 @@ module _ (r : ℕ → ℕ) where
 
   pub inScope-eq : {A : Type 0} {e : A → A} (k : Scope.ScopeKind) {m m′ : M A} → Eq e m m′ → Eq e (inScope k m) (inScope k m′)
   unfolding inScope
-  inScope-eq k h = within-eq Walk.restore (opening-eq k) (λ old s. ap (λ (x : Stack). record { stack = x; changed = s .changed; inlining = old .inlining; isFirstRun = s .isFirstRun; varDeclKind = old .varDeclKind; patMode = old .patMode; inTest = old .inTest; conds = s .conds; nodes = s .nodes }) (close-same r (s .stack))) h
+  inScope-eq k h = within-eq Walk.restore (opening-eq k) (λ old s. ap (λ (x : Stack). record { stack = x; changed = s .changed; inlining = old .inlining; isFirstRun = s .isFirstRun; varDeclKind = old .varDeclKind; patMode = old .patMode; inTest = old .inTest; conds = s .conds; nodes = s .nodes; targeted = s .targeted }) (close-same r (s .stack))) h
 
   deeper-eq : Eq keep Walk.deeper Walk.deeper
   unfolding Walk.deeper
@@ -243,7 +243,7 @@ module _ (r : ℕ → ℕ) where
     unfolding Walk.declrAnalysis
     analysis-eq none = bind (λ s. when (not (Scope.isConst (s .varDeclKind))) (Walk.declareM (rel name) Scope.noInit true (s .varDeclKind)) >> ret false) get-eq λ s.
         after (when-by (not (Scope.isConst (s .varDeclKind))) (λ t. declared-eq Scope.noInit Scope.noInit refl true (s .varDeclKind))) (ret-eq false)
-    analysis-eq (some e) = bind (λ s. iff (Scope.isConst (s .varDeclKind)) (when (s .isFirstRun) (grow (Scope.addConst (num (rel name)) (pick (isCheap (rel e)) (some (rel e)) none))) >> ret false) (iff (isCheap (rel e)) (do
+    analysis-eq (some e) = bind (λ s. iff (Scope.isConst (s .varDeclKind)) (when (s .isFirstRun) (Walk.insertConst (num (rel name)) (pick (isCheap (rel e)) (some (rel e)) none)) >> ret false) (iff (isCheap (rel e)) (do
       Walk.declareM (rel name) (Scope.seenInit (rel e)) false (s .varDeclKind)
       s₁ ← get
       when (Scope.isInlinePrevented (rel e) (s₁ .stack)) (mark (Scope.preventInline (num (rel name))))
@@ -251,8 +251,8 @@ module _ (r : ℕ → ℕ) where
         Walk.declareM (rel name) (Scope.seenInit (rel e)) false (s .varDeclKind)
         iff (hasThis (rel e)) (mark (Scope.preventInline (num (rel name))) >> ret true) (ret false)))) get-eq λ s.
         iff-by (Scope.isConst (s .varDeclKind))
-        (λ t. after (when-by (s .isFirstRun) (λ u. grow-eq (Scope.addConst (num name) (pick (isCheap e) (some e) none)) (Scope.addConst (num (rel name)) (pick (isCheap (rel e)) (some (rel e)) none))
-        (λ st. ap₂ (λ (i : ℕ) (v : Option Tree). Scope.addConst i v (on r st)) (B .number) (cheapO-is e) ∙ addConst-same r (num name) (pick (isCheap e) (some e) none) st))) (ret-eq false))
+        (λ t. after (when-by (s .isFirstRun) (λ u. byState-eq (λ s₁. grow (Scope.addConst (s₁ .targeted) (num name) (pick (isCheap e) (some e) none))) (λ s₁. grow (Scope.addConst (s₁ .targeted) (num (rel name)) (pick (isCheap (rel e)) (some (rel e)) none))) λ s₁. grow-eq (Scope.addConst (s₁ .targeted) (num name) (pick (isCheap e) (some e) none)) (Scope.addConst (s₁ .targeted) (num (rel name)) (pick (isCheap (rel e)) (some (rel e)) none))
+        (λ st. ap₂ (λ (i : ℕ) (v : Option Tree). Scope.addConst (s₁ .targeted) i v (on r st)) (B .number) (cheapO-is e) ∙ addConst-same r (s₁ .targeted) (num name) (pick (isCheap e) (some e) none) st))) (ret-eq false))
         (iff-eq (isCheap e) (isCheap (rel e)) (cheap-same e)
         (after (declared-eq (Scope.seenInit e) (Scope.seenInit (rel e)) (seenInit-is e) false (s .varDeclKind))
         (bind (λ s₁. when (Scope.isInlinePrevented (rel e) (s₁ .stack)) (mark (Scope.preventInline (num (rel name)))) >> ret false) get-eq λ s₁. after (when-eq (Scope.isInlinePrevented e (s₁ .stack)) (Scope.isInlinePrevented (rel e) (on r (s₁ .stack))) (prevented-same r e (s₁ .stack)) (preventM-eq (num name) (num (rel name)) (B .number))) (ret-eq false)))
@@ -710,7 +710,10 @@ module _ (r : ℕ → ℕ) where
   runs-same r0 (suc n) k t s = ap (Walk.again (Walk.runs n (suc k)) (suc k)) (run-eq r0 t .from (Walk.setChanged false s)) ∙ again-same (suc k) (Walk.runs n (suc k)) (runs-same r0 n (suc k)) (Walk.run t (Walk.setChanged false s))
 
   start-is : (t : Tree) → Walk.start (rel t) ≡ lab (Walk.start t)
-  start-is t = ap (λ (n : ℕ). Walk.setNodes n (Walk.start t)) (same-count r t)
+  start-is t = ap₂ (λ (n : ℕ) (tg : ℕ → Bool). begin n tg) (same-count r t) (fun-ext (λ i. same-targets r i t))
+    where
+      begin : ℕ → (ℕ → Bool) → St
+      begin n tg = record { stack = Scope.newScope (Scope.fn false) ∷ []; changed = false; inlining = false; isFirstRun = true; varDeclKind = Scope.vVar; patMode = Walk.declaring; inTest = false; conds = 0; nodes = n; targeted = tg }
 
 -- relabelling the origins and then passing is passing and then relabelling
 pub origin-blind : OriginBlind

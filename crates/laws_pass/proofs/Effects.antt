@@ -172,7 +172,7 @@ module _ (L : Law) where
     -- changes of the scopes
     pub write : (i : ℕ) (args force : Bool) → L .Id i → On (Scope.addWrite i args force)
     pub declare : (i : ℕ) (v : Scope.Init) (u : Bool) (k : Scope.VarType) → L .Id i → VI v → On (Scope.declare i v u k)
-    pub const : (i : ℕ) (v : Option Tree) → L .Id i → VO v → On (Scope.addConst i v)
+    pub const : (i : ℕ) (v : Option Tree) → L .Id i → VO v → (n : ℕ) (s : St) → L .Inv s → Moves n s (Walk.setStack (Scope.addConst (s .targeted) i v (s .stack)) s)
     pub prevent : (i : ℕ) → On (Scope.preventInline i)
     pub read : (i : ℕ) (args : Bool) → L .Id i → On (Scope.addRead i args)
     pub store : (i : ℕ) (v : Option Tree) → VO v → On (Scope.change i (Scope.withValue v))
@@ -182,7 +182,7 @@ module _ (L : Law) where
     pub opened : (k : Scope.ScopeKind) (s : St) → L .Inv s → L .Inv (inside k s)
     pub closed : (k : Scope.ScopeKind) (m n : ℕ) (s s′ : St) → L .Inv s → L .Inv s′ → L .Move m (inside k s) n s′ → L .Inv (Walk.restore s s′) × L .Move m s n (Walk.restore s s′)
     -- the visitor's other fields, also between two runs
-    pub fields : (n : ℕ) (s s′ : St) → s′ .stack ≡ s .stack → s′ .nodes ≡ s .nodes → L .Inv s → Moves n s s′
+    pub fields : (n : ℕ) (s s′ : St) → s′ .stack ≡ s .stack → s′ .nodes ≡ s .nodes → s′ .targeted ≡ s .targeted → L .Inv s → Moves n s s′
 
   -- what is then so
 
@@ -297,8 +297,8 @@ module _ (L : Law) where
     when-ok : {n : ℕ} (c : Bool) {f : M Nothing} → Pres (at n) n Any f → Pres (at n) n Any (when c f)
     when-ok c h = when-by c λ b. h
 
-    mod-ok : {n : ℕ} (f : St → St) → ((s : St) → f s .stack ≡ s .stack) → ((s : St) → f s .nodes ≡ s .nodes) → Pres (at n) n Any (modify f)
-    mod-ok {n} f e d = record { from = λ s o. (let h = E .fields n s (f s) (e s) (d s) o in (h .0, h .1, tt)) }
+    mod-ok : {n : ℕ} (f : St → St) → ((s : St) → f s .stack ≡ s .stack) → ((s : St) → f s .nodes ≡ s .nodes) → ((s : St) → f s .targeted ≡ s .targeted) → Pres (at n) n Any (modify f)
+    mod-ok {n} f e d g = record { from = λ s o. (let h = E .fields n s (f s) (e s) (d s) (g s) o in (h .0, h .1, tt)) }
 
     mark-ok : {n : ℕ} (f : Scope.Stack → Scope.Stack) → On f → Pres (at n) n Any (mark f)
     mark-ok {n} f h = record { from = λ s o. (let k = h n s o in (k .0, k .1, tt)) }
@@ -312,6 +312,12 @@ module _ (L : Law) where
 
     grow-ok : {n : ℕ} (f : Scope.Stack → Scope.Stack) → On f → Pres (at n) n Any (grow f)
     grow-ok f h = after (mark-ok f h) records-ok
+
+    insert-ok : {n : ℕ} (i : ℕ) (v : Option Tree) → L .Id i → VO v → Pres (at n) n Any (Walk.insertConst i v)
+    insert-ok {n} i v g w = after {B = Any} {f = marks} (record { from = λ s o. (let k = E .const i v g w n s o in (k .0, k .1, tt)) }) records-ok
+      where
+        marks : M Nothing
+        marks = λ s. done (Walk.setStack (Scope.addConst (s .targeted) i v (s .stack)) s) tt
 
     inScope-ok : {A : Type 0} {v : A → ℕ} {m : ℕ} {B : A → Type 0} (k : Scope.ScopeKind) {f : M A} → Pres v m B f → Pres v m B (inScope k f)
     unfolding inScope Walk.opening
@@ -332,14 +338,14 @@ module _ (L : Law) where
         last : (s s₁ : St) → L .Move m s m s₁ → (r : Res St A) → Out v m B s₁ r → Out v m B s (andThen r (λ a s₂. done (Walk.shallower s s₂) a))
         last s s₁ e (stop n) q = q
         last s s₁ e (done s₂ a) q =
-            let c = E .fields (v a) s₂ (Walk.shallower s s₂) refl refl (q .0) in
+            let c = E .fields (v a) s₂ (Walk.shallower s s₂) refl refl refl (q .0) in
             (c .0, E .s-trans m m (v a) s s₁ (Walk.shallower s s₂) e (E .s-trans m (v a) (v a) s₁ s₂ (Walk.shallower s s₂) (q .1) (c .1)), q .2)
 
         go : (s : St) → L .Inv s → (c : Bool) → Out v m B s (andThen {S = St} {A = Nothing} {B = A} (elim c [ true ↦ stop 8 | false ↦ done (Walk.setConds (suc (s .conds)) s) tt ]) (λ u s₁. andThen (inScope Scope.cond f s₁) (λ a s₂. done (Walk.shallower s s₂) a)))
         go s o true = E .eight
         go s o false =
             let s₁ = Walk.setConds (suc (s .conds)) s in
-            let c = E .fields m s s₁ refl refl o in
+            let c = E .fields m s s₁ refl refl refl o in
             last s s₁ (c .1) (inScope Scope.cond f s₁) (inScope-ok Scope.cond h .from s₁ (c .0))
 
     -- on forests
@@ -548,7 +554,7 @@ module _ (L : Law) where
     declrAnalysis-ok {n} name g none o = byState-ok (λ s. when (not (Scope.isConst (s .varDeclKind))) (Walk.declareM name Scope.noInit true (s .varDeclKind)) >> ret false) λ s h.
         after (when-ok (not (Scope.isConst (s .varDeclKind))) (declareM-ok name Scope.noInit true (s .varDeclKind) g tt)) (ret-ok {v = at n} false tt)
     declrAnalysis-ok {n} name g (some e) o = byState-ok _ λ s h. iff-ok (Scope.isConst (s .varDeclKind))
-        (after (when-ok (s .isFirstRun) (grow-ok (Scope.addConst (num name) (pick (isCheap e) (some e) none)) (E .const (num name) (pick (isCheap e) (some e) none) g (some-ok (isCheap e) e (λ c. o))))) (ret-ok {v = at n} false tt))
+        (after (when-ok (s .isFirstRun) (insert-ok (num name) (pick (isCheap e) (some e) none) g (some-ok (isCheap e) e (λ c. o)))) (ret-ok {v = at n} false tt))
         (iff-ok (isCheap e)
         (after (declareM-ok name (Scope.seenInit e) false (s .varDeclKind) g (seen-ok e o)) (byState-ok (λ s₁. when (Scope.isInlinePrevented e (s₁ .stack)) (mark (Scope.preventInline (num name))) >> ret false) λ s₁ h₁. after (when-ok (Scope.isInlinePrevented e (s₁ .stack)) (prevent-ok (num name))) (ret-ok {v = at n} false tt)))
         (after (declareM-ok name (Scope.seenInit e) false (s .varDeclKind) g (seen-ok e o)) (iff-ok (hasThis e) (after (prevent-ok (num name)) (ret-ok {v = at n} true tt)) (ret-ok {v = at n} false tt))))
@@ -582,8 +588,8 @@ module _ (L : Law) where
       stmts-ok : (p : ℕ) (ts : Forest) → GF p ts → WF p ts (visitMutStmts w p ts)
       unfolding visitMutStmts
       stmts-ok p ts o = byState-ok _ λ s g. iff-ok (s .inlining)
-          (after (mod-ok (Walk.setInlining false) (λ s. refl) (λ s. refl)) (bind (each-ok p (w .full p) (W .full p) ts o) λ us q.
-          after (mod-ok (Walk.setInlining true) (λ s. refl) (λ s. refl)) (weaken (λ vs r. (r .0, qf-trans ts us vs (q .1) (r .1))) (each-ok p (w .full p) (W .full p) us (q .0)))))
+          (after (mod-ok (Walk.setInlining false) (λ s. refl) (λ s. refl) (λ s. refl)) (bind (each-ok p (w .full p) (W .full p) ts o) λ us q.
+          after (mod-ok (Walk.setInlining true) (λ s. refl) (λ s. refl) (λ s. refl)) (weaken (λ vs r. (r .0, qf-trans ts us vs (q .1) (r .1))) (each-ok p (w .full p) (W .full p) us (q .0)))))
           (each-ok p (w .full p) (W .full p) ts o)
 
       plain-ok : (p : ℕ) (t : Tree) → Other t → L .Good p t → WO p t (plain w p t)
@@ -603,7 +609,7 @@ module _ (L : Law) where
 
       decl-ok : (p : ℕ) (t : Tree) → Other t → L .Good p t → WO p t (Walk.visitMutVarDecl w p t)
       unfolding Walk.visitMutVarDecl
-      decl-ok p t n o = after (mod-ok (Walk.setVarDeclKind (Walk.declKindOf (form t))) (λ s. refl) (λ s. refl)) (plain-ok p t n o)
+      decl-ok p t n o = after (mod-ok (Walk.setVarDeclKind (Walk.declKindOf (form t))) (λ s. refl) (λ s. refl) (λ s. refl)) (plain-ok p t n o)
 
       -- a declarator
       module _ (p k f a : ℕ) (six : T (eqb k 6)) (n : L .Tells → T (fixed k) → ⊥) where
@@ -653,7 +659,7 @@ module _ (L : Law) where
         declrKids-ok : (ts : Forest) → L .Good p (node k f a ts) → WO p (node k f a ts) (Walk.visitMutVarDeclarator w p (node k f a ts))
         unfolding Walk.visitMutVarDeclarator
         declrKids-ok ts o = nodeN-ok p k f a declrKids ts (bind (promote p k f a ts n o (split-ok (suc p) ret (each (w .full (suc p))) (keep-ok (suc p)) (each-ok (suc p) (w .full (suc p)) (W .full (suc p))) ts (E .kids p k f a ts o))) λ us q.
-            after (mod-ok (Walk.setPatMode Walk.declaring) (λ s. refl) (λ s. refl)) (byState-ok (λ s. Walk.declrTo w p (Walk.headBind us) (s .inlining) (s .varDeclKind) us) λ s h.
+            after (mod-ok (Walk.setPatMode Walk.declaring) (λ s. refl) (λ s. refl) (λ s. refl)) (byState-ok (λ s. Walk.declrTo w p (Walk.headBind us) (s .inlining) (s .varDeclKind) us) λ s h.
             weaken (λ vs r. (r .0, E .q-trans (node k f a ts) (node k f a us) (node k f a vs) (q .1) (r .1))) (declrTo-ok (Walk.headBind us) (headBind-ok (suc p) us (E .kids p k f a us (q .0))) (s .inlining) (s .varDeclKind) us (q .0))))
 
       declr-ok : (p : ℕ) (t : Tree) → T (eqb (kind t) 6) → Other t → L .Good p t → WO p t (Walk.visitMutVarDeclarator w p t)
@@ -667,7 +673,7 @@ module _ (L : Law) where
 
       function-ok : (p : ℕ) (named : Bool) (ts : Forest) → (L .Tells → LastOther ts) → GF (suc p) ts → WF (suc p) ts (Walk.visitMutFunction w p named ts)
       unfolding Walk.visitMutFunction
-      function-ok p named ts n o = inScope-ok (Scope.fn named) (after (mod-ok (Walk.setPatMode Walk.asParam) (λ s. refl) (λ s. refl)) (bodied-ok (suc p) ts n o))
+      function-ok p named ts n o = inScope-ok (Scope.fn named) (after (mod-ok (Walk.setPatMode Walk.asParam) (λ s. refl) (λ s. refl) (λ s. refl)) (bodied-ok (suc p) ts n o))
 
       declareName-ok : {m : ℕ} (p : ℕ) (n : Option Tree) → GO p n → Pres (at m) m Any (Walk.declareName n)
       unfolding Walk.declareName
@@ -715,7 +721,7 @@ module _ (L : Law) where
       -- branches and loops
       tested-ok : (p : ℕ) (t : Tree) → L .Good p t → WT p t (Walk.tested w p t)
       unfolding Walk.tested
-      tested-ok p t o = byState-ok _ λ s h. after (mod-ok (Walk.setInTest true) (λ s. refl) (λ s. refl)) (bind (W .full p t o) λ u q. after (mod-ok (Walk.setInTest (s .inTest)) (λ s. refl) (λ s. refl)) (ret-ok u q))
+      tested-ok p t o = byState-ok _ λ s h. after (mod-ok (Walk.setInTest true) (λ s. refl) (λ s. refl) (λ s. refl)) (bind (W .full p t o) λ u q. after (mod-ok (Walk.setInTest (s .inTest)) (λ s. refl) (λ s. refl) (λ s. refl)) (ret-ok u q))
 
       if-ok : (p : ℕ) (t : Tree) → Other t → L .Good p t → WO p t (Walk.visitMutIfStmt w p t)
       unfolding Walk.visitMutIfStmt
@@ -741,7 +747,7 @@ module _ (L : Law) where
 
       forIn-ok : (p : ℕ) (t : Tree) → Other t → L .Good p t → WO p t (Walk.visitMutForInStmt w p t)
       unfolding Walk.visitMutForInStmt
-      forIn-ok p t n o = after (mod-ok (Walk.setPatMode Walk.asParam) (λ s. refl) (λ s. refl)) (onKids-ok p _ (split-ok (suc p) _ _
+      forIn-ok p t n o = after (mod-ok (Walk.setPatMode Walk.asParam) (λ s. refl) (λ s. refl) (λ s. refl)) (onKids-ok p _ (split-ok (suc p) _ _
           (λ l ol. bind (W .full (suc p) l ol) λ u q. after (writeT-ok (suc p) true u (q .0)) (ret-ok u q))
           (λ ts os. after (writeF-ok (suc p) true (Walk.butLast ts) (butLast-ok (suc p) ts os)) (loop-ok (suc p) ts os))) t n o)
 
@@ -755,7 +761,7 @@ module _ (L : Law) where
 
       catch-ok : (p : ℕ) (t : Tree) → Other t → L .Good p t → WO p t (Walk.visitMutCatchClause w p t)
       unfolding Walk.visitMutCatchClause
-      catch-ok p t n o = inScope-ok Scope.block (after (mod-ok (Walk.setPatMode Walk.asCatch) (λ s. refl) (λ s. refl)) (onKids-ok p _ (eachBut-ok (suc p) (Walk.catchParam w (suc p)) (w .full (suc p)) (catchParam-ok (suc p)) (W .full (suc p))) t n o))
+      catch-ok p t n o = inScope-ok Scope.block (after (mod-ok (Walk.setPatMode Walk.asCatch) (λ s. refl) (λ s. refl) (λ s. refl)) (onKids-ok p _ (eachBut-ok (suc p) (Walk.catchParam w (suc p)) (w .full (suc p)) (catchParam-ok (suc p)) (W .full (suc p))) t n o))
 
       case-ok : (p : ℕ) (t : Tree) → Other t → L .Good p t → WO p t (Walk.visitMutSwitchCase w p t)
       unfolding Walk.visitMutSwitchCase
@@ -811,7 +817,7 @@ module _ (L : Law) where
       unfolding Walk.visitMutAssignExpr Walk.assignKids
       assign-ok p (node k f a ts) m o =
           let gs = E .kids p k f a ts o in
-          after (mod-ok (Walk.setPatMode Walk.assigning) (λ s. refl) (λ s. refl)) (nodeN-ok p k f a (Walk.assignKids w p f) ts (after (assignFirst-ok (suc p) f ts gs)
+          after (mod-ok (Walk.setPatMode Walk.assigning) (λ s. refl) (λ s. refl) (λ s. refl)) (nodeN-ok p k f a (Walk.assignKids w p f) ts (after (assignFirst-ok (suc p) f ts gs)
           (bind (headed-ok (suc p) (each (w .full (suc p))) (each-ok (suc p) (w .full (suc p)) (W .full (suc p))) ts gs) λ us q. after (assignLast-ok (suc p) us (q .0 .0)) (ret-ok us (E .around p k f a ts us o (q .0 .0) (q .0 .1) (λ l. (λ e. subst (λ (n : ℕ). T (eqb n 31)) (sym (eqb→eq 33 k m)) e, λ e. q .1)))))))
 
       -- by kind
@@ -860,7 +866,7 @@ module _ (L : Law) where
       inlineValue-ok : (p : ℕ) (t : Tree) (b : Scope.VarInfo) (v : Option Tree) → L .Good p t → T (isIdent t) → VO v → WT p t (Walk.inlineValue w p t b v)
       unfolding Walk.inlineValue
       inlineValue-ok p t b none o i v = iff-ok (b .isUndefined) (replace-ok p t voidZero o i (E .void) (keep-ok p voidZero)) (keep-ok p t o)
-      inlineValue-ok p t b (some e) o i v = after (when-ok (not (Walk.sameIdent t e)) (mod-ok (Walk.setChanged true) (λ s. refl) (λ s. refl))) (replace-ok p t e o i v (logical-ok p e))
+      inlineValue-ok p t b (some e) o i v = after (when-ok (not (Walk.sameIdent t e)) (mod-ok (Walk.setChanged true) (λ s. refl) (λ s. refl) (λ s. refl))) (replace-ok p t e o i v (logical-ok p e))
 
       identInlining-ok : (p : ℕ) (t : Tree) → L .Good p t → T (isIdent t) → WT p t (Walk.identInlining w p t)
       unfolding Walk.identInlining
@@ -869,7 +875,7 @@ module _ (L : Law) where
       byConst-ok : (p : ℕ) (t : Tree) (v : Option Tree) → L .Good p t → T (isIdent t) → VO v → WT p t (Walk.byConst w p t v)
       unfolding Walk.byConst
       byConst-ok p t none o i v = byState-ok (λ s. iff (s .inlining) (Walk.identInlining w p t) (Walk.identAnalysis t)) λ s h. iff-ok (s .inlining) (identInlining-ok p t o i) (identAnalysis-ok p t o i)
-      byConst-ok p t (some e) o i v = after (mod-ok (Walk.setChanged true) (λ s. refl) (λ s. refl)) (replace-ok p t e o i v (W .full p e))
+      byConst-ok p t (some e) o i v = after (mod-ok (Walk.setChanged true) (λ s. refl) (λ s. refl) (λ s. refl)) (replace-ok p t e o i v (W .full p e))
 
       afterIdent-ok : (p : ℕ) (t : Tree) → L .Good p t → T (isIdent t) → WT p t (Walk.afterIdent w p t)
       unfolding Walk.afterIdent
@@ -934,9 +940,9 @@ module _ (L : Law) where
 
     run-ok : (t : Tree) → L .Good 1 t → WT 1 t (Walk.run t)
     unfolding Walk.run
-    run-ok t o = after (mod-ok (Walk.setInlining false) (λ s. refl) (λ s. refl)) (bind (own-ok (Walk.walks 199) (walks-do 199) 1 t o) λ u q.
-        after (mod-ok (Walk.setInlining true) (λ s. refl) (λ s. refl)) (bind (own-ok (Walk.walks 199) (walks-do 199) 1 u (q .0)) λ v r.
-        after (mod-ok (Walk.setInlining false) (λ s. refl) (λ s. refl)) (ret-ok v (r .0, E .q-trans t u v (q .1) (r .1)))))
+    run-ok t o = after (mod-ok (Walk.setInlining false) (λ s. refl) (λ s. refl) (λ s. refl)) (bind (own-ok (Walk.walks 199) (walks-do 199) 1 t o) λ u q.
+        after (mod-ok (Walk.setInlining true) (λ s. refl) (λ s. refl) (λ s. refl)) (bind (own-ok (Walk.walks 199) (walks-do 199) 1 u (q .0)) λ v r.
+        after (mod-ok (Walk.setInlining false) (λ s. refl) (λ s. refl) (λ s. refl)) (ret-ok v (r .0, E .q-trans t u v (q .1) (r .1)))))
 
     -- a run, the runs, and the pass
     pub run-does : (t : Tree) → L .Good 1 t → (s : St) → L .Inv s → Went 1 t s (Walk.run t s)
@@ -961,14 +967,14 @@ module _ (L : Law) where
     runs-do zero k t s o h = record { last = s; inv = h; moved = E .s-refl (count t) s; good = o; related = E .q-refl t; roots = refl }
     runs-do (suc n) k t s o h =
         let s₁ = Walk.setChanged false s in
-        let f = E .fields (count t) s s₁ refl refl h in
+        let f = E .fields (count t) s s₁ refl refl refl h in
         go s₁ (f .1) (Walk.run t s₁) (run-does t o s₁ (f .0)) (λ u s₂ g i. runs-do n (suc k) u s₂ g i)
       where
         both : (u : Tree) (s₂ : St) → L .Move (count t) s (count u) s₂ → To 1 t u → L .Inv s₂ → (c : Bool) → ((u : Tree) (s₂ : St) → L .Good 1 u → L .Inv s₂ → Passed u s₂ (Walk.runs n (suc k) u s₂))
             → Passed t s (elim c as (λ x. Walk.Outcome) [ true ↦ Walk.runs n (suc k) u (Walk.setIsFirstRun false s₂) | false ↦ Walk.result (suc k) false u (Walk.rootMarks (s₂ .stack)) ])
         both u s₂ m q i true ih =
             let s₃ = Walk.setIsFirstRun false s₂ in
-            let f = E .fields (count u) s₂ s₃ refl refl i in
+            let f = E .fields (count u) s₂ s₃ refl refl refl i in
             passed t u s s₃ (Walk.runs n (suc k) u s₃) (E .s-trans (count t) (count u) (count u) s s₂ s₃ m (f .1)) (q .1) (ih u s₃ (q .0) (f .0))
         both u s₂ m q i false ih = record { last = s₂; inv = i; moved = m; good = q .0; related = q .1; roots = refl }
 

@@ -11,7 +11,7 @@ use Rattle.laws_pass.proofs.Effects.{Law, Effects, GF, VF, VO, VB, VI, 
 use Rattle.laws_pass.proofs.Single.{Single, ids, has-mem, ids-append, ids-map, ids-change, pick-id, single-append, single-put, Fresh, unbound}
 use lib.ListN.{length}
 use Rattle.def_tree.specs.Base.{pick, orElse}
-use Rattle.def_pass.specs.Tree.{Tree, Forest, node, nil, cons, kind, num, kids}
+use Rattle.def_pass.specs.Tree.{Tree, Forest, node, nil, cons, kind, num, kids, isIdent}
 use Rattle.def_pass.specs.Scope as Scope
 use Rattle.def_pass.specs.Walk as Walk
 use Rattle.def_pass.specs.Walk.{St}
@@ -105,9 +105,13 @@ module _ (N : ℕ → ℕ → ℕ → Type 0) (to-ident : (f a : ℕ) → N 20 f
   ok-putConst i v k [] h = (k, tt)
   ok-putConst i v k (c ∷ cs) h = elim-ok (All OkC) (eqb (c .0) i) ((i, v) ∷ cs) (c ∷ Scope.putConst i v cs) (k, h .1) (h .0, ok-putConst i v k cs (h .1))
 
-  pub ok-addConst : (i : ℕ) (v : Option Tree) → OkO v → (st : Scope.Stack) → OkSt st → OkSt (Scope.addConst i v st)
-  ok-addConst i v k [] h = tt
-  ok-addConst i v k (s ∷ st) h = ((h .0 .0, ok-putConst i v k (s .constants) (h .0 .1), h .0 .2), h .1)
+  ok-untargeted : (tg : ℕ → Bool) (v : Option Tree) → OkO v → OkO (Scope.untargeted tg v)
+  ok-untargeted tg none k = tt
+  ok-untargeted tg (some t) k = pick-ok OkO (isIdent t && tg (num t)) none (some t) tt k
+
+  pub ok-addConst : (tg : ℕ → Bool) (i : ℕ) (v : Option Tree) → OkO v → (st : Scope.Stack) → OkSt st → OkSt (Scope.addConst tg i v st)
+  ok-addConst tg i v k [] h = tt
+  ok-addConst tg i v k (s ∷ st) h = ((h .0 .0, ok-putConst i (Scope.untargeted tg v) (ok-untargeted tg v k) (s .constants) (h .0 .1), h .0 .2), h .1)
 
   -- a change of one binding
   ok-changeIn : (i : ℕ) (f : Scope.VarInfo → Scope.VarInfo) → ((b : Scope.VarInfo) → OkB b → OkB (f b)) → (bs : List Scope.VarInfo) → All OkB bs → All OkB (Scope.changeIn i f bs)
@@ -314,7 +318,7 @@ module _ (N : ℕ → ℕ → ℕ → Type 0) (to-ident : (f a : ℕ) → N 20 f
     leave = λ n e s o. (o, tt);
     write = λ i g force k n s o. (ok-addWrite i g force k (s .stack) o, tt);
     declare = λ i v u k g w n s o. (ok-declare i v u k g (to-init v w) (s .stack) o, tt);
-    const = λ i v g w n s o. (ok-addConst i v (to-value v w) (s .stack) o, tt);
+    const = λ i v g w n s o. (ok-addConst (s .targeted) i v (to-value v w) (s .stack) o, tt);
     prevent = λ i n s o. (ok-prevent i (s .stack) o, tt);
     read = λ i g k n s o. (ok-addRead i g (s .stack) o, tt);
     store = λ i v w n s o. (ok-change i (Scope.withValue v) (λ b. refl) (λ b m. (m .0, to-value v w)) (s .stack) o, tt);
@@ -322,7 +326,7 @@ module _ (N : ℕ → ℕ → ℕ → Type 0) (to-ident : (f a : ℕ) → N 20 f
     barrier = λ n s o. (ok-barrier (s .stack) o, tt);
     opened = λ k s o. ((tt, tt, tt), o);
     closed = λ k m n s s′ o o′ h. (ok-close (s′ .stack) o′, tt);
-    fields = λ n s s′ e d o. (subst OkSt (sym e) o, tt);
+    fields = λ n s s′ e d g o. (subst OkSt (sym e) o, tt);
   }
 
   -- of an outcome: the tree and the root's identifiers

@@ -33,7 +33,7 @@ lows = record {
   barrier = λ n s o. (tt, tt);
   opened = λ k s o. tt;
   closed = λ k m n s s′ o o′ h. (tt, tt);
-  fields = λ n s s′ e d o. (tt, tt);
+  fields = λ n s s′ e d g o. (tt, tt);
 }
 
 out : (t : Tree) (s : St) (o : Walk.Outcome) → Passed (law low) t s o → Low o

@@ -118,9 +118,9 @@ g-append : (b : VarInfo) (st : Stack) → Grow st (Scope.append b st)
 g-append b [] = tt
 g-append b (s ∷ st) = (on-append (s .bindings) b, g-refl st)
 
-g-const : (i : ℕ) (v : Option Tree) (st : Stack) → Grow st (Scope.addConst i v st)
-g-const i v [] = tt
-g-const i v (s ∷ st) = g-refl (s ∷ st)
+g-const : (tg : ℕ → Bool) (i : ℕ) (v : Option Tree) (st : Stack) → Grow st (Scope.addConst tg i v st)
+g-const tg i v [] = tt
+g-const tg i v (s ∷ st) = g-refl (s ∷ st)
 
 g-barrier : (st : Stack) → Grow st (Scope.storeInlineBarrier st)
 g-barrier [] = tt
@@ -208,7 +208,7 @@ grown = effects grows (record {
   leave = λ n e s o. (tt, g-refl (s .stack));
   write = λ i g force n s o. (tt, g-write i g force (s .stack));
   declare = λ i v u k n s o. (tt, g-declare i v u k (s .stack));
-  const = λ i v n s o. (tt, g-const i v (s .stack));
+  const = λ i v n s o. (tt, g-const (s .targeted) i v (s .stack));
   prevent = λ i n s o. (tt, g-prevent i (s .stack));
   read = λ i g n s o. (tt, g-read i g (s .stack));
   store = λ i v n s o. (tt, g-change i (Scope.withValue v) (λ b. refl) (s .stack));
@@ -216,7 +216,7 @@ grown = effects grows (record {
   barrier = λ n s o. (tt, g-barrier (s .stack));
   opened = λ k s o. tt;
   closed = λ k m n s s′ o o′ h. (tt, g-close k (s .stack) (s′ .stack) h);
-  fields = λ n s s′ e d o. (tt, subst (Grow (s .stack)) (sym e) (g-refl (s .stack)));
+  fields = λ n s s′ e d g o. (tt, subst (Grow (s .stack)) (sym e) (g-refl (s .stack)));
 })
 
 -- of the root

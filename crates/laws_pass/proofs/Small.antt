@@ -37,7 +37,7 @@ counted = record {
   barrier = λ n s o. (o, λ x. refl);
   opened = λ k s o. o;
   closed = λ k m n s s′ o o′ h. (o′, h);
-  fields = λ n s s′ e d o. (subst (λ (x : ℕ). x ≤ 1024) (sym d) o, λ x. ap (λ (y : ℕ). y + n) d);
+  fields = λ n s s′ e d g o. (subst (λ (x : ℕ). x ≤ 1024) (sym d) o, λ x. ap (λ (y : ℕ). y + n) d);
 }
   where
     step : (l m n a b c : ℕ) → l ≤ a → b + l ≡ a + m → (m ≤ b → c + m ≡ b + n) → c + l ≡ a + n

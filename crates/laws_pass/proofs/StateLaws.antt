@@ -32,7 +32,7 @@ module _ (X : StateLaw) where
     pub leave : (n : ℕ) (e : Tree) (s : St) → X .Inv s → X .Inv (Walk.setNodes (s .nodes - count e) s) × X .Move (count e + n) s n (Walk.setNodes (s .nodes - count e) s)
     pub write : (i : ℕ) (args force : Bool) → On law (Scope.addWrite i args force)
     pub declare : (i : ℕ) (v : Scope.Init) (u : Bool) (k : Scope.VarType) → On law (Scope.declare i v u k)
-    pub const : (i : ℕ) (v : Option Tree) → On law (Scope.addConst i v)
+    pub const : (i : ℕ) (v : Option Tree) → (n : ℕ) (s : St) → X .Inv s → Moves law n s (Walk.setStack (Scope.addConst (s .targeted) i v (s .stack)) s)
     pub prevent : (i : ℕ) → On law (Scope.preventInline i)
     pub read : (i : ℕ) (args : Bool) → On law (Scope.addRead i args)
     pub store : (i : ℕ) (v : Option Tree) → On law (Scope.change i (Scope.withValue v))
@@ -40,7 +40,7 @@ module _ (X : StateLaw) where
     pub barrier : On law Scope.storeInlineBarrier
     pub opened : (k : Scope.ScopeKind) (s : St) → X .Inv s → X .Inv (inside k s)
     pub closed : (k : Scope.ScopeKind) (m n : ℕ) (s s′ : St) → X .Inv s → X .Inv s′ → X .Move m (inside k s) n s′ → X .Inv (Walk.restore s s′) × X .Move m s n (Walk.restore s s′)
-    pub fields : (n : ℕ) (s s′ : St) → s′ .stack ≡ s .stack → s′ .nodes ≡ s .nodes → X .Inv s → Moves law n s s′
+    pub fields : (n : ℕ) (s s′ : St) → s′ .stack ≡ s .stack → s′ .nodes ≡ s .nodes → s′ .targeted ≡ s .targeted → X .Inv s → Moves law n s s′
 
   any : (p : ℕ) (ts : Forest) → GF law p ts
   any p nil = tt

@@ -7,7 +7,7 @@ use Prim.Native.Nat.{ℕ, suc, _+_}
 use lib.Dec.{T, eqb, ltb}
 use lib.ListN.{length}
 use Rattle.def_tree.specs.Base.{pick, orElse}
-use Rattle.def_pass.specs.Tree.{Tree, Forest, node, cons, kind, headT, isIdent, isCheap, height, voidZero}
+use Rattle.def_pass.specs.Tree.{Tree, Forest, node, cons, kind, num, headT, isIdent, isCheap, height, voidZero}
 use Rattle.def_pass.specs.Scope as Scope
 use Rattle.def_pass.specs.Scope.{VarInfo, Stack}
 use Rattle.def_pass.specs.Walk as Walk
@@ -65,9 +65,13 @@ module _ (V? : Option Tree → Type 0) (nothing : V? none) where
   put-const i v k [] h = (k, tt)
   put-const i v k (c ∷ cs) h = elim-ok (All Const) (eqb (c .0) i) ((i, v) ∷ cs) (c ∷ Scope.putConst i v cs) (k, h .1) (h .0, put-const i v k cs (h .1))
 
-  pub v-addConst : (i : ℕ) (v : Option Tree) → V? v → (st : Stack) → HeldSt st → HeldSt (Scope.addConst i v st)
-  v-addConst i v k [] h = tt
-  v-addConst i v k (s ∷ st) h = ((h .0 .0, put-const i v k (s .constants) (h .0 .1)), h .1)
+  v-untargeted : (tg : ℕ → Bool) (v : Option Tree) → V? v → V? (Scope.untargeted tg v)
+  v-untargeted tg none k = k
+  v-untargeted tg (some t) k = pick-ok V? (isIdent t && tg (num t)) none (some t) nothing k
+
+  pub v-addConst : (tg : ℕ → Bool) (i : ℕ) (v : Option Tree) → V? v → (st : Stack) → HeldSt st → HeldSt (Scope.addConst tg i v st)
+  v-addConst tg i v k [] h = tt
+  v-addConst tg i v k (s ∷ st) h = ((h .0 .0, put-const i (Scope.untargeted tg v) (v-untargeted tg v k) (s .constants) (h .0 .1)), h .1)
 
   change-in : (i : ℕ) (f : VarInfo → VarInfo) → ((b : VarInfo) → Held b → Held (f b)) → (bs : List VarInfo) → All Held bs → All Held (Scope.changeIn i f bs)
   change-in i f k [] h = tt
@@ -254,7 +258,7 @@ module _ (X : TreeLaw) where
         leave = λ n e s o. (o, tt);
         write = λ i g force k n s o. (v-write V? tt i g force (s .stack) o, tt);
         declare = λ i v u k g w n s o. (v-declare V? tt i v u k (kept-I v w) (s .stack) o, tt);
-        const = λ i v g w n s o. (v-addConst V? tt i v (back-O v w) (s .stack) o, tt);
+        const = λ i v g w n s o. (v-addConst V? tt (s .targeted) i v (back-O v w) (s .stack) o, tt);
         prevent = λ i n s o. (v-prevent V? tt i (s .stack) o, tt);
         read = λ i g k n s o. (v-read V? tt i g (s .stack) o, tt);
         store = λ i v w n s o. (v-change V? tt i (Scope.withValue v) (λ b m. back-O v w) (s .stack) o, tt);
@@ -262,7 +266,7 @@ module _ (X : TreeLaw) where
         barrier = λ n s o. (v-barrier V? tt (s .stack) o, tt);
         opened = λ k s o. ((tt, tt), o);
         closed = λ k m n s s′ o o′ h. (v-close V? tt (s′ .stack) o′, tt);
-        fields = λ n s s′ e d o. (subst (HeldSt V? tt) (sym e) o, tt);
+        fields = λ n s s′ e d g o. (subst (HeldSt V? tt) (sym e) o, tt);
       }
 
   -- at the start of a pass

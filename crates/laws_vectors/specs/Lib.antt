@@ -8,5 +8,6 @@ pub mod Part0
 pub mod Part1
 pub mod Part2
 pub mod Part3
+pub mod Part4
 pub mod Play
 pub mod Vector

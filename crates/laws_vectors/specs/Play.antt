@@ -11,8 +11,8 @@ use Rattle.def_tree.specs.Tree.{Core, flat}
 use Rattle.def_tree.specs.Combine.{Res, stop, done, Nothing, ret, _>>_}
 use Rattle.def_file.specs.Script.{sameText}
 use Rattle.def_pass.specs.Tree.{Tree, Forest, node, nil, cons, count, countO}
-use Rattle.def_pass.specs.Scope.{VarType, param, vVar, vLet, vConst, ScopeKind, cond, loop, block, fn, VarInfo, Scope, Stack, newScope, defined, withValue, change, isSome, markOf, idxVal, findBinding, findBindingFromCurrent, hasConstant, findConstant, scopeFor, writePreventsInline, readPreventsInlining, shouldPreventInlineBecauseOfScope, varInlinePrevented, isInlinePrevented, hasSameThis, inLoop, valuesIn, valuesOf, recordedNodes, live, Init, noInit, recorded, seen, declare, addRead, addWrite, addConst, close, preventInline, preventInlineOfParams, markThisSensitive, storeInlineBarrier}
-use Rattle.def_pass.specs.Walk.{St, M, declaring, mark, grow, opening}
+use Rattle.def_pass.specs.Scope.{VarType, param, vVar, vLet, vConst, ScopeKind, cond, loop, block, fn, VarInfo, Scope, Stack, newScope, defined, withValue, change, isSome, markOf, idxVal, findBinding, findBindingFromCurrent, hasConstant, findConstant, scopeFor, writePreventsInline, readPreventsInlining, shouldPreventInlineBecauseOfScope, varInlinePrevented, isInlinePrevented, hasSameThis, inLoop, valuesIn, valuesOf, recordedNodes, live, Init, noInit, recorded, seen, declare, addRead, addWrite, close, preventInline, preventInlineOfParams, markThisSensitive, storeInlineBarrier}
+use Rattle.def_pass.specs.Walk.{St, M, declaring, mark, grow, opening, insertConst}
 use Rattle.laws_vectors.specs.Vector.{chunks}
 
 -- calls of four bytes, and the numbers printed, of two bytes, each with their length
@@ -67,7 +67,7 @@ steps =
     ∷ (λ x v m. grow (addWrite x (odd m) (odd (m / 2))))
     ∷ (λ x v m. grow (change x (withValue (valueO v))))
     ∷ (λ x v m. grow (change x (λ c. defined (withValue (valueO v) c))))
-    ∷ (λ x v m. grow (addConst x (valueO v)))
+    ∷ (λ x v m. insertConst x (valueO v))
     ∷ (λ x v m. mark close)
     ∷ (λ x v m. mark (addRead x (odd m)))
     ∷ (λ x v m. mark (preventInline x))
@@ -85,7 +85,7 @@ play (c ∷ x ∷ v ∷ []) = ret tt
 play (c ∷ x ∷ v ∷ m ∷ cs) = getD steps c (λ x v m. ret tt) x v m >> play cs
 
 abbrev pub start : St
-start = record { stack = newScope (fn false) ∷ []; changed = false; inlining = false; isFirstRun = true; varDeclKind = vVar; patMode = declaring; inTest = false; conds = 0; nodes = 11 }
+start = record { stack = newScope (fn false) ∷ []; changed = false; inlining = false; isFirstRun = true; varDeclKind = vVar; patMode = declaring; inTest = false; conds = 0; nodes = 11; targeted = λ (j : ℕ). false }
 
 -- what the program prints: cases by their numbers
 abbrev pub typeNo : VarType → ℕ

@@ -30,7 +30,7 @@ use Rattle.file_copy.proofs.Again.{place-enter}
 use Rattle.file_copy.proofs.Ends.{WasRead}
 use Rattle.def_pass.specs.Walk.{St}
 use Rattle.laws_flat.specs.WalkF.{OutcomeF, refusedF, runsF}
-use Rattle.laws_flat.specs.PassF.{startF}
+use Rattle.laws_flat.specs.PassF.{startF, targetsL}
 use Rattle.laws_flat.proofs.File.{planted-ok}
 use Rattle.words_scopes.specs.State.{Named, Names}
 use Rattle.words_nodes.specs.Nodes.{One}
@@ -115,7 +115,7 @@ module _ {w u : List ℕ} {n : ℕ} (L : Listed w n) (e : Same w u) where
 module _ {bs w w₁ u v : List ℕ} {x : Ran} (n : ℕ) (W : WasRead bs w w₁) (S : Started w₁ u) (R : RunsIs u v x (runsF n 0 (abs u))) where
   begins : abs u ≡ begin (W .script)
   begins =
-      ap₂ {C = Flat St} (λ (xs : List Core) (s : St). record { nodes = xs; rest = s }) (S .nodes ∙ W .held .tree) (S .is ∙ ap startF (W .held .count))
+      ap₂ {C = Flat St} (λ (xs : List Core) (s : St). record { nodes = xs; rest = s }) (S .nodes ∙ W .held .tree) (S .is ∙ ap₂ (λ (n : ℕ) (xs : List Core). startF n (targetsL xs)) (W .held .count) (W .held .tree))
 
   ends : (r : Ran) → x ≡ r → outcome r v ≡ readRuns n (read bs)
   ends r e = ap (λ (y : Ran). outcome y v) (sym e) ∙ R .is ∙ ap (λ (st : Flat St). runsF n 0 st) begins ∙ ap (readRuns n) (sym (W .is))

@@ -1,5 +1,5 @@
 -- The first state. Assumes nothing.
-use mathlib.Core.Path.{_≡_, refl, sym, ap, _∙_}
+use mathlib.Core.Path.{_≡_, refl, sym, ap, ap₂, _∙_}
 use mathlib.Core.Bool.{true, false}
 use mathlib.Core.List.{List, [], _∷_}
 use Prim.Native.Nat.{ℕ}
@@ -10,10 +10,14 @@ use Rattle.words.specs.Tab.{sum}
 use Rattle.words.specs.Layout.{yes, tree}
 use Rattle.words.specs.Moved.{Put5, Zeroed}
 use Rattle.words.proofs.Nodes.{tree-same, beyond-same}
+use Rattle.def_tree.specs.Tree.{Core}
 use Rattle.def_pass.specs.Scope.{Stack, fn, newScope}
-use Rattle.laws_flat.specs.PassF.{startF}
-use Rattle.words_scopes.specs.State.{Good, Becomes, heads, headsAt, stack, varTypeOf}
+use Rattle.laws_flat.specs.PassF.{startF, targetsL}
+use Rattle.words_scopes.specs.State.{Good, Becomes, heads, headsAt, stack, varTypeOf, targeted}
 use Rattle.words_scopes.proofs.Index.{beside-none}
+use Rattle.words_scopes.proofs.Words.{targeted-same}
+use Rattle.words_targets.specs.Targets.{Script, Beside, Targeted}
+use Rattle.words_targets.proofs.Targets.{beside-tree}
 use Rattle.scope_values.specs.declared.Step.{Step}
 use Rattle.scope_values.specs.declared.Step.the-variants.{Done, Refused}
 use Rattle.scope_values.specs.Steps.{Limited}
@@ -69,6 +73,7 @@ module _ {w u : List ℕ} (l : Loaded w) (f : Fields w u) where
     whole = λ k h. absurd (omega (arith, f .bindings, h));
     cwhole = λ k h. absurd (omega (arith, f .constants, h));
     beside = beside-none u (f .bindings) (f .scopes) (f .index);
+    cfree = λ k h. absurd (omega (arith, f .constants, h));
   }
 
   pub planted : Planted u
@@ -82,25 +87,50 @@ module _ {w u : List ℕ} (l : Loaded w) (f : Fields w u) where
     ok : Ok u v
     ok = becomes-ok planted size b
 
-    field : st ≡ newScope (fn false) ∷ [] → rest v ≡ startF (getD w 0 0)
+    field : st ≡ newScope (fn false) ∷ [] → targeted w ≡ targetsL (tree w) → rest v ≡ startF (getD w 0 0) (targetsL (tree w))
     unfolding rest
-    field e = becomes-rest planted (count-kept b) b ∙ st-eq e (ap yes (f .changed)) (ap yes (f .inlining)) (ap yes (f .isFirstRun)) (ap varTypeOf (f .varDeclKind)) (ap modeOf (f .patMode)) (ap yes (f .inTest)) (f .conds) (f .nodes)
+    field e q = becomes-rest planted (count-kept b) b ∙ st-eq e (ap yes (f .changed)) (ap yes (f .inlining)) (ap yes (f .isFirstRun)) (ap varTypeOf (f .varDeclKind)) (ap modeOf (f .patMode)) (ap yes (f .inTest)) (f .conds) (f .nodes) (targeted-same w u (λ j p h. f .high j (omega arith)) ∙ q)
 
-    begun : st ≡ newScope (fn false) ∷ [] → Started w v
-    begun e = record {
+    begun : st ≡ newScope (fn false) ∷ [] → targeted w ≡ targetsL (tree w) → Started w v
+    begun e q = record {
       planted = ok .planted;
       size = size ∙ f .size;
       nodes = b .tree ∙ same-tree;
-      is = field e;
+      is = field e q;
       idents = ok .idents ∙ f .idents;
-      high = λ j p h. ok .high j p h ∙ f .high j (omega arith);
+      high = λ j p h. ok .high j (omega (arith, p)) (omega arith) ∙ f .high j (omega arith);
       rest = b .rest ∙ beyond-same w u (f .size) (λ j p. f .high j (omega arith));
     }
 
   -- the root is opened: one scope passes no limit
-  pub started : {v : List ℕ} (k : ScopeKind) (s : Step) → kindOf k ≡ fn false → length v ≡ length u → Limited 8 (leb 32 (length (stack u))) u v (newScope (kindOf k) ∷ stack u) s → Started w v
-  started {v} k Done e z h = begun (h .0) z (rw (e, no-scope) refl)
-  started {v} k (Refused r) e z h = absurd (no (sym (ap (λ (st : Stack). leb 32 (length st)) no-scope) ∙ h .1))
+  pub started : {v : List ℕ} (k : ScopeKind) (s : Step) → kindOf k ≡ fn false → length v ≡ length u → Limited 8 (leb 32 (length (stack u))) u v (newScope (kindOf k) ∷ stack u) s → targeted w ≡ targetsL (tree w) → Started w v
+  started {v} k Done e z h q = begun (h .0) z (rw (e, no-scope) refl) q
+  started {v} k (Refused r) e z h q = absurd (no (sym (ap (λ (st : Stack). leb 32 (length st)) no-scope) ∙ h .1))
     where
       no : false ≡ true → ⊥
       no q = let y : _≡_ {A = ℕ} 0 1 = cc in omega arith
+
+-- the targets are marked first
+pub as-script : {w : List ℕ} → Loaded w → Script w
+as-script l = record { long = l .long; few = l .few; names = l .names }
+
+module _ {w u : List ℕ} (l : Loaded w) (t : Targeted w u) where
+  marked-tree : tree u ≡ tree w
+  marked-tree = beside-tree (as-script l) (t .beside)
+
+  pub marked-loaded : Loaded u
+  marked-loaded = record { long = rw (t .beside .size) (l .long); few = rw (t .beside .low 0 (omega arith)) (l .few); names = rw marked-tree (l .names); one = rw marked-tree (l .one) }
+
+  pub marked-is : targeted u ≡ targetsL (tree u)
+  marked-is = t .is ∙ ap (λ (xs : List Core). targetsL xs) (sym marked-tree)
+
+  pub from-marked : {v : List ℕ} → Started u v → Started w v
+  from-marked s = record {
+    planted = s .planted;
+    size = s .size ∙ t .beside .size;
+    nodes = s .nodes ∙ marked-tree;
+    is = s .is ∙ ap₂ (λ (n : ℕ) (xs : List Core). startF n (targetsL xs)) (t .beside .low 0 (omega arith)) marked-tree;
+    idents = s .idents ∙ t .beside .low 4 (omega arith);
+    high = λ j p h. s .high j p h ∙ t .beside .low j h;
+    rest = s .rest ∙ beyond-same w u (t .beside .size) (λ j p. t .beside .high j (omega arith));
+  }

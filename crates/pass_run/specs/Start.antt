@@ -4,7 +4,7 @@ use mathlib.Core.List.{List}
 use Prim.Native.Nat.{ℕ, _+_, _≤_, _<_}
 use lib.ListN.{length, getD}
 use Rattle.words.specs.Layout.{Agree, tree, beyond}
-use Rattle.laws_flat.specs.PassF.{startF}
+use Rattle.laws_flat.specs.PassF.{startF, targetsL}
 use Rattle.words_scopes.specs.State.{Names}
 use Rattle.words_nodes.specs.Nodes.{One, Planted}
 use Rattle.words_state.specs.State.{rest}
@@ -35,12 +35,12 @@ pub record Fields (w u : List ℕ) : Type 0 where
   pub mid : Agree 12 7568 w u
   pub high : (j : ℕ) → 7824 ≤ j → getD u j 0 ≡ getD w j 0
 
--- the same tree, and the visitor before its first run; the identifiers and the words past the first 16,384 are as they were
+-- the same tree, and the visitor before its first run, with what the tree targets; the identifiers and the words past the first 16,384 are as they were
 pub record Started (w u : List ℕ) : Type 0 where
   pub planted : Planted u
   pub size : length u ≡ length w
   pub nodes : tree u ≡ tree w
-  pub is : rest u ≡ startF (getD w 0 0)
+  pub is : rest u ≡ startF (getD w 0 0) (targetsL (tree w))
   pub idents : getD u 4 0 ≡ getD w 4 0
-  pub high : Agree 8080 16384 w u
+  pub high : Agree 15504 16016 w u
   pub rest : beyond u ≡ beyond w

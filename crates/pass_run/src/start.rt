@@ -1,4 +1,4 @@
-// inlining: the visitor before its first run, over a script that was read.
+// inlining: the visitor before its first run, over a script that was read. What the script targets is worked out here, once (request 8).
 ghost use Prim.Native.Nat.{_≤_};
 ghost use lib.ListN.{length};
 ghost use Rattle.pass_run.specs.Start.{Loaded, Fields, Started};
@@ -8,6 +8,7 @@ use scope_child::open_scope;
 use words::layout;
 use words::put5;
 use words::wipe;
+use words_targets::mark_targets;
 
 // No scope, an empty index, and the visitor's fields: not changed, Analysis, the first run, var, declaring, no test, no right side.
 fn set_fields(w: &mut [u32])
@@ -20,11 +21,12 @@ fn set_fields(w: &mut [u32])
     wipe(w, layout::INDEX, 256);
 }
 
-// The fields, and an empty root scope.
+// The targets, the fields, and an empty root scope.
 pub fn start(w: &mut [u32])
     requires { ⌜ Loaded (now w) ⌝ }
     ensures { λ _. ⌜ Started (now (w .entry)) (now (w .exit)) ⌝ }
 {
+    mark_targets(w);
     set_fields(w);
     let root = Scope::new(ScopeKind::DEFAULT);
     open_scope(w, root);

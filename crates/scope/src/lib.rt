@@ -8,7 +8,7 @@ ghost use lib.ListN.{length};
 ghost use Rattle.def_pass.specs.Scope.{newScope, declare, isVar, addConst, change, defined, withValue};
 ghost use Rattle.def_pass.specs.Walk.{declareM};
 ghost use Rattle.words.specs.Layout.{tree};
-ghost use Rattle.words_scopes.specs.State.{Good, stack, scopeKindOf};
+ghost use Rattle.words_scopes.specs.State.{Good, stack, scopeKindOf, targeted};
 ghost use Rattle.scope_values.specs.Steps.{Limited, Grown};
 ghost use Rattle.scope_define.specs.Kinds.{typeOf};
 ghost use Rattle.words_nodes.specs.Nodes.{Planted, treeFrom, size};
@@ -129,10 +129,10 @@ pub fn declare_m(w: &mut [u32], x: u8, v: Init, i: usize, is_change: bool, kind:
     scope_declare::declare(w, x, e, i, undefined, kind)
 }
 
-// constants.insert: x is a constant of the current scope.
+// constants.insert: x is a constant of the current scope, without a value if that is an identifier that the script as read targets (request 8).
 pub fn add_const(w: &mut [u32], x: u8, v: Value) -> Step
     requires { ⌜ Planted (now w) ⌝ }
-    ensures { λ r. ⌜ Grown (now (w .entry)) (now (w .exit)) (addConst x (valueAt (tree (now (w .entry))) v) (stack (now (w .entry)))) r ⌝ }
+    ensures { λ r. ⌜ Grown (now (w .entry)) (now (w .exit)) (addConst (targeted (now (w .entry))) x (valueAt (tree (now (w .entry))) v) (stack (now (w .entry)))) r ⌝ }
 {
     let e = run_of(w, v);
     let at = e.at;

@@ -78,6 +78,7 @@ begun-good {w} {xs} b l n = record {
   whole = λ k h. absurd (omega (arith, b .bindings, h));
   cwhole = λ k h. absurd (omega (arith, b .constants, h));
   beside = beside-none w (b .bindings) (b .scopes) (b .index);
+  cfree = λ k h. absurd (omega (arith, b .constants, h));
 }
 
 -- the tree that values are taken from

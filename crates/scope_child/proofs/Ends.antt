@@ -132,6 +132,7 @@ module _ (w u : List ℕ) (g : Good w) (zeroth : Zeroed w u 7568 256) where
     whole = rw n1 (λ k l. absurd (omega arith));
     cwhole = rw n3 (λ k l. absurd (omega arith));
     beside = beside-none x n1 n2 (λ y l. after (7568 + y) (λ e. omega arith) (λ e. omega arith) (λ e. omega arith) ∙ zeroth .here y l);
+    cfree = rw n3 (λ k l. absurd (omega arith));
   }
 
   pub none-left : Becomes w x []

@@ -1,6 +1,7 @@
 -- The words of constants: a value overwritten, a constant appended. Assumes nothing.
-use mathlib.Core.Path.{_≡_, refl, ap, _∙_}
+use mathlib.Core.Path.{_≡_, refl, ap, _∙_, sym, subst}
 use mathlib.Core.List.{List, [], _∷_, _++_, map}
+use mathlib.Core.Bool.{Bool}
 use mathlib.Core.Option.{none}
 use mathlib.Core.Logic.{_⊎_, inl, inr, ⊎-elim}
 use Prim.Native.Nat.{ℕ, _+_, _*_, _≤_, _<_}
@@ -11,8 +12,9 @@ use lib.Seq.{getD-set-same, getD-set-other}
 use Rattle.words.specs.Tab.{tab-zero, tab-suc, tab-ext, set-tab, same-or-not, sum-next}
 use Rattle.words.specs.Layout.{Agree, run, tree, beyond, coreFrom}
 use Rattle.words.proofs.Nodes.{beyond-same}
-use Rattle.words_scopes.specs.State.{heads, flags, binds, consts, constAt, clenAt, off, coff, crunAt, CFits, Good, Whole, valueOf, runOf}
-use Rattle.words_scopes.proofs.Words.{heads-part, part-tree, part-coff, part-crun, whole-none}
+use Rattle.def_pass.specs.Scope.{Free}
+use Rattle.words_scopes.specs.State.{heads, flags, binds, consts, constAt, clenAt, off, coff, crunAt, CFits, Good, Whole, valueOf, runOf, targeted}
+use Rattle.words_scopes.proofs.Words.{heads-part, part-tree, part-coff, part-crun, targeted-same, whole-none}
 use Rattle.words_scopes.proofs.Grow.{part-off, part-run, part-binds, part-flags}
 use Rattle.words_scopes.proofs.Index.{begins, beside-same}
 use Rattle.scope_values.specs.Steps.{Listed, Spliced}
@@ -60,8 +62,8 @@ module _ {w w′ : List ℕ} (g : Good w) (t : CKept w w′) where
   ckept-binds = rw n1 (part-binds w′ g (getD w 1 0) (omega arith) bs bt)
 
   module _ (c : ℕ) (is : getD w′ 3 0 ≡ c) where
-    pub ckept-good : getD w 1 0 + c ≤ 256 → off w (getD w 1 0) + coff w′ c ≤ 512 → CFits (heads w) c → ((k : ℕ) → k < c → getD w′ (6672 + k * 2) 0 < 256) → ((k : ℕ) → k < c → Whole (crunAt w′ k)) → Good w′
-    ckept-good m v f i q = record {
+    pub ckept-good : getD w 1 0 + c ≤ 256 → off w (getD w 1 0) + coff w′ c ≤ 512 → CFits (heads w) c → ((k : ℕ) → k < c → getD w′ (6672 + k * 2) 0 < 256) → ((k : ℕ) → k < c → Whole (crunAt w′ k)) → ((k : ℕ) → k < c → Free (targeted w) (valueOf (crunAt w′ k))) → Good w′
+    ckept-good m v f i q p = record {
       long = rw (t .size) (g .long);
       nodes = rw n0 (g .nodes);
       count = rw n1 (g .count);
@@ -79,6 +81,7 @@ module _ {w w′ : List ℕ} (g : Good w) (t : CKept w w′) where
       whole = rw n1 (λ k h. rw (part-run w′ g (getD w 1 0) (omega arith) bs bt k h) (g .whole k h));
       cwhole = rw is q;
       beside = beside-same (g .beside) n1 (ap (map begins) ckept-heads) (λ k h. bt (4112 + k * 10) (omega arith) (omega arith)) (λ j a b. t .tail j (omega arith) (omega arith)) (g .count);
+      cfree = rw is (λ k h. subst (λ (tg : ℕ → Bool). Free tg (valueOf (crunAt w′ k))) (sym (targeted-same w w′ (λ j a b. t .tail j (omega arith) (omega arith)))) (p k h));
     }
 
   pub ckept-listed : (cs : List Const) → Good w′ → consts w′ ≡ cs → Listed w w′ (binds w) cs
@@ -142,16 +145,17 @@ module _ (w v : List ℕ) (g : Good w) (k i m : ℕ) (h : k < getD w 3 0) (hi : 
   n3 : getD w′ 3 0 ≡ getD w 3 0
   n3 = out 3 (inl (omega arith)) (λ e. omega arith)
 
-  set-good : runOf (valueOf (run w 16 i m)) ≡ run w 16 i m → Good w′
-  set-good q = ckept-good g set-kept (getD w 3 0) n3 (g .live) (omega (arith, store.vals-after 3088 len (omega arith) (omega arith) above alone w v (getD w 3 0) k i m h within (g .long) tree-long (g .cvals) own s)) (g .cfits) (λ j l. rw (named j) (g .cids j l))
+  set-good : runOf (valueOf (run w 16 i m)) ≡ run w 16 i m → Free (targeted w) (valueOf (run w 16 i m)) → Good w′
+  set-good q p = ckept-good g set-kept (getD w 3 0) n3 (g .live) (omega (arith, store.vals-after 3088 len (omega arith) (omega arith) above alone w v (getD w 3 0) k i m h within (g .long) tree-long (g .cvals) own s)) (g .cfits) (λ j l. rw (named j) (g .cids j l))
       (λ j l. ⊎-elim (λ (e : j ≡ k). rw (e, run-this) (record { one = q; names = store.run-names w i m (g .names) hi })) (λ (d : j ≡ k → ⊥). rw (run-other j l d) (g .cwhole j l)) (same-or-not j k))
+      (λ j l. ⊎-elim (λ (e : j ≡ k). rw (e, run-this) p) (λ (d : j ≡ k → ⊥). rw (run-other j l d) (g .cfree j l)) (same-or-not j k))
 
   set-consts : consts w′ ≡ set (consts w) k (getD w (6672 + k * 2) 0, valueOf (run w 16 i m))
   unfolding consts
   set-consts = rw n3 (set-tab (getD w 3 0) (λ j. constAt w j) (λ j. constAt w′ j) k (getD w (6672 + k * 2) 0, valueOf (run w 16 i m)) h (rw (run-this, named k) refl) (λ j l d. rw (run-other j l d, named j) refl))
 
-  pub const-set : runOf (valueOf (run w 16 i m)) ≡ run w 16 i m → Listed w w′ (binds w) (set (consts w) k (getD w (6672 + k * 2) 0, valueOf (run w 16 i m)))
-  const-set q = ckept-listed g set-kept (set (consts w) k (getD w (6672 + k * 2) 0, valueOf (run w 16 i m))) (set-good q) set-consts
+  pub const-set : runOf (valueOf (run w 16 i m)) ≡ run w 16 i m → Free (targeted w) (valueOf (run w 16 i m)) → Listed w w′ (binds w) (set (consts w) k (getD w (6672 + k * 2) 0, valueOf (run w 16 i m)))
+  const-set q p = ckept-listed g set-kept (set (consts w) k (getD w (6672 + k * 2) 0, valueOf (run w 16 i m))) (set-good q p) set-consts
 
 -- a constant without a value is appended
 module _ (w : List ℕ) (g : Good w) (x : ℕ) (h : getD w 1 0 + getD w 3 0 < 256) (z : 0 < getD w 2 0) (small : x < 256) where
@@ -203,6 +207,7 @@ module _ (w : List ℕ) (g : Good w) (x : ℕ) (h : getD w 1 0 + getD w 3 0 < 25
   push-good = ckept-good g push-kept (c + 1) new-count (omega arith) (omega (arith, sum-next (λ j. clenAt y j) c, part-coff y g c (omega arith) cs ct c (omega arith), new-len, g .recorded)) (cfits-more w g z)
       (λ k l. ⊎-elim (λ (e : k ≡ c). rw (e, new-name) small) (λ (q : k < c). rw (ct (6672 + k * 2) (omega arith) (omega arith)) (g .cids k q)) (eq-or-lt-of-le (omega arith)))
       (λ k l. ⊎-elim (λ (e : k ≡ c). rw (e, run-new) whole-none) (λ (q : k < c). rw (run-old k q) (g .cwhole k q)) (eq-or-lt-of-le (omega arith)))
+      (λ k l. ⊎-elim (λ (e : k ≡ c). rw (e, run-new) tt) (λ (q : k < c). rw (run-old k q) (g .cfree k q)) (eq-or-lt-of-le (omega arith)))
 
   push-consts : consts y ≡ consts w ++ ((x, none) ∷ [])
   unfolding consts

@@ -12,7 +12,7 @@ use lib.Seq.{drop-set-add, take-set-le, getD-drop, take-append-le, drop-append-l
 use Rattle.def_tree.specs.Base.{orElse}
 use Rattle.def_tree.specs.Tree.{Tree, Core}
 use Rattle.def_pass.specs.Tree.{countO}
-use Rattle.def_pass.specs.Scope.{VarInfo, Stack, constIn, putConst, addConst, findConstant, hasConstant, flat, isSome, recordedNodes, live}
+use Rattle.def_pass.specs.Scope.{VarInfo, Stack, constIn, putConst, untargeted, addConst, findConstant, hasConstant, flat, isSome, recordedNodes, live}
 use Rattle.words.specs.Tab.{tab, tab-zero, length-tab, getD-tab, take-tab, sum-part}
 use Rattle.words.specs.Layout.{run, coreFrom}
 use Rattle.words.proofs.Nodes.{run-length}
@@ -164,9 +164,9 @@ module _ (w : List ℕ) (g : Good w) (x r : ℕ) (miss : (j : ℕ) → 0 ≤ j �
   has-miss h = has-all ∙ ap (λ (o : Option (Option Tree)). isSome o) (here-miss w (getD w 3 0) 0 x r (omega arith) miss h .0)
 
 -- the innermost scope
-put-split : (x : ℕ) (v : Option Tree) (h : Head) (hs : List Head) (fl : List ℕ) (bs : List VarInfo) (cs cs′ : List Const) → take (h .cstart) cs′ ≡ take (h .cstart) cs → drop (h .cstart) cs′ ≡ putConst x v (drop (h .cstart) cs)
-    → addConst x v (split (h ∷ hs) fl bs cs) ≡ split (h ∷ hs) fl bs cs′
-put-split x v h hs fl bs cs cs′ t d = rw (t, d) refl
+put-split : (tg : ℕ → Bool) (x : ℕ) (v : Option Tree) (h : Head) (hs : List Head) (fl : List ℕ) (bs : List VarInfo) (cs cs′ : List Const) → take (h .cstart) cs′ ≡ take (h .cstart) cs → drop (h .cstart) cs′ ≡ putConst x (untargeted tg v) (drop (h .cstart) cs)
+    → addConst tg x v (split (h ∷ hs) fl bs cs) ≡ split (h ∷ hs) fl bs cs′
+put-split tg x v h hs fl bs cs cs′ t d = rw (t, d) refl
 
 module _ (w : List ℕ) (g : Good w) (z : 0 < getD w 2 0) (x r : ℕ) where
   abbrev d : ℕ
@@ -186,18 +186,20 @@ module _ (w : List ℕ) (g : Good w) (z : 0 < getD w 2 0) (x r : ℕ) where
     abbrev c : ℕ
     c = getD w 3 0
 
-    put-there : r < c → (v : Option Tree) → addConst x v (stack w) ≡ split (heads w) (flags w) (binds w) (set (consts w) r (x, v))
+    put-there : r < c → (tg : ℕ → Bool) (u : Option Tree) → addConst tg x u (stack w) ≡ split (heads w) (flags w) (binds w) (set (consts w) r (x, untargeted tg u))
     unfolding stack consts
-    put-there h v =
+    put-there h tg u =
         let s : top + (r - top) ≡ r = omega arith in
-        rw heads-top (put-split x v (headAt w d) (headsAt w d) (flags w) (binds w) (tabC w c) (set (tabC w c) r (x, v)) (take-set-le top (tabC w c) r (x, v) low)
+        let v = untargeted tg u in
+        rw heads-top (put-split tg x u (headAt w d) (headsAt w d) (flags w) (binds w) (tabC w c) (set (tabC w c) r (x, v)) (take-set-le top (tabC w c) r (x, v) low)
         (ap (λ (n : ℕ). drop top (set (tabC w c) n (x, v))) (sym s) ∙ drop-set-add top (tabC w c) (r - top) (x, v) ∙ sym (here-hit w c top x r low miss h (hit h) .1 v)))
 
-    put-absent : c ≤ r → (v : Option Tree) → addConst x v (stack w) ≡ split (heads w) (flags w) (binds w) (consts w ++ ((x, v) ∷ []))
+    put-absent : c ≤ r → (tg : ℕ → Bool) (u : Option Tree) → addConst tg x u (stack w) ≡ split (heads w) (flags w) (binds w) (consts w ++ ((x, untargeted tg u) ∷ []))
     unfolding stack consts
-    put-absent h v =
+    put-absent h tg u =
         let l : top ≤ length (tabC w c) = rw length-tab top-fits in
-        rw heads-top (put-split x v (headAt w d) (headsAt w d) (flags w) (binds w) (tabC w c) (tabC w c ++ ((x, v) ∷ [])) (take-append-le top (tabC w c) ((x, v) ∷ []) l)
+        let v = untargeted tg u in
+        rw heads-top (put-split tg x u (headAt w d) (headsAt w d) (flags w) (binds w) (tabC w c) (tabC w c ++ ((x, v) ∷ [])) (take-append-le top (tabC w c) ((x, v) ∷ []) l)
         (drop-append-le top (tabC w c) ((x, v) ∷ []) l ∙ sym (here-miss w c top x r low miss h .1 v)))
 
     pub own : Own w x r

@@ -1,3 +1,4 @@
 -- What the proofs of several functions use.
 pub mod Constants
+pub mod Targeted
 pub mod ConstWords

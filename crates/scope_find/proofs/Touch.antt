@@ -19,7 +19,7 @@ use Rattle.words.proofs.Nodes.{run-same}
 use Rattle.words.specs.Flags.{flagAt, Flagged}
 use Rattle.words.proofs.Flags.{flag-same}
 use Rattle.words_scopes.specs.State.{scopeKindOf, lenAt, off, runAt, bindAt, coff, constAt, unresAt, headAt, headsAt, heads, stack, Fits, CFits, Good, Becomes}
-use Rattle.words_scopes.proofs.Words.{bind-same, part-coff, part-crun, part-consts, part-tree}
+use Rattle.words_scopes.proofs.Words.{bind-same, part-coff, part-crun, part-consts, part-tree, free-same}
 use Rattle.words_scopes.proofs.Index.{begins-same, beside-same}
 use Rattle.scope_find.specs.Look.{first, cfirst, scopeAt, below}
 use Rattle.scope_find.specs.Touched.{Touched, BarStored}
@@ -114,6 +114,7 @@ module _ {w w′ : List ℕ} (g : Good w) (t : Touched w w′) where
     whole = rw (count 1 (omega arith)) (λ k l. rw (run-at k l) (g .whole k l));
     cwhole = rw (count 3 (omega arith)) (λ k l. rw (part-crun w′ g (getD w 3 0) (omega arith) cstore (const (getD w 3 0) (g .ccount)) k l) (g .cwhole k l));
     beside = beside-same (g .beside) (count 1 (omega arith)) (rw (count 2 (omega arith)) (begins-same w w′ (getD w 2 0) (λ k l. head k 1 (omega (arith, g .depth)) (omega arith)))) (λ k l. name k (omega (arith, g .count))) (λ j a b. t .high j a (omega arith)) (g .count);
+    cfree = rw (count 3 (omega arith)) (λ k l. free-same w w′ k (λ j a b. t .high j (omega arith) (omega arith)) (part-crun w′ g (getD w 3 0) (omega arith) cstore (const (getD w 3 0) (g .ccount)) k l) (g .cfree k l));
   }
 
   -- scopes begin where they began

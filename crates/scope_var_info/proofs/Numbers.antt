@@ -9,7 +9,7 @@ use mathlib.Core.Bool.{Bool, true, false, not, _&&_}
 use lib.ListN.{length, getD, getElem?, take, drop, length-take, take-append-drop}
 use lib.Dec.{eqb}
 use Rattle.def_tree.specs.Tree.{Tree, Core}
-use Rattle.def_pass.specs.Scope.{VarInfo, Stack, findIn, findConstant, isParam, hasSameThis}
+use Rattle.def_pass.specs.Scope.{VarInfo, Stack, findIn, findConstant, Free, isParam, hasSameThis}
 use Rattle.scope_constants.specs.Consts.{Found}
 use Rattle.scope_values.specs.declared.Constant.{Constant}
 use Rattle.scope_values.specs.declared.Constant.the-variants as constant
@@ -18,7 +18,7 @@ use Rattle.words.specs.Layout.{tree, run}
 use Rattle.words.proofs.Nodes.{tree-length, run-length}
 use Rattle.def_pass.specs.Tree.{countO, height}
 use Rattle.def_tree.specs.Tree.{plant, firstT, count}
-use Rattle.words_scopes.specs.State.{Good, Head, Fits, split, heads, flags, binds, consts, stack, bindAt, indexIn, off, lenAt, runAt, valueOf, varTypeOf}
+use Rattle.words_scopes.specs.State.{Good, Head, Fits, split, heads, flags, binds, consts, stack, bindAt, indexIn, off, lenAt, runAt, valueOf, varTypeOf, targeted}
 use Rattle.words_scopes.proofs.Split.{noBind, tested}
 use Rattle.scope_values.proofs.Count.{length-binds, fits-binds, nodes-bind}
 use Rattle.scope_find.specs.Look.{nodeTree, atPlace, idxHere, idxAt, first}
@@ -148,6 +148,11 @@ module _ (w : List ℕ) (x : ℕ) where
   const-at at m e f =
       let h = subst (λ (q : Constant). Found w x q) e f in
       (h .0 ∙ value-some (run w 3088 at m) (omega (arith, run-length w 3088 at m, h .1)), record { some = h .1; inside = h .2; whole = h .3 })
+
+  -- an identifier that it gives is not targeted
+  pub const-free : (q : Constant) → Found w x q → Free (targeted w) (findConstant x (stack w))
+  const-free constant.Unknown f = subst (Free (targeted w)) (sym f) tt
+  const-free (constant.At at m) f = subst (Free (targeted w)) (sym (f .0)) (f .4)
 
 pub held-count : {w : List ℕ} {base at m : ℕ} → Held w base at m → count (valueFrom w base at m) ≡ m
 held-count {w} {base} {at} {m} h = run-count w base at m (h .some) (h .whole)

@@ -5,10 +5,10 @@ ghost use mathlib.Core.Bool.{true, false};
 ghost use mathlib.Core.Option.{none, some};
 ghost use Prim.Native.Nat.{_-_, _≤_, _<_};
 ghost use lib.ListN.{getD, length};
-ghost use Rattle.def_pass.specs.Scope.{findBinding, findBindingFromCurrent, isParam, varInlinePrevented, valueO, preventedO, hasSameThis, findConstant};
+ghost use Rattle.def_pass.specs.Scope.{findBinding, findBindingFromCurrent, isParam, varInlinePrevented, valueO, preventedO, hasSameThis, findConstant, Free};
 ghost use Rattle.def_pass.specs.Tree.{countO};
 ghost use Rattle.words.specs.Layout.{tree};
-ghost use Rattle.words_scopes.specs.State.{Good, stack, nameOf};
+ghost use Rattle.words_scopes.specs.State.{Good, stack, nameOf, targeted};
 ghost use Rattle.scope_find.specs.Look.{kindO, idxHere};
 ghost use Rattle.words_nodes.specs.Nodes.{Planted, valueFrom, size};
 ghost use Rattle.scope_var_info.specs.Handles.{bindingsOf, numbered, indexed, ofBinding, treeO, Held, Sits, Puts};
@@ -182,10 +182,11 @@ pub fn put_value(w: &mut [u32], i: usize, p: u32, b: usize) -> words_nodes::Step
     put_held(w, i, p, layout::VALUES, at, m)
 }
 
-// How many nodes the value of the innermost constant of x that has one has, 0 if there is none.
+// How many nodes the value of the innermost constant of x that has one has, 0 if there is none; an identifier is none that the script as read
+// targets (request 8).
 pub fn find_constant(w: &[u32], x: u8) -> usize
     requires { ⌜ Good (now w) ⌝ }
-    ensures { λ r. ⌜ (r ≡ countO (findConstant x (stack (now (w .entry))))) × (r ≤ 512) ⌝ }
+    ensures { λ r. ⌜ (r ≡ countO (findConstant x (stack (now (w .entry))))) × (r ≤ 512) × (Free (targeted (now (w .entry))) (findConstant x (stack (now (w .entry))))) ⌝ }
 {
     match scope_constants::find_constant(w, x) {
         Constant::Unknown => 0,
@@ -193,10 +194,10 @@ pub fn find_constant(w: &[u32], x: u8) -> usize
     }
 }
 
-// That value, if there is one, takes the place of the tree at node i, at depth p, if rows 8 and 9 let it.
+// That value, if there is one, takes the place of the tree at node i, at depth p, if rows 8 and 9 let it; an identifier is none that is targeted.
 pub fn put_constant(w: &mut [u32], i: usize, p: u32, x: u8) -> words_nodes::Step
     requires { ⌜ Planted (now w) ⌝ }
-    ensures { λ r. ⌜ Puts r (now (w .entry)) (now (w .exit)) p i (treeO (tree (now (w .entry))) i) (findConstant x (stack (now (w .entry)))) ⌝ }
+    ensures { λ r. ⌜ (Puts r (now (w .entry)) (now (w .exit)) p i (treeO (tree (now (w .entry))) i) (findConstant x (stack (now (w .entry))))) × (Free (targeted (now (w .entry))) (findConstant x (stack (now (w .entry))))) ⌝ }
 {
     match scope_constants::find_constant(w, x) {
         Constant::Unknown => words_nodes::Step::Done,

@@ -46,7 +46,7 @@ module _ (x : ℕ) (s : St) where
     unfolding overConst
     const-later f = rw f refl
 
-    pub const-first : (v : Option Tree) → pick (isCheap e) (some e) none ≡ v → s .isFirstRun ≡ true → overConst x e s ≡ grow (addConst x v) s
+    pub const-first : (v : Option Tree) → pick (isCheap e) (some e) none ≡ v → s .isFirstRun ≡ true → overConst x e s ≡ grow (addConst (s .targeted) x v) s
     unfolding overConst
     const-first v h f = rw (f, h) refl
 

@@ -9,8 +9,8 @@ use Rattle.def_tree.specs.Tree.{Tree, Core, noCore, node, nil, count}
 use Rattle.def_tree.specs.Combine.{Res, stop, done, M as MS, Nothing, _>>=_, _>>_, ret, iff, Flat, actF, cutFirst, setArity}
 use Rattle.def_pass.specs.Scope as def
 use Rattle.def_pass.specs.Tree.{isIdent, isCheap, hasThis}
-use Rattle.def_pass.specs.Scope.{Stack, placeOr, isParam, paramO, isConst, barred, addConst, isInlinePrevented, preventInline, findBinding}
-use Rattle.def_pass.specs.Walk.{St, M, when, mark, grow, declareM, asIdent, readOnce?, takes}
+use Rattle.def_pass.specs.Scope.{Stack, placeOr, isParam, paramO, isConst, barred, isInlinePrevented, preventInline, findBinding}
+use Rattle.def_pass.specs.Walk.{St, M, when, mark, insertConst, declareM, asIdent, readOnce?, takes}
 use Rattle.def_tree.specs.Base.{pick}
 use Rattle.words.specs.Layout.{tree}
 use Rattle.scope_find.specs.Look.{idxHere, barsHere}
@@ -41,7 +41,7 @@ unfoldable pub overNone : ℕ → M Nothing
 overNone x = λ s. when (not (isConst (s .varDeclKind))) (declareM (named x) def.noInit true (s .varDeclKind)) s
 
 unfoldable pub overConst : ℕ → Tree → M Nothing
-overConst x e = λ s. when (s .isFirstRun) (grow (addConst x (pick (isCheap e) (some e) none))) s
+overConst x e = λ s. when (s .isFirstRun) (insertConst x (pick (isCheap e) (some e) none)) s
 
 unfoldable pub overCheap : ℕ → def.VarType → Tree → M Nothing
 overCheap x k e = declareM (named x) (def.recorded e) false k >> (λ s. when (isInlinePrevented e (s .stack)) (mark (preventInline x)) s)

@@ -16,7 +16,8 @@
 -- 8080 to 15503     free
 -- 15504 to 15759    identifiers, 256                           1: the number of the first node that has it
 -- 15760 to 16015    the first identifier of each text, 256     1: its number from 1, or 0 where there is none; reading alone uses it
--- 16016 to 16383    free
+-- 16016 to 16023    targeted: a bit for each identifier         a set in 8 words; the script as read fills it (request 8)
+-- 16024 to 16383    free
 use mathlib.Core.Path.{_≡_}
 use mathlib.Core.List.{List}
 use mathlib.Core.Bool.{Bool, true, false}

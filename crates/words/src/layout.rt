@@ -85,3 +85,6 @@ pub const IDENTS: usize = 15504;
 
 // The number of the first identifier of each text, from 1, or 0 where there is none, one word each: reading alone uses it.
 pub const FIRST_OF_TEXT: usize = 15760;
+
+// Identifiers that the script as read targets: a bit for each, in eight words.
+pub const TARGETS: usize = 16016;

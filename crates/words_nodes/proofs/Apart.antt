@@ -10,7 +10,7 @@ use Rattle.words.specs.Tab.{tab-ext}
 use Rattle.words.specs.Layout.{Agree, tree, beyond}
 use Rattle.words.proofs.Nodes.{beyond-same}
 use Rattle.words_scopes.specs.State.{bindAt, heads, flags, binds, consts, stack, Good, Becomes, Others, Names}
-use Rattle.words_scopes.proofs.Words.{heads-part, part-consts, part-coff, part-crun, Runs, runs-off, runs-at, bind-same}
+use Rattle.words_scopes.proofs.Words.{heads-part, part-consts, part-coff, part-crun, Runs, runs-off, runs-at, bind-same, free-same}
 use Rattle.words_scopes.proofs.Index.{begins, beside-same}
 use Rattle.words_nodes.specs.Nodes.{One, Planted, Apart, Replants}
 
@@ -83,6 +83,7 @@ module _ {w w′ : List ℕ} (g : Good w) (a : Beside w w′) where
         whole = rw one (λ k h. rw (runs-at g runs-same k h) (g .whole k h));
         cwhole = rw three (λ k h. rw (cs k h) (g .cwhole k h));
         beside = beside-same (g .beside) one (ap (map begins) heads-same) (λ k h. a .high (4112 + k * 10) (omega arith)) (λ j x y. a .high j (omega arith)) (g .count);
+        cfree = rw three (λ k h. free-same w w′ k (λ j x y. a .high j (omega arith)) (cs k h) (g .cfree k h));
       }
 
 beside : {w w′ : List ℕ} → Apart w w′ → Beside w w′

@@ -19,7 +19,7 @@ use Rattle.words_scopes.specs.State.{valueOf, varTypeOf, aliasAt, scopeK
 use Rattle.words_scopes.specs.Index.{Entered}
 use Rattle.words_scopes.proofs.Split as laws
 use Rattle.words_scopes.proofs.Index.{place-past, place-other, place-again, place-last}
-use Rattle.words_scopes.proofs.Words.{bind-eq, bind-same, heads-part, part-coff, part-crun, part-consts, part-tree, whole-none}
+use Rattle.words_scopes.proofs.Words.{bind-eq, bind-same, heads-part, part-coff, part-crun, part-consts, part-tree, whole-none, free-same}
 
 -- the scopes begin before a longer list too
 fits-more : (h : Head) (hs : List Head) (n : ℕ) → Fits (h ∷ hs) n → Fits (h ∷ hs) (n + 1)
@@ -197,6 +197,7 @@ module _ (w t u v : List ℕ) (g : Good w) (h : getD w 1 0 + getD w 3 0 < 256) (
     whole = rw count (λ k l. ⊎-elim (λ (e : k ≡ n). rw (e, run-new) whole-none) (λ (q : k < n). rw (run-old k q) (g .whole k q)) (eq-or-lt-of-le (omega arith)));
     cwhole = rw (out 3 (inl (omega arith)) (λ e. omega arith)) (λ k l. rw (part-crun w′ g (getD w 3 0) (omega arith) cs ct k l) (g .cwhole k l));
     beside = push-beside;
+    cfree = rw (out 3 (inl (omega arith)) (λ e. omega arith)) (λ k l. free-same w w′ k (λ j a b. out j (inr (inr (omega arith))) (λ e. omega arith)) (part-crun w′ g (getD w 3 0) (omega arith) cs ct k l) (g .cfree k l));
   }
 
   on-top : split (heads w) (flags w ++ (0 ∷ [])) (binds w ++ (new ∷ [])) (consts w) ≡ append new (split (heads w) (flags w) (binds w) (consts w))
@@ -347,6 +348,7 @@ module _ (w u v : List ℕ) (g : Good w) (h : getD w 2 0 < 32) (kind : ℕ) (one
     whole = rw n1 (λ k l. rw (part-run x g (getD w 1 0) (omega arith) ov ob k l) (g .whole k l));
     cwhole = rw n3 (λ k l. rw (part-crun x g (getD w 3 0) (omega arith) ow oc k l) (g .cwhole k l));
     beside = open-beside;
+    cfree = rw n3 (λ k l. free-same w x k (λ j a b. keeps j (inr (inr (omega arith))) (λ e. omega arith)) (part-crun x g (getD w 3 0) (omega arith) ow oc k l) (g .cfree k l));
   }
 
   pub opened : Becomes w x (newScope (scopeKindOf kind) ∷ stack w)

@@ -17,7 +17,7 @@ use Rattle.words_scopes.specs.State.{scopeKindOf, lenAt, clenAt, constAt
 use Rattle.words_scopes.specs.Index.{Restored}
 use Rattle.words_scopes.proofs.Split as laws
 use Rattle.words_scopes.proofs.Index.{named, begins, place-past, place-same, map-tab-same}
-use Rattle.words_scopes.proofs.Words.{heads-part, part-coff, part-crun, part-consts, part-tree}
+use Rattle.words_scopes.proofs.Words.{heads-part, part-coff, part-crun, part-consts, part-tree, free-same}
 use Rattle.words_scopes.proofs.Grow.{some-head, part-off, part-run, part-binds, part-flags}
 
 -- d is the place of the scope that is closed
@@ -153,6 +153,7 @@ module _ (w t u : List ℕ) (g : Good w) (d : ℕ) (is : getD w 2 0 ≡ d + 1) (
     whole = rw n1 (λ k l. rw (part-run x g n (fits .0) ov ob k l) (g .whole k (omega (arith, fits .0))));
     cwhole = rw n3 (λ k l. rw (part-crun x g c (cfits .0) ow oc k l) (g .cwhole k (omega (arith, cfits .0))));
     beside = drop-beside;
+    cfree = rw n3 (λ k l. free-same w x k (λ j a b. keeps j (inr (omega (arith, g .depth))) (λ e. omega arith) (λ e. omega arith) (λ e. omega arith)) (part-crun x g c (cfits .0) ow oc k l) (g .cfree k (omega (arith, cfits .0))));
   }
 
   pub dropped-consts : getD x 3 0 ≤ getD w 3 0

@@ -16,13 +16,13 @@ use Rattle.words_prevent.specs.declared.Binding.{Binding}
 use Rattle.def_tree.specs.Base.{pick}
 use Rattle.def_tree.specs.Tree.{Tree, Core, noCore}
 use Rattle.def_pass.specs.Tree.{isIdent, num}
-use Rattle.def_pass.specs.Scope.{VarType, VarInfo, Stack, change, prevent, preventInline, preventOne, valueIs, hasIn}
+use Rattle.def_pass.specs.Scope.{VarType, VarInfo, Stack, Free, change, prevent, preventInline, preventOne, valueIs, hasIn}
 use Rattle.words.specs.Tab.{tab, length-tab, getD-tab, tab-ext, set-tab, take-tab, sum-ext, sum-part}
 use Rattle.words.specs.Flags.{flagAt}
 use Rattle.words.specs.Layout.{yes, Agree, coreFrom, tree, beyond}
 use Rattle.words.proofs.Flags.{flag-same}
 use Rattle.words.proofs.Nodes.{run-same, run-length, run-at, tree-same}
-use Rattle.words_scopes.specs.State.{scopeKindOf, split, varTypeOf, aliasAt, valueOf, lenAt, off, runAt, bindAt, clenAt, coff, crunAt, constAt, Head, unresAt, headAt, headsAt, heads, flags, binds, consts, stack, Fits, Good, Becomes, place, indexIn, hitAt, nameOf, recordAt, noRecord, Window, Whole, Others}
+use Rattle.words_scopes.specs.State.{scopeKindOf, split, varTypeOf, aliasAt, valueOf, lenAt, off, runAt, bindAt, clenAt, coff, crunAt, constAt, targeted, Head, unresAt, headAt, headsAt, heads, flags, binds, consts, stack, Fits, Good, Becomes, place, indexIn, hitAt, nameOf, recordAt, noRecord, Window, Whole, Others}
 use Rattle.words_scopes.proofs.Split as laws
 use Rattle.words_scopes.proofs.Index.{begins, beside-same}
 
@@ -128,6 +128,14 @@ module _ {w : List ℕ} (w′ : List ℕ) (g : Good w) (n : ℕ) (h : n ≤ getD
   pub part-consts : tab n (λ k. constAt w′ k) ≡ tab n (λ k. constAt w k)
   part-consts = tab-ext n (λ k. constAt w′ k) (λ k. constAt w k) (λ k l. rw (part-crun k l, ct (6672 + k * 2) (omega arith) (omega arith)) refl)
 
+-- what is targeted, and that a constant is free of it
+pub targeted-same : (w w′ : List ℕ) → Agree 16016 16024 w w′ → targeted w′ ≡ targeted w
+unfolding targeted
+targeted-same w w′ same = ap {B = ℕ → Bool} (λ (l : List ℕ). λ (j : ℕ). yes (getD l j 0)) (tab-ext 256 (λ i. flagAt w′ 16016 i) (λ i. flagAt w 16016 i) (λ i l. flag-same w w′ 16016 i l (λ k m. same (16016 + k) (omega arith) (omega arith))))
+
+pub free-same : (w w′ : List ℕ) (k : ℕ) → Agree 16016 16024 w w′ → crunAt w′ k ≡ crunAt w k → Free (targeted w) (valueOf (crunAt w k)) → Free (targeted w′) (valueOf (crunAt w′ k))
+free-same w w′ k same e h = subst (λ (tg : ℕ → Bool). Free tg (valueOf (crunAt w′ k))) (sym (targeted-same w w′ same)) (subst (λ (xs : List Core). Free (targeted w) (valueOf xs)) (sym e) h)
+
 pub part-tree : {w : List ℕ} (w′ : List ℕ) → Good w → getD w′ 0 0 ≡ getD w 0 0 → Agree 16 2064 w w′ → tree w′ ≡ tree w
 part-tree {w} w′ g e t = tree-same w w′ (g .nodes) e t
 
@@ -173,6 +181,7 @@ module _ {w w′ : List ℕ} (g : Good w) (t : Kept w w′) where
     whole = rw (t .counts 1 (omega arith) (omega arith)) v;
     cwhole = rw (t .counts 3 (omega arith) (omega arith)) (λ k h. rw (part-crun w′ g (getD w 3 0) (omega arith) (t .cstore) kept-const k h) (g .cwhole k h));
     beside = beside-same (g .beside) (t .counts 1 (omega arith) (omega arith)) (ap (map begins) kept-heads) i (λ j a b. t .tail j (omega arith) (omega arith)) (g .count);
+    cfree = rw (t .counts 3 (omega arith) (omega arith)) (λ k h. free-same w w′ k (λ j a b. t .tail j (omega arith) (omega arith)) (part-crun w′ g (getD w 3 0) (omega arith) (t .cstore) kept-const k h) (g .cfree k h));
   }
 
   -- the bindings changed to bs

@@ -12,7 +12,7 @@ use Rattle.def_tree.specs.Tree.{Tree, Core, noCore, flat, plant, firstT}
 use Rattle.def_tree.specs.Base.{pick}
 use Rattle.def_pass.specs.Tree.{isIdent, num}
 use Rattle.words_prevent.specs.declared.Binding.{Binding}
-use Rattle.def_pass.specs.Scope.{VarType, param, vVar, vLet, vConst, ScopeKind, cond, loop, block, fn, VarInfo, Scope, Stack, hasIn, valueIs}
+use Rattle.def_pass.specs.Scope.{VarType, param, vVar, vLet, vConst, ScopeKind, cond, loop, block, fn, VarInfo, Scope, Stack, Free, hasIn, valueIs}
 use Rattle.words.specs.Tab.{tab, sum}
 use Rattle.words.specs.Flags.{flagAt}
 use Rattle.words.specs.Layout.{yes, Agree, run, tree, beyond}
@@ -83,6 +83,10 @@ crunAt w k = run w 3088 (coff w k) (clenAt w k)
 
 abbrev pub constAt : List ℕ → ℕ → ℕ × Option Tree
 constAt w k = (getD w (6672 + k * 2) 0, valueOf (crunAt w k))
+
+-- the identifiers that the script as read targets (request 8): a set in eight words
+unfoldable pub targeted : List ℕ → ℕ → Bool
+targeted w = λ j. yes (getD (tab 256 (λ i. flagAt w 16016 i)) j 0)
 
 -- a scope's own record
 pub record Head : Type 0 where
@@ -176,7 +180,8 @@ pub record Beside (w : List ℕ) : Type 0 where
   pub index : (x : ℕ) → x < 256 → getD w (7568 + x) 0 ≡ place x (heads w) (binds w)
   pub shadow : (k : ℕ) → k < getD w 1 0 → getD w (7824 + k) 0 ≡ place (getD w (4112 + k * 10) 0) (heads w) (tab k (λ j. bindAt w j))
 
--- counts are within their limits, scopes are in order, identifiers are below 256, values are whole, and the tables beside the bindings are those of the scopes
+-- counts are within their limits, scopes are in order, identifiers are below 256, values are whole, the tables beside the bindings are those of the
+-- scopes, and no constant is a targeted identifier
 pub record Good (w : List ℕ) : Type 0 where
   pub long : 16384 ≤ length w
   pub nodes : getD w 0 0 ≤ 1024
@@ -196,6 +201,7 @@ pub record Good (w : List ℕ) : Type 0 where
   pub whole : (k : ℕ) → k < getD w 1 0 → Whole (runAt w k)
   pub cwhole : (k : ℕ) → k < getD w 3 0 → Whole (crunAt w k)
   pub beside : Beside w
+  pub cfree : (k : ℕ) → k < getD w 3 0 → Free (targeted w) (valueOf (crunAt w k))
 
 -- the words that no scope has, among the first 16,384: the count of identifiers and what is reserved; what is free, and the first nodes of the identifiers
 pub record Others (w w′ : List ℕ) : Type 0 where

@@ -1,4 +1,5 @@
--- The whole state of the pass behind the working words: the tree's nodes, the scopes, and the visitor's fields, which stand in words 5 to 11.
+-- The whole state of the pass behind the working words: the tree's nodes, the scopes, the visitor's fields, which stand in words 5 to 11, and what is
+-- targeted, in words 16016 to 16023.
 -- Assumes nothing: these are definitions.
 use mathlib.Core.Path.{_≡_}
 use mathlib.Core.List.{List}
@@ -7,7 +8,7 @@ use lib.ListN.{length, getD}
 use Rattle.def_tree.specs.Combine.{Res, stop, done, Nothing, Flat}
 use Rattle.words.specs.Layout.{Agree, yes, tree, beyond}
 use Rattle.def_pass.specs.Walk.{St, PatMode, assigning, asParam, asCatch, declaring}
-use Rattle.words_scopes.specs.State.{varTypeOf, stack}
+use Rattle.words_scopes.specs.State.{varTypeOf, stack, targeted}
 use Rattle.words_nodes.specs.Nodes.{Planted}
 
 -- PatFoldingMode as a word
@@ -29,6 +30,7 @@ rest w = record {
   inTest = yes (getD w 10 0);
   conds = getD w 11 0;
   nodes = getD w 0 0;
+  targeted = targeted w;
 }
 
 -- the state of the walk on the list of nodes

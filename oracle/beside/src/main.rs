@@ -1,13 +1,16 @@
 //! The original and the port beside one another in one process: `beside SEED TREES DAMAGED [JOBS]`.
 //!
 //! TREES random scripts, one in 10 of them near a limit, and DAMAGED damaged copies of such scripts. Every answer is compared:
-//! refusal, nodes, runs, mark, root bindings in their order; and each result has the assignments of its script. Of one tree in 8 also: rows 1 and 10 with their buffers, and two paired copies on the
-//! port. The files depend on SEED alone. What is answered otherwise is made as small as it will go.
+//! refusal, nodes, runs, mark, root bindings in their order; and each result has the assignments of its script. Of one tree in 8
+//! also: rows 1 and 10 with their buffers, and two paired copies on the port. The files depend on SEED alone. What is answered
+//! otherwise is made as small as it will go. Scripts that a request amends leave the comparison: they are counted, and their
+//! paired copies tried all the same.
 
 mod port;
 
 use generator::{damage::damage, near::near_limit, pairs, random_script, rng::Rng};
 use negbosun::Inliner;
+use programs::amended::{file_leaves, leaves};
 use programs::shrink::small_file;
 use std::sync::atomic::{AtomicU64, Ordering::Relaxed};
 use std::sync::Mutex;
@@ -25,6 +28,8 @@ struct Tally {
     failed: u64,
     /// By refusal; 0 counts results.
     rows: [u64; 11],
+    /// Left out of the comparison.
+    amended: u64,
     /// Results that took more than one run.
     again: u64,
     /// Results that differ from their script.
@@ -43,6 +48,7 @@ impl Tally {
             .iter_mut()
             .zip(more.rows)
             .for_each(|(sum, n)| *sum += n);
+        self.amended += more.amended;
         self.again += more.again;
         self.other += more.other;
         self.paired += more.paired;
@@ -84,7 +90,7 @@ fn agrees(inliner: &mut Inliner, file: &[u8], runs: u32) -> bool {
 
 /// The file made small, with both answers.
 fn report(inliner: &mut Inliner, file: &[u8], runs: u32) -> String {
-    let differs = &mut |script: &Script| !agrees(inliner, &write(script), runs);
+    let differs = &mut |script: &Script| !leaves(script) && !agrees(inliner, &write(script), runs);
     let (file, text) = small_file(file, differs);
     let port = match port::answer(inliner, &file, runs) {
         Ok(answer) => answer.to_string(),
@@ -126,6 +132,10 @@ impl Worker<'_> {
     }
 
     fn compare(&mut self, file: &[u8], runs: u32, script: Option<&Script>) -> Option<Answer> {
+        if file_leaves(file) {
+            self.tally.amended += 1;
+            return port::answer(&mut self.inliner, file, runs).ok();
+        }
         let original = original::answer(file, runs);
         self.tally.met(&original, script);
         match port::answer(&mut self.inliner, file, runs) {
@@ -221,7 +231,10 @@ fn round(seed: u64, count: u64, damaged: bool, jobs: u64) -> (Tally, Vec<String>
 
 fn show(name: &str, tally: &Tally, reports: &[String]) {
     reports.iter().for_each(|report| println!("{report}"));
-    println!("{name}: {} alike, {} not", tally.passed, tally.failed);
+    println!(
+        "{name}: {} alike, {} not, {} amended by a request",
+        tally.passed, tally.failed, tally.amended
+    );
     println!(
         "  results {}, of them {} after more than one run",
         tally.rows[0], tally.again

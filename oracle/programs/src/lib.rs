@@ -1,5 +1,6 @@
 //! What the programs of the bench share.
 
+pub mod amended;
 pub mod engine;
 pub mod other;
 pub mod shrink;

@@ -35,7 +35,9 @@ next-requires c κs =
     let l = keep.inside (at-byte .byte .ensures) (at-if1 .if1 .taken) in (at-loop .loop .inv .0, omega (arith, l, at-entry .pre .2))
 
 alike-requires : tie.Need-alike-requires Inv-loop μ-loop
-alike-requires c κs = c .before .before .before .next .ensures
+alike-requires c κs =
+    let at-next = c .before .before .before in
+    at-next .next .ensures
 
 add-i : tie.Need-add-i Inv-loop μ-loop
 add-i c =

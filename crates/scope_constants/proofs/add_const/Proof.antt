@@ -1,6 +1,8 @@
 -- In place, or appended. Assumes nothing.
 use mathlib.Core.Path.{refl}
-use Rattle.words_scopes.specs.State.{valueOf}
+use native.Mathlib.Omega.{arith}
+use Rattle.words_scopes.specs.State.{valueOf, targeted}
+use Rattle.scope_constants.proofs.Targeted as laws
 use Rattle.words.specs.Layout.{run}
 use mathlib.Core.List.{[]}
 use Rattle.scope_values.proofs.Listed as listed
@@ -27,11 +29,21 @@ slice-read-c c = search needs
 cast-c : tie.Need-cast-c
 cast-c c = search needs
 
+untargeted-requires : tie.Need-untargeted-requires
+untargeted-requires c κs = search needs
+
 own-const-requires : tie.Need-own-const-requires
 own-const-requires c κs = search needs
 
 replace-const-requires : tie.Need-replace-const-requires
-replace-const-requires c κs = search needs
+replace-const-requires c κs =
+    let at-if2 = c .before in
+    let at-untargeted = at-if2 .before .before .before in
+    let at-entry = at-untargeted .before .before .before .before .before .before in
+    let w = at-entry .args .w .now in
+    let i = at-entry .args .i in
+    let left = at-untargeted .untargeted .ensures in
+    (at-entry .pre .0, at-if2 .if2 .taken, omega (arith, left .most, at-entry .pre .1), left .one, rw (left .is) (laws.free-left (targeted w) (valueOf (run w 16 i (at-entry .args .m)))))
 
 same-length : tie.Need-same-length
 same-length c = search needs
@@ -41,12 +53,23 @@ returns-2 c =
     let at-replace-const = c .before .before in
     let at-if2 = at-replace-const .before .before in
     let at-own-const = at-if2 .before in
-    let at-entry = at-own-const .before .before .before .before .before .before in
+    let at-untargeted = at-own-const .before .before in
+    let at-entry = at-untargeted .before .before .before .before .before .before in
+    let w = at-entry .args .w .now in
+    let i = at-entry .args .i in
+    let left = at-untargeted .untargeted .ensures in
     let o = at-own-const .own-const .ensures in
-    rw (o .there (at-if2 .if2 .taken) (valueOf (run (at-entry .args .w .now) 16 (at-entry .args .i) (at-entry .args .m)))) (rw (o .named (at-if2 .if2 .taken)) at (at-replace-const .replace-const .ensures))
+    rw (o .there (at-if2 .if2 .taken) (targeted w) (valueOf (run w 16 i (at-entry .args .m)))) (rw (o .named (at-if2 .if2 .taken), left .is) at (at-replace-const .replace-const .ensures))
 
 append-const-requires : tie.Need-append-const-requires
-append-const-requires c κs = search needs
+append-const-requires c κs =
+    let at-untargeted = c .before .before .before .before in
+    let at-if1 = at-untargeted .before .before .before in
+    let at-entry = at-if1 .before .before .before in
+    let w = at-entry .args .w .now in
+    let i = at-entry .args .i in
+    let left = at-untargeted .untargeted .ensures in
+    (at-entry .pre .0, omega (arith, at-if1 .if1 .left), omega (arith, left .most, at-entry .pre .1), left .one, rw (left .is) (laws.free-left (targeted w) (valueOf (run w 16 i (at-entry .args .m)))))
 
 same-length-2 : tie.Need-same-length-2
 same-length-2 c = search needs
@@ -56,9 +79,13 @@ returns-3 c =
     let at-append-const = c .before .before in
     let at-if2 = at-append-const .before .before in
     let at-own-const = at-if2 .before in
-    let at-entry = at-own-const .before .before .before .before .before .before in
+    let at-untargeted = at-own-const .before .before in
+    let at-entry = at-untargeted .before .before .before .before .before .before in
+    let w = at-entry .args .w .now in
+    let i = at-entry .args .i in
+    let left = at-untargeted .untargeted .ensures in
     let o = at-own-const .own-const .ensures in
-    rw (o .absent (at-if2 .if2 .left) (valueOf (run (at-entry .args .w .now) 16 (at-entry .args .i) (at-entry .args .m)))) (at-append-const .append-const .ensures)
+    rw (o .absent (at-if2 .if2 .left) (targeted w) (valueOf (run w 16 i (at-entry .args .m)))) (rw (left .is) at (at-append-const .append-const .ensures))
 
 pub add-const-spec : {M : Type 1} → statement M
 add-const-spec =
@@ -69,6 +96,7 @@ add-const-spec =
     returns
     slice-read-c
     cast-c
+    untargeted-requires
     own-const-requires
     replace-const-requires
     same-length

@@ -3,6 +3,7 @@ use Prim.Native.Nat.{ℕ, _+_, _-_}
 use mathlib.Core.Path.{refl, sym, ap, _∙_}
 use native.Mathlib.Omega.{arith}
 use Rattle.words_scopes.specs.State.{stack, heads, flags, binds, consts, split, valueOf}
+use Rattle.words_scopes.proofs.Words.{targeted-same}
 use Rattle.words.specs.Layout.{run}
 use mathlib.Core.Bool.{_||_}
 use lib.Dec.{ltb}
@@ -56,7 +57,7 @@ set-const-requires c κs =
     let t = consts.after-push w u (at-entry .pre .0) (at-entry .args .x) (at-push-const .push-const .ensures) in
     let e = listed.same-nodes w u (at-push-const .push-const .ensures .tree) in
     let same = listed.same-run w u (at-entry .args .i) (at-entry .args .m) (at-push-const .push-const .ensures .tree) (at-entry .pre .2) in
-    (at-push-const .push-const .ensures .good, omega (arith, t .count), omega (arith, at-entry .pre .2), omega (arith, r .0, count.recorded-is w (at-entry .pre .0), t .vals), rw same (at-entry .pre .3))
+    (at-push-const .push-const .ensures .good, omega (arith, t .count), omega (arith, at-entry .pre .2), omega (arith, r .0, count.recorded-is w (at-entry .pre .0), t .vals), rw same (at-entry .pre .3), rw (same, targeted-same w u (λ j a b. at-push-const .push-const .ensures .others .high j (omega arith) (omega arith))) (at-entry .pre .4))
 
 same-length-2 : tie.Need-same-length-2
 same-length-2 c = search needs

@@ -117,7 +117,7 @@ returns c =
     let l : r < getD w 3 0 = omega arith in
     let part = sums.sum-part (λ j. clenAt w j) r (getD w 3 0) l in
     let at = c .const-offset .ensures .0 in
-    (here ∙ hit ∙ consts.full-const w r (consts.findC (at-entry .args .x) (headsAt w (k - 1)) (consts.tabC w (getD w (7184 + (k - 1) * 4 + 2) 0))) (at-if2 .if2 .taken) ∙ ap (λ (n : ℕ). valueOf (run w 3088 n (clenAt w r))) (sym at), at-if2 .if2 .taken, omega (arith, g .cvals, at), rw at (g .cwhole r l))
+    (here ∙ hit ∙ consts.full-const w r (consts.findC (at-entry .args .x) (headsAt w (k - 1)) (consts.tabC w (getD w (7184 + (k - 1) * 4 + 2) 0))) (at-if2 .if2 .taken) ∙ ap (λ (n : ℕ). valueOf (run w 3088 n (clenAt w r))) (sym at), at-if2 .if2 .taken, omega (arith, g .cvals, at), rw at (g .cwhole r l), rw at (g .cfree r l))
 
 loop-less : tie.Need-loop-less Inv-loop μ-loop
 loop-less c = search needs

@@ -65,7 +65,7 @@ set-const-requires c κs =
     let w = at-entry .args .w .now in
     let part = sums.sum-part (λ j. clenAt w j) (at-entry .args .k) (getD w 3 0) (at-entry .pre .1) in
     let r = listed.room (recordedNodes (stack w) - clenAt w (at-entry .args .k) + at-entry .args .m) (live (stack w) + 0) (sym (at-passes .passes .ensures) ∙ at-if1 .if1 .left) in
-    (at-entry .pre .0, at-entry .pre .1, at-entry .pre .2, omega (arith, r .0, count.recorded-is w (at-entry .pre .0)), at-entry .pre .3)
+    (at-entry .pre .0, at-entry .pre .1, at-entry .pre .2, omega (arith, r .0, count.recorded-is w (at-entry .pre .0)), at-entry .pre .3, at-entry .pre .4)
 
 same-length-2 : tie.Need-same-length-2
 same-length-2 c = search needs

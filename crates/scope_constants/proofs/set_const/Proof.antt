@@ -82,7 +82,7 @@ returns c =
     let at-entry = at-const-offset .before .before .before .before in
     let w = at-entry .args .w .now in
     let s = rw (at-const-offset .const-offset .ensures .0, at-const-offset2 .const-offset2 .ensures .0) at (at-splice .splice .ensures) in
-    words.const-set w (at-splice .splice .last .0) (at-entry .pre .0) (at-entry .args .k) (at-entry .args .i) (at-entry .args .m) (at-entry .pre .1) (at-entry .pre .2) (at-entry .pre .3) s (at-entry .pre .4)
+    words.const-set w (at-splice .splice .last .0) (at-entry .pre .0) (at-entry .args .k) (at-entry .args .i) (at-entry .args .m) (at-entry .pre .1) (at-entry .pre .2) (at-entry .pre .3) s (at-entry .pre .4) (at-entry .pre .5)
 
 pub set-const-spec : {M : Type 1} → statement M
 set-const-spec =

@@ -33,7 +33,7 @@ returns : tie.Need-returns
 returns c =
     let at-find-constant = c .before .before in
     let at-entry = at-find-constant .before .before .before in
-    numbers.puts-none (at-entry .args .w .now) (at-entry .args .p) (at-entry .args .i) (treeO (tree (at-entry .args .w .now)) (at-entry .args .i)) (findConstant (at-entry .args .x) (stack (at-entry .args .w .now))) (numbers.const-unknown (at-entry .args .w .now) (at-entry .args .x) (c .enum-told .given .1) (at-find-constant .find-constant .ensures))
+    (numbers.puts-none (at-entry .args .w .now) (at-entry .args .p) (at-entry .args .i) (treeO (tree (at-entry .args .w .now)) (at-entry .args .i)) (findConstant (at-entry .args .x) (stack (at-entry .args .w .now))) (numbers.const-unknown (at-entry .args .w .now) (at-entry .args .x) (c .enum-told .given .1) (at-find-constant .find-constant .ensures)), numbers.const-free (at-entry .args .w .now) (at-entry .args .x) (at-find-constant .find-constant .result) (at-find-constant .find-constant .ensures))
 
 same-length-2 : tie.Need-same-length-2
 same-length-2 c = search needs
@@ -44,7 +44,7 @@ returns-2 c =
     let at-at = at-put-held .before .before .before in
     let at-find-constant = at-at .before .before in
     let at-entry = at-find-constant .before .before .before in
-    numbers.puts-as (at-entry .args .w .now) (at-entry .args .p) (at-entry .args .i) (at-put-held .put-held .result) _ (treeO (tree (at-entry .args .w .now)) (at-entry .args .i)) _ (findConstant (at-entry .args .x) (stack (at-entry .args .w .now))) ((numbers.const-at (at-entry .args .w .now) (at-entry .args .x) (at-at .at .given .0 .0) (at-at .at .given .0 .1 .0) (at-at .at .given .1) (at-find-constant .find-constant .ensures)) .0) (at-put-held .put-held .ensures)
+    (numbers.puts-as (at-entry .args .w .now) (at-entry .args .p) (at-entry .args .i) (at-put-held .put-held .result) _ (treeO (tree (at-entry .args .w .now)) (at-entry .args .i)) _ (findConstant (at-entry .args .x) (stack (at-entry .args .w .now))) ((numbers.const-at (at-entry .args .w .now) (at-entry .args .x) (at-at .at .given .0 .0) (at-at .at .given .0 .1 .0) (at-at .at .given .1) (at-find-constant .find-constant .ensures)) .0) (at-put-held .put-held .ensures), numbers.const-free (at-entry .args .w .now) (at-entry .args .x) (at-find-constant .find-constant .result) (at-find-constant .find-constant .ensures))
 
 pub put-constant-spec : {M : Type 1} → statement M
 put-constant-spec =

@@ -5,6 +5,7 @@ use lib.ListN.{getD}
 use Rattle.def_tree.specs.Base.{pick}
 use Rattle.def_pass.specs.Scope.{addConst}
 use Rattle.words.specs.Layout.{yes, tree}
+use Rattle.words_scopes.specs.State.{targeted}
 use Rattle.words_nodes.specs.Nodes.{treeFrom}
 use Rattle.scope_find.proofs.Facts.{flag-set}
 use Rattle.words_state.specs.State.{rest}
@@ -34,6 +35,7 @@ same-length : tie.Need-same-length
 same-length c = search needs
 
 returns-2 : tie.Need-returns-2
+unfolding rest
 returns-2 c =
     let at-add-const = c .before .before in
     let at-if2 = at-add-const .before .before in
@@ -44,7 +46,7 @@ returns-2 c =
     let t = treeFrom (tree w) (at-entry .args .e) in
     let r = parts.rest-first w ∙ flag-set (getD w 7 0) (at-if1 .if1 .left) in
     let q = ap (λ (b : Bool). pick b (some t) none) (sym (at-is-cheap .is-cheap .ensures) ∙ at-if2 .if2 .taken) in
-    acts.moves-by (parts.const-first (at-entry .args .x) (rest w) t (some t) q r) (acts.grown-moves (addConst (at-entry .args .x) (some t)) (at-entry .pre .0) (at-add-const .add-const .kept .0) (at-add-const .add-const .result) (rw (numbers.tree-in w (at-entry .args .e) (at-entry .pre .1)) at (at-add-const .add-const .ensures)))
+    acts.moves-by (parts.const-first (at-entry .args .x) (rest w) t (some t) q r) (acts.grown-moves (addConst (targeted w) (at-entry .args .x) (some t)) (at-entry .pre .0) (at-add-const .add-const .kept .0) (at-add-const .add-const .result) (rw (numbers.tree-in w (at-entry .args .e) (at-entry .pre .1)) at (at-add-const .add-const .ensures)))
 
 add-const-requires-2 : tie.Need-add-const-requires-2
 add-const-requires-2 c κs = search needs
@@ -53,6 +55,7 @@ same-length-2 : tie.Need-same-length-2
 same-length-2 c = search needs
 
 returns-3 : tie.Need-returns-3
+unfolding rest
 returns-3 c =
     let at-add-const2 = c .before .before in
     let at-if2 = at-add-const2 .before .before in
@@ -63,7 +66,7 @@ returns-3 c =
     let t = treeFrom (tree w) (at-entry .args .e) in
     let r = parts.rest-first w ∙ flag-set (getD w 7 0) (at-if1 .if1 .left) in
     let q = ap (λ (b : Bool). pick b (some t) none) (sym (at-is-cheap .is-cheap .ensures) ∙ at-if2 .if2 .left) in
-    acts.moves-by (parts.const-first (at-entry .args .x) (rest w) t none q r) (acts.grown-moves (addConst (at-entry .args .x) none) (at-entry .pre .0) (at-add-const2 .add-const2 .kept .0) (at-add-const2 .add-const2 .result) (at-add-const2 .add-const2 .ensures))
+    acts.moves-by (parts.const-first (at-entry .args .x) (rest w) t none q r) (acts.grown-moves (addConst (targeted w) (at-entry .args .x) none) (at-entry .pre .0) (at-add-const2 .add-const2 .kept .0) (at-add-const2 .add-const2 .result) (at-add-const2 .add-const2 .ensures))
 
 pub over-const-spec : {M : Type 1} → statement M
 over-const-spec =

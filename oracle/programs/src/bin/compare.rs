@@ -2,10 +2,12 @@
 //!
 //! The command reads lines `HEX RUNS` and answers each at once as `oracle --batch` does. It gets
 //! random scripts, scripts near a limit and damaged copies; every answer is compared, the order of
-//! the root lines aside. A script that is answered otherwise is made as small as it will go.
+//! the root lines aside. A script that is answered otherwise is made as small as it will go. Scripts
+//! that a request amends are passed over.
 
 use generator::{damage::damage, near::near_limit, random_script, rng::Rng};
 use original::answer;
+use programs::amended::{file_leaves, leaves};
 use programs::other::Other;
 use programs::shrink::small_file;
 use tree_file::{on_deep_stack, to_hex, write, Script};
@@ -36,7 +38,7 @@ fn agrees(other: &mut Other, file: &[u8], runs: u32) -> bool {
 }
 
 fn report(other: &mut Other, file: &[u8], runs: u32) {
-    let differs = &mut |script: &Script| !agrees(other, &write(script), runs);
+    let differs = &mut |script: &Script| !leaves(script) && !agrees(other, &write(script), runs);
     let (file, text) = small_file(file, differs);
     println!("{text}\n{} {runs}", to_hex(&file));
     println!("the original:\n{}", answer(&file, runs));
@@ -48,6 +50,9 @@ fn compare(seed: u64, count: u64, other: &mut Other) -> (u64, u64) {
     let (mut passed, mut failed) = (0, 0);
     while passed + failed < count && failed < ENOUGH {
         let (file, runs) = next_file(&mut rng);
+        if file_leaves(&file) {
+            continue;
+        }
         if agrees(other, &file, runs) {
             passed += 1;
         } else {

@@ -1,11 +1,14 @@
 //! Writes the stored vectors, all from a seed: `vectors sample SEED` or `vectors small SEED`.
 //!
 //! Both hold the hand-written cases, random scripts over every kind and form, and damaged copies;
-//! the sample also the files at every limit, and small only what a slow reader can take.
+//! the sample also the files at every limit, and small only what a slow reader can take. Scripts that
+//! a request amends are left out: `vectors amended SEED` writes these, from both, and the
+//! hand-written cases of the requests, as lines `HEX RUNS`, for the port to answer.
 
 use generator::limits::FAMILIES;
 use generator::{damage::damage, random_script, rng::Rng};
 use original::answer;
+use programs::amended::file_leaves;
 use programs::on_deep_stack;
 use std::collections::HashMap;
 use std::io::{self, BufWriter, Write};
@@ -45,19 +48,27 @@ const SMALL: Plan = Plan {
 
 struct Writer<W: Write> {
     out: W,
+    /// Are the files that leave the comparison written, and not the others.
+    amended: bool,
     written: usize,
 }
 
 impl<W: Write> Writer<W> {
     fn vector(&mut self, file: &[u8], runs: u32) -> io::Result<()> {
+        if file_leaves(file) != self.amended {
+            return Ok(());
+        }
         self.written += 1;
+        if self.amended {
+            return writeln!(self.out, "{} {runs}", to_hex(file));
+        }
         let answer = answer(file, runs);
         writeln!(self.out, "file {}\nruns {runs}\n{answer}", to_hex(file))
     }
 }
 
-fn cases() -> Vec<Script> {
-    let lines = include_str!("../../cases.txt").lines();
+fn cases(text: &str) -> Vec<Script> {
+    let lines = text.lines();
     let scripts = lines.filter(|line| !line.starts_with('#'));
     scripts
         .map(|line| parse(line).unwrap_or_else(|what| panic!("{line}: {what}")))
@@ -168,13 +179,14 @@ fn write_damaged<W: Write>(
     Ok(())
 }
 
-fn run(plan: &Plan, seed: u64) -> io::Result<usize> {
+fn run(plan: &Plan, seed: u64, amended: bool) -> io::Result<usize> {
     let mut rng = Rng::new(seed);
     let mut writer = Writer {
         out: BufWriter::new(io::stdout().lock()),
+        amended,
         written: 0,
     };
-    for script in cases() {
+    for script in cases(include_str!("../../cases.txt")) {
         writer.vector(&write(&script), 16)?;
     }
     let scripts = random(&mut rng, plan);
@@ -192,18 +204,29 @@ fn run(plan: &Plan, seed: u64) -> io::Result<usize> {
     Ok(writer.written)
 }
 
+/// What the requests amend: their cases, whether they leave or not, then what leaves the other two.
+fn amended(seed: u64) -> io::Result<usize> {
+    let scripts = cases(include_str!("../../requests.txt"));
+    for script in &scripts {
+        println!("{} 16", to_hex(&write(script)));
+    }
+    let small = run(&SMALL, seed, true)?;
+    Ok(scripts.len() + small + run(&SAMPLE, seed, true)?)
+}
+
 fn main() {
     let given: Vec<String> = std::env::args().skip(1).collect();
-    let plan = match given.first().map(|name| &name[..]) {
-        Some("sample") => &SAMPLE,
-        Some("small") => &SMALL,
+    let seed = given.get(1).and_then(|seed| seed.parse().ok()).unwrap_or(1);
+    let written = on_deep_stack(|| match given.first().map(|name| &name[..]) {
+        Some("sample") => run(&SAMPLE, seed, false),
+        Some("small") => run(&SMALL, seed, false),
+        Some("amended") => amended(seed),
         _ => {
-            eprintln!("usage: vectors sample|small SEED");
+            eprintln!("usage: vectors sample|small|amended SEED");
             std::process::exit(2);
         }
-    };
-    let seed = given.get(1).and_then(|seed| seed.parse().ok()).unwrap_or(1);
-    match on_deep_stack(|| run(plan, seed)) {
+    });
+    match written {
         Ok(written) => eprintln!("{written} vectors"),
         Err(error) => {
             eprintln!("vectors: {error}");

@@ -1,4 +1,4 @@
--- The fields, and the root scope. Assumes nothing.
+-- The targets, the fields, and the root scope. Assumes nothing.
 use mathlib.Core.Path.{ap}
 use Rattle.scope_child.specs.Kinds.{kindOf}
 use Rattle.pass_run.proofs.Starts as starts
@@ -6,8 +6,16 @@ use borrow.Author.Needs.{needs}
 use Rattle.pass_run.proofs.start.start.Statement.{statement}
 use Rattle.pass_run.proofs.start.start.Tie as tie
 
+mark-targets-requires : tie.Need-mark-targets-requires
+mark-targets-requires c κs =
+    let at-entry = c .before .before in
+    starts.as-script (at-entry .pre)
+
 set-fields-requires : tie.Need-set-fields-requires
-set-fields-requires c κs = search needs
+set-fields-requires c κs =
+    let at-mark-targets = c .before .before .before in
+    let at-entry = at-mark-targets .before .before .before in
+    starts.marked-loaded (at-entry .pre) (at-mark-targets .mark-targets .ensures) .long
 
 new-requires : tie.Need-new-requires
 new-requires c κs = search needs
@@ -15,8 +23,9 @@ new-requires c κs = search needs
 open-scope-requires : tie.Need-open-scope-requires
 open-scope-requires c κs =
     let at-set-fields = c .before .before .before .before in
-    let at-entry = at-set-fields .before .before .before in
-    starts.planted (at-entry .pre) (at-set-fields .set-fields .ensures) .good
+    let at-mark-targets = at-set-fields .before .before .before .before in
+    let at-entry = at-mark-targets .before .before .before in
+    starts.planted (starts.marked-loaded (at-entry .pre) (at-mark-targets .mark-targets .ensures)) (at-set-fields .set-fields .ensures) .good
 
 same-length : tie.Need-same-length
 same-length c = search needs
@@ -26,9 +35,11 @@ returns c =
     let at-open-scope = c .before .before in
     let at-new = at-open-scope .before .before in
     let at-set-fields = at-new .before .before .before in
-    let at-entry = at-set-fields .before .before .before in
-    starts.started (at-entry .pre) (at-set-fields .set-fields .ensures) (at-new .new .result .kind) (at-open-scope .open-scope .result) (ap kindOf (at-new .new .ensures)) (at-open-scope .open-scope .kept .0) (at-open-scope .open-scope .ensures)
+    let at-mark-targets = at-set-fields .before .before .before .before in
+    let at-entry = at-mark-targets .before .before .before in
+    let t = at-mark-targets .mark-targets .ensures in
+    starts.from-marked (at-entry .pre) t (starts.started (starts.marked-loaded (at-entry .pre) t) (at-set-fields .set-fields .ensures) (at-new .new .result .kind) (at-open-scope .open-scope .result) (ap kindOf (at-new .new .ensures)) (at-open-scope .open-scope .kept .0) (at-open-scope .open-scope .ensures) (starts.marked-is (at-entry .pre) t))
 
 pub start-spec : {M : Type 1} → statement M
 start-spec =
-    tie.close (tie.spec set-fields-requires new-requires open-scope-requires same-length returns)
+    tie.close (tie.spec mark-targets-requires set-fields-requires new-requires open-scope-requires same-length returns)

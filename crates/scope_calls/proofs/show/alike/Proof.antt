@@ -1,22 +1,18 @@
--- One identifier after the other. Assumes nothing.
-use Prim.Native.Nat.{_-_, _≤_}
+-- Index and walk, for every identifier. Assumes nothing.
+use Prim.Native.Nat.{_-_}
 use native.Mathlib.Omega.{arith}
 use borrow.Author.Needs.{needs}
 use Rattle.scope_calls.proofs.show.alike.Statement.{statement}
 use Rattle.scope_calls.proofs.show.alike.Tie as tie
-use Rattle.scope_calls.proofs.show.alike.Reads as reads
-use Rattle.scope_calls.proofs.show.alike.Lts as lts
-use Rattle.words_scopes.proofs.find_binding.Reads as find-binding-reads
-use Rattle.words_scopes.proofs.find_by_walk.Reads as find-by-walk-reads
 
 abbrev Inv-loop : tie.InvT-loop
-Inv-loop w before x₀ x = x ≤ 256
+Inv-loop w before x₀ x = Unit {0}
 
 abbrev μ-loop : tie.MeasureT-loop
 μ-loop w before x₀ x = 256 - x
 
 loop-holds : tie.Need-loop-holds Inv-loop μ-loop
-loop-holds c = omega arith
+loop-holds c = tt
 
 cast-find-binding : tie.Need-cast-find-binding Inv-loop μ-loop
 cast-find-binding c = omega arith
@@ -40,7 +36,7 @@ loop-less : tie.Need-loop-less Inv-loop μ-loop
 loop-less c = omega arith
 
 loop-again : tie.Need-loop-again Inv-loop μ-loop
-loop-again c = omega arith
+loop-again c = tt
 
 returns-2 : tie.Need-returns-2 Inv-loop μ-loop
 returns-2 c = search needs

@@ -1,15 +1,9 @@
--- One binding after the other. Assumes nothing.
+-- Four identifiers, and that of each binding. Assumes nothing.
 use Prim.Native.Nat.{_-_}
 use native.Mathlib.Omega.{arith}
 use borrow.Author.Needs.{needs}
 use Rattle.scope_calls.proofs.show.show_places.Statement.{statement}
 use Rattle.scope_calls.proofs.show.show_places.Tie as tie
-use Rattle.scope_calls.proofs.show.show_places.Reads as reads
-use Rattle.scope_calls.proofs.show.show_places.Lts as lts
-use Rattle.scope_calls.proofs.show.letter.Reads as letter-reads
-use Rattle.scope_calls.proofs.show.of_binding.Reads as of-binding-reads
-use Rattle.scope_calls.proofs.show.put_place.Reads as put-place-reads
-use Rattle.scope_calls.proofs.show.word.Reads as word-reads
 
 abbrev Inv-loop : tie.InvT-loop
 Inv-loop w n k₀ k = Unit {0}
@@ -42,16 +36,16 @@ of-binding-requires : tie.Need-of-binding-requires Inv-loop μ-loop
 of-binding-requires c κs = search needs
 
 cast-put-place : tie.Need-cast-put-place Inv-loop μ-loop
-cast-put-place c = omega arith
+cast-put-place c = search needs
 
 put-place-requires-5 : tie.Need-put-place-requires-5 Inv-loop μ-loop
 put-place-requires-5 c κs = search needs
 
 add-k : tie.Need-add-k Inv-loop μ-loop
-add-k c = omega arith
+add-k c = search needs
 
 loop-less : tie.Need-loop-less Inv-loop μ-loop
-loop-less c = omega arith
+loop-less c = search needs
 
 loop-again : tie.Need-loop-again Inv-loop μ-loop
 loop-again c = tt
