@@ -5,7 +5,7 @@ const acorn = require('acorn');
 const { ScriptTrouble, trouble } = require('./trouble');
 const { findUnsupported, message } = require('./unsupported');
 
-const OPTIONS = { ecmaVersion: 2022, sourceType: 'script', preserveParens: true, locations: true, ranges: true, allowHashBang: true };
+const PARSER = { ecmaVersion: 2022, sourceType: 'script', preserveParens: true, locations: true, ranges: true, allowHashBang: true };
 
 // The parser names modules and some newer syntax only in its message.
 const SYNTAX = [
@@ -22,7 +22,7 @@ function syntaxTrouble(error) {
 function parse(text) {
   let program;
   try {
-    program = acorn.parse(text, OPTIONS);
+    program = acorn.parse(text, PARSER);
   } catch (error) {
     if (error instanceof SyntaxError && error.loc) throw syntaxTrouble(error);
     throw error;
@@ -32,4 +32,4 @@ function parse(text) {
   return program;
 }
 
-module.exports = { parse };
+module.exports = { parse, PARSER };
