@@ -41,8 +41,10 @@ class Editor {
     this.source = new Source(root, text, this.comments);
   }
 
+  // `was` is the value or name that stood there, without comments.
   edit(how, node, after, { start, end }, written) {
-    return { how, node, after, start, end, text: written };
+    const was = this.source.slice(how === 'emptied' ? node.children[1].at : node.at);
+    return { how, node, after, start, end, was, text: written };
   }
 
   // A declaration without its value; the comments in between stay.

@@ -3,8 +3,10 @@
 
 const { K, DECLARATION, UNARY, BINARY, ASSIGN, FOR, TRY, bitsOfNumber } = require('./kinds');
 const { addContexts } = require('./contexts');
-const { parse } = require('./parse');
-const { WORDS } = require('./refusals');
+const { deepest } = require('./brackets');
+const { LIMITS, figure } = require('./limits');
+const { PARSER, parse } = require('./parse');
+const { HINTS } = require('./refusals');
 const { trouble } = require('./trouble');
 
 const present = (...children) => children.filter(Boolean);
@@ -109,6 +111,13 @@ function treeNode(node) {
   return { kind, form, text, bits, children: children.map(treeNode), at: node };
 }
 
+// Nested so deep that it cannot even be parsed; the port refuses far less.
+function tooDeep(text) {
+  const { deep, place } = deepest(text, PARSER, LIMITS.depth);
+  const counted = place ? `${figure(deep)} brackets in one another` : 'nested too deep to be read';
+  return trouble(place, `refusal 6: ${counted}, at most ${LIMITS.depth} nodes`, HINTS[6]);
+}
+
 // A script's text as a tree with contexts.
 function treeOfText(text) {
   try {
@@ -117,8 +126,7 @@ function treeOfText(text) {
     addContexts(root, program);
     return root;
   } catch (error) {
-    // Nested so deep that it cannot even be parsed; the port refuses far less.
-    if (error instanceof RangeError) throw trouble(null, `refusal 6: ${WORDS[6]}`);
+    if (error instanceof RangeError) throw tooDeep(text);
     throw error;
   }
 }

@@ -1,0 +1,152 @@
+// One static page for one script: the verdict, script and result side by side with every change marked, the variables, the refusals at their place.
+'use strict';
+
+const { documentOf, html } = require('./html');
+const { figure } = require('./limits');
+const { STYLE } = require('./page_style');
+const { rowsOf } = require('./rows');
+
+const plural = (count, one, many = `${one}s`) => `${figure(count)} ${count === 1 ? one : many}`;
+
+function verdictPart({ verdict, isWritten, counts }) {
+  const level = verdict.level ? html`<p>Level: ${verdict.level}</p>` : '';
+  const written = isWritten || verdict.status === 'refused' ? '' : html`<p>The result was held back: it is shown here to be looked at, and was not written.</p>`;
+  const changed = counts
+    ? html`<p>${plural(counts.replaced, 'name')} replaced, ${plural(counts.emptied, 'declaration')} emptied, ${plural(counts.renamed, 'name')} changed for another; ${plural(counts.nodes, 'node')}, ${plural(counts.runs, 'run')} of the pass.</p>`
+    : '';
+  return html`<section class="verdict" aria-label="Verdict">
+<p><strong><span class="sign" aria-hidden="true">${verdict.sign}</span> ${verdict.title}</strong></p>
+<p>${verdict.words}</p>${level}${verdict.tests ? html`<p>${verdict.tests}</p>` : ''}${written}${changed}
+</section>`;
+}
+
+// A part of a line; the number of a change stands behind its first part, and leads to its note.
+function partHtml({ text, edit }, isResult, isFirst) {
+  if (!edit) return html`${text}`;
+  const mark = isFirst ? html`<sup><a href="#change-${edit.number}">${edit.number}</a></sup>` : '';
+  if (!isResult) return html`<del>${text}</del>${mark}`;
+  const isEmpty = edit.how === 'emptied' && edit.text === '';
+  return isEmpty ? html`<ins class="empty">(emptied)</ins>${mark}` : html`<ins>${text}</ins>${mark}`;
+}
+
+function cellHtml(cell, isResult, seen) {
+  return cell.map((part) => {
+    const isFirst = part.edit && !seen.has(part.edit);
+    if (part.edit) seen.add(part.edit);
+    return partHtml(part, isResult, isFirst);
+  });
+}
+
+function sideHtml(row, isResult, seen) {
+  const [cell, line] = isResult ? [row.result, row.resultLine] : [row.script, row.scriptLine];
+  const name = isResult ? 'result' : 'script';
+  if (!cell) return html`<td class="at none ${name}"></td><td class="code none ${name}"></td>`;
+  const sign = row.isSame ? '' : (isResult ? ' +' : ' −');
+  return html`<td class="at ${name}">${line}${sign}</td><td class="code ${name}">${cellHtml(cell, isResult, seen)}</td>`;
+}
+
+const sentence = (text) => (/[.!?]$/.test(text) ? text : `${text}.`);
+
+const changeNote = ({ number, note, why }) => html`<li id="change-${number}"><b>${number}</b> ${note}: ${sentence(why)}</li>`;
+
+function placeNote({ line, variable, reason }, { sign, status }) {
+  const of = variable ? html` <code>${variable}</code>` : '';
+  return html`<li class="place"><b>${sign} ${status}</b>, line ${line}${of}: ${sentence(reason)}</li>`;
+}
+
+function findingNote({ when, script, result }) {
+  return html`<li class="finding"><b>≠</b> When ${when}: the script does <code>${script}</code>, the result <code>${result}</code>.</li>`;
+}
+
+function refusalNote({ line, column, message, hint }) {
+  const place = line === null ? '' : html`, line ${line}, column ${column}`;
+  return html`<li class="refusal"><b>✕ refused</b>${place}: ${sentence(message)} ${hint ? sentence(hint) : ''}</li>`;
+}
+
+// All that is told of a line of the script.
+function notesOf(account, line) {
+  const here = (list) => list.filter((one) => one.line === line);
+  return [
+    ...here(account.refusals).map(refusalNote),
+    ...here(account.verdict.places).map((place) => placeNote(place, account.verdict)),
+    ...here(account.trials ? account.trials.findings : []).map(findingNote),
+    ...here(account.changes).map(changeNote),
+  ];
+}
+
+function rowHtml(row, account, seen) {
+  const notes = row.scriptLine === null ? [] : notesOf(account, row.scriptLine);
+  const told = notes.length ? html`<tr class="notes"><td colspan="4"><ul>${notes}</ul></td></tr>\n` : '';
+  return html`<tr class="${row.isSame ? 'same' : 'changed'}" id="row-${row.number}">${sideHtml(row, false, seen.script)}${sideHtml(row, true, seen.result)}</tr>\n${told}`;
+}
+
+// The edits of a page carry the numbers of the account's changes.
+function sidesPart(account, edits) {
+  const numberedEdits = edits.map((edit, index) => ({ ...edit, number: index + 1 }));
+  const rows = rowsOf(account.script, numberedEdits).map((row, index) => ({ ...row, number: index + 1 }));
+  const seen = { script: new Set(), result: new Set() };
+  const lines = rows.map((row) => rowHtml(row, account, seen));
+  return html`<h2>Script and result, line by line</h2>
+<p class="soft">A line marked − is the script's, a line marked + the result's. Struck through is what went, underlined what came; the number leads to the note below the line.</p>
+<table class="sides"><thead><tr><th class="at" scope="col">Line</th><th scope="col">Script</th><th class="at" scope="col">Line</th><th scope="col">Result</th></tr></thead>
+<tbody>
+${lines}</tbody></table>`;
+}
+
+// A script without a result stands alone.
+function scriptPart(account) {
+  const rows = rowsOf(account.script, []);
+  const lines = rows.map(({ script, scriptLine }) => {
+    const notes = notesOf(account, scriptLine);
+    const told = notes.length ? html`<tr class="notes"><td colspan="2"><ul>${notes}</ul></td></tr>\n` : '';
+    const sign = account.refusals.some(({ line }) => line === scriptLine) ? ' ✕' : '';
+    return html`<tr class="${sign ? 'changed' : 'same'}"><td class="at script">${scriptLine}${sign}</td><td class="code script">${script.map(({ text }) => text)}</td></tr>\n${told}`;
+  });
+  return html`<h2>The script</h2>
+<table class="sides"><thead><tr><th class="at" scope="col">Line</th><th scope="col">Script</th></tr></thead>
+<tbody>
+${lines}</tbody></table>`;
+}
+
+// What has no line of its own.
+function unplacedPart(account) {
+  const notes = [
+    ...account.refusals.filter(({ line }) => line === null).map(refusalNote),
+    ...account.verdict.places.filter(({ line }) => !line).map((place) => placeNote({ line: 'unknown', ...place }, account.verdict)),
+  ];
+  return notes.length ? html`<ul>${notes}</ul>` : '';
+}
+
+function variableRow({ name, sort, line, reads, replaced, left, emptied }) {
+  return html`<tr><td><code>${name}</code></td><td>${sort}${line ? `, line ${line}` : ''}</td><td class="number">${reads}</td><td class="number">${replaced}</td><td class="number">${left}</td><td class="number">${emptied}</td></tr>\n`;
+}
+
+function variablesPart({ variables }) {
+  if (!variables.length) return '';
+  return html`<h2>Variables</h2>
+<div class="wide"><table class="plain"><thead><tr><th scope="col">Name</th><th scope="col">What it is</th><th class="number" scope="col">Reads</th><th class="number" scope="col">Replaced</th><th class="number" scope="col">Left</th><th class="number" scope="col">Emptied</th></tr></thead>
+<tbody>
+${variables.map(variableRow)}</tbody></table></div>`;
+}
+
+function limitsPart({ limits }) {
+  if (!limits.length) return '';
+  const rows = limits.map(({ words, count, most }) => html`<tr><td>${words}</td><td class="number">${figure(count)}</td><td class="number">${figure(most)}</td></tr>\n`);
+  return html`<h2>Room that the script takes</h2>
+<div class="wide"><table class="plain"><thead><tr><th scope="col">What is limited</th><th class="number" scope="col">Here</th><th class="number" scope="col">At most</th></tr></thead>
+<tbody>
+${rows}</tbody></table></div>`;
+}
+
+// `edits` are the result's edits in the script's text, null where there is no result; `home` leads to the index, if there is one.
+function pageOf(account, edits, home = null) {
+  const shown = edits ? sidesPart(account, edits) : (account.script === null ? '' : scriptPart(account));
+  const parts = [
+    home && html`<p><a href="${home}">All scripts</a></p>`,
+    html`<h1>${account.file}</h1>`,
+    verdictPart(account), unplacedPart(account), shown, variablesPart(account), limitsPart(account),
+  ];
+  return documentOf(`${account.file}: ${account.verdict.title}`, STYLE, html`${parts}`);
+}
+
+module.exports = { pageOf };
