@@ -11,8 +11,9 @@ const plural = (count, one, many = `${one}s`) => `${figure(count)} ${count === 1
 function verdictPart({ verdict, isWritten, counts }) {
   const level = verdict.level ? html`<p>Level: ${verdict.level}</p>` : '';
   const written = isWritten || verdict.status === 'refused' ? '' : html`<p>The result was held back: it is shown here to be looked at, and was not written.</p>`;
+  const renamed = counts && counts.renamed ? `, ${plural(counts.renamed, 'place')} with another name for a variable` : '';
   const changed = counts
-    ? html`<p>${plural(counts.replaced, 'name')} replaced, ${plural(counts.emptied, 'declaration')} emptied, ${plural(counts.renamed, 'name')} changed for another; ${plural(counts.nodes, 'node')}, ${plural(counts.runs, 'run')} of the pass.</p>`
+    ? html`<p>${plural(counts.replaced, 'name')} replaced, ${plural(counts.emptied, 'declaration')} emptied${renamed}; ${plural(counts.nodes, 'node')}, ${plural(counts.runs, 'run')} of the pass.</p>`
     : '';
   return html`<section class="verdict" aria-label="Verdict">
 <p><strong><span class="sign" aria-hidden="true">${verdict.sign}</span> ${verdict.title}</strong></p>

@@ -33,13 +33,14 @@ th { text-align: left; font-weight: 600; }
 const SIDES = `.sides { table-layout: fixed; border: 1px solid var(--line); }
 .sides th, .sides td { padding: 0 .4rem; vertical-align: top; }
 .sides thead th { border-bottom: 1px solid var(--line); padding: .2rem .4rem; }
+.sides td.at { font-size: .85rem; line-height: 1.6; }
 .sides .at { width: 4.2rem; text-align: right; color: var(--soft); white-space: pre; }
-.sides .code { white-space: pre-wrap; overflow-wrap: anywhere; tab-size: 4; }
+.sides .code { line-height: 1.6; white-space: pre-wrap; overflow-wrap: anywhere; tab-size: 4; }
 .changed td { background: var(--row); }
 .notes td { background: var(--told); padding: .2rem .6rem; }
 .notes ul { margin: 0; padding-left: 3.8rem; list-style: none; }
 .notes li { text-indent: -1.6rem; padding-left: 1.6rem; overflow-wrap: anywhere; }
-del { background: var(--gone); text-decoration: line-through; }
+del { background: var(--gone); text-decoration: line-through 1px; }
 ins { background: var(--new); text-decoration: underline; }
 ins.empty { font-style: italic; }
 del, ins { border-radius: .15rem; padding: 0 .1rem; }
@@ -63,7 +64,7 @@ const NARROW = `@media (max-width: 45rem) {
 const PRINT = `@media print {
   @page { margin: 12mm; }
   body { max-width: none; padding: 0; font-size: 9.5pt; }
-  code, .code { font-size: 7.5pt; }
+  code, .code, .sides td.at { font-size: 7.5pt; }
   .sides .at { width: 3.2rem; }
   tr, .verdict { break-inside: avoid; }
   .changed td { border-top: 1px solid var(--line); }
