@@ -6,7 +6,7 @@ const { NAMED, TEXTED, identityOf, preorder } = require('./kinds');
 const LIMITS = { nodes: 1024, texts: 256, textBytes: 4096, depth: 200, variables: 256 };
 
 const WORDS = {
-  nodes: 'nodes (the parts that names, values, operators and statements come to)',
+  nodes: 'nodes',
   texts: 'different names and texts',
   textBytes: 'bytes of names and texts',
   depth: 'nodes in one another',

@@ -47,6 +47,7 @@ function sideHtml(row, isResult, seen) {
 }
 
 const sentence = (text) => (/[.!?]$/.test(text) ? text : `${text}.`);
+const begun = (text) => `${text[0].toUpperCase()}${text.slice(1)}`;
 
 const changeNote = ({ number, note, why }) => html`<li id="change-${number}"><b>${number}</b> ${note}: ${sentence(why)}</li>`;
 
@@ -61,7 +62,7 @@ function findingNote({ when, script, result }) {
 
 function refusalNote({ line, column, message, hint }) {
   const place = line === null ? '' : html`, line ${line}, column ${column}`;
-  return html`<li class="refusal"><b>✕ refused</b>${place}: ${sentence(message)} ${hint ? sentence(hint) : ''}</li>`;
+  return html`<li class="refusal"><b>✕ refused</b>${place}: ${sentence(message)} ${hint ? begun(sentence(hint)) : ''}</li>`;
 }
 
 // All that is told of a line of the script.

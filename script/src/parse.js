@@ -17,7 +17,7 @@ const SYNTAX = [
 // A bracket that is not closed is seldom where the parser stumbles.
 function bracketHint(text) {
   const open = unclosed(text, PARSER);
-  return open && `the ${open.label} of line ${open.at.line}, column ${open.at.column + 1} is not closed`;
+  return open && `the ${open.label} of line ${open.at.line}, column ${open.at.column + 1} is not closed, or one inside it`;
 }
 
 function syntaxTrouble(error, text) {

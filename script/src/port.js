@@ -19,7 +19,7 @@ const takesLimit = () => fs.existsSync(LIMITED_PORT);
 const portPath = (named, runs) => named || process.env.NEGBOSUN_PORT || (runs !== undefined && takesLimit() ? LIMITED_PORT : DEFAULT_PORT);
 
 // Some scripts take the pass very long: each function inside a function's value doubles the time.
-const tooLong = (seconds) => trouble(null, `the pass did not end within ${seconds} seconds`,
+const tooLong = (seconds) => trouble(null, `the pass did not end within ${seconds} ${seconds === 1 ? 'second' : 'seconds'}`,
   'take functions out of one another, above all `var v = function () { ... };` inside another one, or give it more time: --time-limit SECONDS');
 
 // Without a limit the program is called without arguments, as document 01 has it.

@@ -57,7 +57,7 @@ function whyReplaced({ name, sort, writes }) {
   if (!writes.length) return sort === 'var' ? `${name} is declared and given no value` : `nothing in the script writes ${name}`;
   if (sort === 'const') return `${name} is a constant, set on ${list(writes)}`;
   if (writes.length === 1) return `${name} is set once, on ${list(writes)}`;
-  return `${name} is set on ${list(writes)}, and the pass goes by the last value that it has recorded here`;
+  return `${name} is set on ${list(writes)}, and the pass goes by the value that it has recorded`;
 }
 
 function whyChanged({ how, node, after }, variables) {

@@ -96,8 +96,9 @@ function tooDeepWhileRunning(root) {
 // What row 9 may have met: the port does not say which, so all three counts are told.
 function tooMuchWhileRunning(root) {
   const [{ count: nodes }, , , , { count: variables }] = limitsOf(root);
-  return `too much once values were put in the place of names: the script begins with ${over(nodes, MOST.nodes, 'nodes')}; `
-    + `${over(valuesIn(root), MOST.values, 'nodes in the values of its variables')}; ${over(variables, MOST.variables, 'variables')}`;
+  const counted = (words, count, most) => `${words} ${figure(count)}, at most ${figure(most)}`;
+  return `too much once values were put in the place of names; before that: ${counted('nodes', nodes, MOST.nodes)}; `
+    + `${counted('nodes in the values of variables', valuesIn(root), MOST.values)}; ${counted('variables', variables, MOST.variables)}`;
 }
 
 const DETAILS = {
@@ -109,7 +110,7 @@ const DETAILS = {
 };
 
 const HINTS = {
-  3: 'split the script in two, or take out what it does not use; comments do not count',
+  3: 'split the script in two, or take out what it does not use (each name, value, operator and statement is a node; comments do not count)',
   6: 'take the inner parts out into functions or variables of their own',
   7: 'use fewer variables, or split the script in two',
   8: 'take inner functions, blocks and conditions out of one another; let no variable\'s value name the variable itself',
