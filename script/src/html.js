@@ -25,6 +25,16 @@ function part(value) {
 // A template whose values are escaped, but for HTML and lists of it.
 const html = (strings, ...values) => new Html(strings.reduce((made, string, index) => made + part(values[index - 1]) + string));
 
+// A plain table: heads are names of columns, `number` saying that a column has numbers; rows are lists of cells.
+function table(heads, rows) {
+  const sort = (index) => (heads[index].number ? ' class="number"' : '');
+  const cell = (name, more = '') => (value, index) => new Html(`<${name}${sort(index)}${more}>${part(value)}</${name}>`);
+  const lines = rows.map((row) => html`<tr>${row.map(cell('td'))}</tr>\n`);
+  return html`<div class="wide"><table class="plain"><thead><tr>${heads.map(({ name }) => name).map(cell('th', ' scope="col"'))}</tr></thead>
+<tbody>
+${lines}</tbody></table></div>`;
+}
+
 // A whole page, which loads nothing: style and text stand in it.
 function documentOf(title, style, body) {
   return `<!DOCTYPE html>
@@ -45,4 +55,4 @@ ${body}
 `;
 }
 
-module.exports = { documentOf, html };
+module.exports = { documentOf, html, table };

@@ -1,20 +1,22 @@
 // One static page for one script: the verdict, script and result side by side with every change marked, the variables, the refusals at their place.
 'use strict';
 
-const { documentOf, html } = require('./html');
+const { documentOf, html, table } = require('./html');
 const { figure } = require('./limits');
 const { STYLE } = require('./page_style');
 const { rowsOf } = require('./rows');
 
 const plural = (count, one, many = `${one}s`) => `${figure(count)} ${count === 1 ? one : many}`;
 
+function countWords({ replaced, emptied, renamed, nodes, runs }) {
+  const others = renamed ? `, ${plural(renamed, 'place')} with another name for a variable` : '';
+  return `${plural(replaced, 'name')} replaced, ${plural(emptied, 'declaration')} emptied${others}; ${plural(nodes, 'node')}, ${plural(runs, 'run')} of the pass.`;
+}
+
 function verdictPart({ verdict, isWritten, counts }) {
   const level = verdict.level ? html`<p>Level: ${verdict.level}</p>` : '';
   const written = isWritten || verdict.status === 'refused' ? '' : html`<p>The result was held back: it is shown here to be looked at, and was not written.</p>`;
-  const renamed = counts && counts.renamed ? `, ${plural(counts.renamed, 'place')} with another name for a variable` : '';
-  const changed = counts
-    ? html`<p>${plural(counts.replaced, 'name')} replaced, ${plural(counts.emptied, 'declaration')} emptied${renamed}; ${plural(counts.nodes, 'node')}, ${plural(counts.runs, 'run')} of the pass.</p>`
-    : '';
+  const changed = counts ? html`<p>${countWords(counts)}</p>` : '';
   return html`<section class="verdict" aria-label="Verdict">
 <p><strong><span class="sign" aria-hidden="true">${verdict.sign}</span> ${verdict.title}</strong></p>
 <p>${verdict.words}</p>${level}${verdict.tests ? html`<p>${verdict.tests}</p>` : ''}${written}${changed}
@@ -67,7 +69,7 @@ function refusalNote({ line, column, message, hint }) {
 
 // All that is told of a line of the script.
 function notesOf(account, line) {
-  const here = (list) => list.filter((one) => one.line === line);
+  const here = (list) => list.filter((one) => (one.shownAt ?? one.line) === line);
   return [
     ...here(account.refusals).map(refusalNote),
     ...here(account.verdict.places).map((place) => placeNote(place, account.verdict)),
@@ -82,6 +84,15 @@ function rowHtml(row, account, seen) {
   return html`<tr class="${row.isSame ? 'same' : 'changed'}" id="row-${row.number}">${sideHtml(row, false, seen.script)}${sideHtml(row, true, seen.result)}</tr>\n${told}`;
 }
 
+const headCells = (names) => names.map((name) => html`<th${name === 'Line' ? html` class="at"` : ''} scope="col">${name}</th>`);
+
+const sidesTable = (names, lines) => html`<table class="sides"><thead><tr>${headCells(names)}</tr></thead>
+<tbody>
+${lines}</tbody></table>`;
+
+const LEGEND = 'A line marked − is the script\'s, a line marked + the result\'s. Struck through is what went, underlined what came; '
+  + 'the number leads to the note below the line.';
+
 // The edits of a page carry the numbers of the account's changes.
 function sidesPart(account, edits) {
   const numberedEdits = edits.map((edit, index) => ({ ...edit, number: index + 1 }));
@@ -89,25 +100,23 @@ function sidesPart(account, edits) {
   const seen = { script: new Set(), result: new Set() };
   const lines = rows.map((row) => rowHtml(row, account, seen));
   return html`<h2>Script and result, line by line</h2>
-<p class="soft">A line marked − is the script's, a line marked + the result's. Struck through is what went, underlined what came; the number leads to the note below the line.</p>
-<table class="sides"><thead><tr><th class="at" scope="col">Line</th><th scope="col">Script</th><th class="at" scope="col">Line</th><th scope="col">Result</th></tr></thead>
-<tbody>
-${lines}</tbody></table>`;
+<p class="soft">${LEGEND}</p>
+${sidesTable(['Line', 'Script', 'Line', 'Result'], lines)}`;
 }
 
-// A script without a result stands alone.
+// A script without a result stands alone; what is told of its very end is told at its last line.
 function scriptPart(account) {
   const rows = rowsOf(account.script, []);
+  const refusals = account.refusals.map((one) => (one.line > rows.length ? { ...one, shownAt: rows.length } : one));
   const lines = rows.map(({ script, scriptLine }) => {
-    const notes = notesOf(account, scriptLine);
+    const notes = notesOf({ ...account, refusals }, scriptLine);
     const told = notes.length ? html`<tr class="notes"><td colspan="2"><ul>${notes}</ul></td></tr>\n` : '';
-    const sign = account.refusals.some(({ line }) => line === scriptLine) ? ' ✕' : '';
-    return html`<tr class="${sign ? 'changed' : 'same'}"><td class="at script">${scriptLine}${sign}</td><td class="code script">${script.map(({ text }) => text)}</td></tr>\n${told}`;
+    const sign = notes.length ? ' ✕' : '';
+    const code = script.map(({ text }) => text);
+    return html`<tr class="${sign ? 'changed' : 'same'}"><td class="at script">${scriptLine}${sign}</td><td class="code script">${code}</td></tr>\n${told}`;
   });
   return html`<h2>The script</h2>
-<table class="sides"><thead><tr><th class="at" scope="col">Line</th><th scope="col">Script</th></tr></thead>
-<tbody>
-${lines}</tbody></table>`;
+${sidesTable(['Line', 'Script'], lines)}`;
 }
 
 // What has no line of its own.
@@ -119,25 +128,21 @@ function unplacedPart(account) {
   return notes.length ? html`<ul>${notes}</ul>` : '';
 }
 
-function variableRow({ name, sort, line, reads, replaced, left, emptied }) {
-  return html`<tr><td><code>${name}</code></td><td>${sort}${line ? `, line ${line}` : ''}</td><td class="number">${reads}</td><td class="number">${replaced}</td><td class="number">${left}</td><td class="number">${emptied}</td></tr>\n`;
-}
+const number = (name) => ({ name, number: true });
 
 function variablesPart({ variables }) {
   if (!variables.length) return '';
-  return html`<h2>Variables</h2>
-<div class="wide"><table class="plain"><thead><tr><th scope="col">Name</th><th scope="col">What it is</th><th class="number" scope="col">Reads</th><th class="number" scope="col">Replaced</th><th class="number" scope="col">Left</th><th class="number" scope="col">Emptied</th></tr></thead>
-<tbody>
-${variables.map(variableRow)}</tbody></table></div>`;
+  const heads = [{ name: 'Name' }, { name: 'What it is' }, number('Reads'), number('Replaced'), number('Left'), number('Emptied')];
+  const rows = variables.map(({ name, sort, line, reads, replaced, left, emptied }) => {
+    return [html`<code>${name}</code>`, `${sort}${line ? `, line ${line}` : ''}`, reads, replaced, left, emptied];
+  });
+  return html`<h2>Variables</h2>\n${table(heads, rows)}`;
 }
 
 function limitsPart({ limits }) {
   if (!limits.length) return '';
-  const rows = limits.map(({ words, count, most }) => html`<tr><td>${words}</td><td class="number">${figure(count)}</td><td class="number">${figure(most)}</td></tr>\n`);
-  return html`<h2>Room that the script takes</h2>
-<div class="wide"><table class="plain"><thead><tr><th scope="col">What is limited</th><th class="number" scope="col">Here</th><th class="number" scope="col">At most</th></tr></thead>
-<tbody>
-${rows}</tbody></table></div>`;
+  const rows = limits.map(({ words, count, most }) => [words, figure(count), figure(most)]);
+  return html`<h2>Room that the script takes</h2>\n${table([{ name: 'What is limited' }, number('Here'), number('At most')], rows)}`;
 }
 
 // `edits` are the result's edits in the script's text, null where there is no result; `home` leads to the index, if there is one.

@@ -1,7 +1,7 @@
 // The index of a folder of pages: each script with its verdict and counts.
 'use strict';
 
-const { documentOf, html } = require('./html');
+const { documentOf, html, table } = require('./html');
 const { STYLE } = require('./page_style');
 const { STATUSES } = require('./verdict');
 
@@ -13,17 +13,18 @@ function summary(accounts) {
 
 function rowOf({ account, link }) {
   const { verdict, counts } = account;
-  return html`<tr><td><a href="${link}">${account.file}</a></td><td><span class="sign" aria-hidden="true">${verdict.sign}</span> ${verdict.title}</td><td class="number">${counts ? counts.replaced : '–'}</td><td class="number">${counts ? counts.emptied : '–'}</td></tr>\n`;
+  const said = html`<span class="sign" aria-hidden="true">${verdict.sign}</span> ${verdict.title}`;
+  return [html`<a href="${link}">${account.file}</a>`, said, counts ? counts.replaced : '–', counts ? counts.emptied : '–'];
 }
+
+const HEADS = [{ name: 'Script' }, { name: 'Verdict' }, { name: 'Names replaced', number: true }, { name: 'Declarations emptied', number: true }];
 
 // `entries` have an account and the link to its page.
 function indexOf(entries) {
   const accounts = entries.map(({ account }) => account);
   const body = html`<h1>Gate scripts and their results</h1>
 <p>${accounts.length} ${accounts.length === 1 ? 'script' : 'scripts'}: ${summary(accounts)}.</p>
-<div class="wide"><table class="plain"><thead><tr><th scope="col">Script</th><th scope="col">Verdict</th><th class="number" scope="col">Names replaced</th><th class="number" scope="col">Declarations emptied</th></tr></thead>
-<tbody>
-${entries.map(rowOf)}</tbody></table></div>`;
+${table(HEADS, entries.map(rowOf))}`;
   return documentOf('Gate scripts and their results', STYLE, body);
 }
 

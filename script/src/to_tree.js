@@ -118,17 +118,24 @@ function tooDeep(text) {
   return trouble(place, `refusal 6: ${counted}, at most ${LIMITS.depth} nodes`, HINTS[6]);
 }
 
-// A script's text as a tree with contexts.
-function treeOfText(text) {
+// Does what walks a whole tree, and refuses the text where that goes too deep.
+function withinDepth(text, act) {
   try {
-    const program = parse(text);
-    const root = treeNode(program);
-    addContexts(root, program);
-    return root;
+    return act();
   } catch (error) {
     if (error instanceof RangeError) throw tooDeep(text);
     throw error;
   }
 }
 
-module.exports = { treeOfText };
+// A script's text as a tree with contexts.
+function treeOfText(text) {
+  return withinDepth(text, () => {
+    const program = parse(text);
+    const root = treeNode(program);
+    addContexts(root, program);
+    return root;
+  });
+}
+
+module.exports = { treeOfText, withinDepth };

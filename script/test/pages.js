@@ -69,6 +69,8 @@ function checkRefused() {
   assert.match(page, /<td class="code script">class A \{\}<\/td><\/tr>\n<tr class="notes">.*line 2, column 5: a class cannot be built\. Write functions\./);
   assert.match(page, /This script cannot be built/);
   assert.match(page, /<li class="refusal"><b>✕ refused<\/b>: too long\./);
+  const end = pageOf(refusedAccount('x.js', 'if (a) {\n', [{ line: 2, column: 1, message: 'ends too early', hint: null }]), null);
+  assert.match(end, /line 2, column 1: ends too early\./);
 }
 
 // A verdict of a check, with parts absent, is shown with its sign, level and places.
