@@ -2,7 +2,7 @@
 'use strict';
 
 const fs = require('fs');
-const { readScript, scriptsOf } = require('./input');
+const { readScript } = require('./input');
 const { runOne } = require('./run_one');
 const { ScriptTrouble } = require('./trouble');
 const { write } = require('./output');
@@ -16,6 +16,7 @@ function outcomeOf(file, options) {
     return { sort: 'well', lines: [`${file}: well`] };
   } catch (error) {
     if (error instanceof ScriptTrouble) return { sort: 'refused', lines: error.lines(file) };
+    if (error.syscall === 'open' || error.syscall === 'read') return { sort: 'refused', lines: [`${file}: ${error.message}`] };
     throw error;
   }
 }
@@ -25,8 +26,7 @@ function progress(done, count, file) {
   if (process.stderr.isTTY) fs.writeSync(2, done < count ? `\r\x1b[K${done + 1} of ${count}: ${file}` : '\r\x1b[K');
 }
 
-function check(given, status) {
-  const options = { ...given, files: scriptsOf(given.files).map(({ file }) => file) };
+function check(options, status) {
   const counts = { well: 0, accepted: 0, differs: 0, refused: 0 };
   const lines = [];
   options.files.forEach((file, index) => {

@@ -4,7 +4,7 @@
 const fs = require('fs');
 const { check } = require('./check');
 const { troubleLines } = require('./frame');
-const { nameOf, readScript } = require('./input');
+const { nameOf, readScript, scriptsOf } = require('./input');
 const { many } = require('./many');
 const { readOptions } = require('./options');
 const { runOne } = require('./run_one');
@@ -45,7 +45,8 @@ function main(list) {
       return STATUS.well;
     }
     if (options.isMany) return many(options, STATUS, say);
-    return options.output === 'check' ? check(options, STATUS) : single(options);
+    if (options.output !== 'check') return single(options);
+    return check({ ...options, files: scriptsOf(options.files).map(({ file }) => file) }, STATUS);
   } catch (error) {
     return failed(error, options);
   }

@@ -27,8 +27,8 @@ function entryOf(script, options) {
   let text = null;
   try {
     text = readScript(script.file);
-    const { content, report, differs, account, edits } = runOne(text, nameOf(script.file), { ...options, output: 'result' });
-    return { ...script, account: account(), edits: edits(), content, sort: differs ? 'differs' : 'well', told: report ? [report] : [] };
+    const { content, report, sort, account, edits } = runOne(text, nameOf(script.file), { ...options, output: 'result' });
+    return { ...script, account: account(), edits: edits(), content, sort, told: report ? [report] : [] };
   } catch (error) {
     if (error instanceof ScriptTrouble) return refusedEntry(script, error, text);
     throw error;
@@ -77,9 +77,12 @@ function writeResults(entries, { outDir }, say) {
 
 const jsonOf = (entries) => `${JSON.stringify({ version: VERSION, scripts: entries.map(({ account }) => account) }, null, 2)}\n`;
 
+// The worst of all decides.
+const WORST = ['wrong', 'refused', 'differs', 'unshown'];
+
 function worst(entries, status) {
-  const found = ['wrong', 'refused', 'differs'].find((sort) => entries.some((entry) => entry.sort === sort));
-  return status[found || 'well'];
+  const found = WORST.find((sort) => entries.some((entry) => entry.sort === sort));
+  return status[found] ?? status.well;
 }
 
 function many(options, status, say) {

@@ -53,9 +53,12 @@ const begun = (text) => `${text[0].toUpperCase()}${text.slice(1)}`;
 
 const changeNote = ({ number, note, why }) => html`<li id="change-${number}"><b>${number}</b> ${note}: ${sentence(why)}</li>`;
 
-function placeNote({ line, variable, reason }, { sign, status }) {
+const SIGNS = { 'not shown': '?', different: '≠', 'put back': '↩', note: 'i' };
+
+function placeNote({ line, variable, reason, kind }, { sign, status }) {
   const of = variable ? html` <code>${variable}</code>` : '';
-  return html`<li class="place"><b>${sign} ${status}</b>, line ${line}${of}: ${sentence(reason)}</li>`;
+  const where = line ? `, line ${line}` : '';
+  return html`<li class="place"><b>${kind ? SIGNS[kind] ?? '?' : sign} ${kind ?? status}</b>${where}${of}: ${sentence(reason)}</li>`;
 }
 
 function findingNote({ when, script, result }) {
@@ -123,7 +126,7 @@ ${sidesTable(['Line', 'Script'], lines)}`;
 function unplacedPart(account) {
   const notes = [
     ...account.refusals.filter(({ line }) => line === null).map(refusalNote),
-    ...account.verdict.places.filter(({ line }) => !line).map((place) => placeNote({ line: 'unknown', ...place }, account.verdict)),
+    ...account.verdict.places.filter(({ line }) => !line).map((place) => placeNote(place, account.verdict)),
   ];
   return notes.length ? html`<ul>${notes}</ul>` : '';
 }

@@ -34,7 +34,7 @@ function runOne(text, name, options) {
   const report = outcome ? reportOf(outcome, { name, text, held: content === null }) : null;
   // What the page and --json tell; a verdict of a check goes in as `verdict`.
   const account = () => accountOf({ name, text, root, answer, own: own(), outcome, isHeld: content === null });
-  return { content, report, differs, classes, account, edits: () => own().edits };
+  return { content, report, differs, classes, sort: differs ? 'differs' : 'well', account, edits: () => own().edits };
 }
 
 module.exports = { runOne };
