@@ -3,8 +3,9 @@
 
 const fs = require('fs');
 const path = require('path');
+const tty = require('tty');
 const { figure } = require('./limits');
-const { FileTrouble, trouble } = require('./trouble');
+const { FileTrouble, UsageTrouble, trouble } = require('./trouble');
 
 // Far more than 1,024 nodes with their comments take; what is longer is not even parsed.
 const MOST_BYTES = 1000000;
@@ -35,6 +36,7 @@ function bytesOf(file) {
 }
 
 function readScript(file) {
+  if (file === undefined && tty.isatty(0)) throw new UsageTrouble('name a script, or - for standard input; --help lists the options');
   const { bytes, size = bytes.length } = bytesOf(file);
   if (size > MOST_BYTES) {
     throw trouble(null, `${figure(size)} bytes, at most ${figure(MOST_BYTES)}`, 'a gate script is far shorter: is this the right file? Otherwise split it');

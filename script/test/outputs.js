@@ -130,6 +130,7 @@ const SAID = [
   [['--out-dir', 'x'], '', 2, /--out-dir takes the scripts to go through/],
   [['--json', '--lines', 'x.js'], '', 2, /--json and --lines do not go together/],
   [['a.js', 'b.js'], '', 2, /one file at a time/],
+  [['--out', 'no/such/out.js'], 'f();', 2, /^script\/inline: --out no\/such\/out\.js: the folder no\/such is not there; make it first\n$/],
   [['--what'], '', 2, /^script\/inline: Unknown option '--what'; --help lists the options\n$/],
 ];
 
