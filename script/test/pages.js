@@ -6,15 +6,16 @@ const { spawnSync } = require('child_process');
 const fs = require('fs');
 const os = require('os');
 const path = require('path');
+const { readOptions } = require('../src/options');
 const { pageOf } = require('../src/page');
-const { indexOf } = require('../src/page_index');
+const { indexOf, summary } = require('../src/page_index');
 const { refusedAccount } = require('../src/account');
 const { runOne } = require('../src/run_one');
 const { verdictOf, verdictOfCheck } = require('../src/verdict');
 const { sampleText, samples } = require('./files');
 const { each } = require('./harness');
 
-const OPTIONS = { output: 'result', guard: false, accepted: () => true };
+const OPTIONS = readOptions(['--no-guard', '--accept', 'x.js']);
 const ENTITIES = { '&amp;': '&', '&lt;': '<', '&gt;': '>', '&quot;': '"', '&#39;': "'" };
 
 const plain = (html) => html.replace(/<[^>]*>/g, '').replace(/&(amp|lt|gt|quot|#39);/g, (sign) => ENTITIES[sign]);
@@ -92,7 +93,9 @@ function checkIndex() {
   const entries = samples().map((name) => ({ account: made(name, sampleText(name)).account, link: `${name}.js.html` }));
   const page = indexOf(entries);
   for (const name of samples()) assert.ok(page.includes(`<a href="${name}.js.html">${name}</a>`), name);
-  assert.match(plain(page), new RegExp(`${samples().length} scripts: ${samples().length} not shown\\.`));
+  const counts = summary(entries.map(({ account }) => account));
+  assert.strictEqual(counts.match(/\d+/g).reduce((sum, count) => sum + Number(count), 0), samples().length);
+  assert.ok(plain(page).includes(`${samples().length} scripts: ${counts}.`));
 }
 
 // What a browser finds on the page is written into the page itself, on a copy that may run scripts.
@@ -121,8 +124,9 @@ function browse(chromium, page, width) {
 // Side by side where there is room; on a phone one below the other, unchanged lines once, and nothing too wide.
 function checkFacts({ account }, wide, narrow) {
   const changes = account.changes.length;
+  const notes = changes + account.verdict.places.filter(({ line }) => line).length;
   for (const facts of [wide, narrow]) {
-    assert.deepStrictEqual([facts.tooWide, facts.notes], [false, changes]);
+    assert.deepStrictEqual([facts.tooWide, facts.notes], [false, notes]);
     assert.ok(facts.struck >= changes && facts.underlined >= changes && facts.results > 0 && facts.text > account.script.length);
   }
   assert.ok(wide.sameResults > 0 && wide.heads === 1);
