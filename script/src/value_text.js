@@ -4,6 +4,7 @@
 const { K, identityOf, preorder } = require('./kinds');
 const { estreeOf } = require('./from_tree');
 const { finishedText, print } = require('./print');
+const { LINE_END } = require('./rows');
 
 const keyOf = (node) => `${node.kind} ${node.form} ${node.bits} ${JSON.stringify(node.text)}(${node.children.map(keyOf)})`;
 
@@ -40,14 +41,20 @@ class Source {
     for (const node of preorder(root)) if (node.at && !this.nodes.has(keyOf(node))) this.nodes.set(keyOf(node), node);
   }
 
-  // Comments stay where the script has them, and are not copied along.
+  // Comments stay where the script has them, and are not copied along; what they keep apart stays apart.
   slice({ start, end }) {
     let [at, made] = [start, ''];
     for (const comment of this.comments.filter((one) => one.start >= start && one.end <= end)) {
-      made += this.text.slice(at, comment.start).trimEnd();
+      made += this.text.slice(at, comment.start).replace(/[ \t]+$/, '') + this.apart(comment);
       at = comment.end;
     }
     return made + this.text.slice(at, end);
+  }
+
+  // A comment over several lines ends a line, too.
+  apart(comment) {
+    if (LINE_END.test(this.text.slice(comment.start, comment.end))) return '\n';
+    return /\s/.test(this.text[comment.end] ?? ' ') ? '' : ' ';
   }
 
   // A name's own value first: `0x10` and `16` are one number, written in two ways.

@@ -28,6 +28,8 @@ const TEXTS = [
   ['function f(a, b) { var s = a || b; return s && g; }', 'function f(a, b) { var s; return (a || b) && g; }'],
   ['function f(a, b) { var s = a ?? b; return s || g; }', 'function f(a, b) { var s; return (a ?? b) || g; }'],
   ['function f(a) { var s = a.b; return s[0](1); }', 'function f(a) { var s; return a.b[0](1); }'],
+  ['function f(p) { var t = typeof/*c*/p; return t; }', 'function f(p) { var t /*c*/; return typeof p; }'],
+  ['function f(p) { var t = p +/*c\n*/1; return [t]; }', 'function f(p) { var t /*c\n*/; return [p +\n1]; }'],
   ['const a = 1; f({a});', 'const a = 1; f({a: 1});'],
   ['const b = a; function f(a) { return {a}.a > b; }', 'const b = a; function f(a$1) { return {a: a$1}.a > a; }'],
   ['function h(p) {\n  var t = [p]\n  g = 1\n  t.x\n}', 'function h(p) {\n  var t\n  g = 1\n  ;[p].x\n}'],
