@@ -24,6 +24,7 @@ counted() {
             line=${line#rt: }
             printf '%3d of %d  %s\n' "$done" "$total" "$line"
             ;;
+        logic=*) ;; # the prover's own line for each crate
         *) printf '%s\n' "$line" ;;
         esac
     done
