@@ -43,4 +43,4 @@ function check(options, status) {
   return differs ? status.differs : status.well;
 }
 
-module.exports = { check };
+module.exports = { check, progress };

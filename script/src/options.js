@@ -2,14 +2,17 @@
 'use strict';
 
 const { parseArgs } = require('util');
+const many = require('./many_options');
 const { MOST_RUNS } = require('./port');
 const { WORDS } = require('./refusals');
 const { UsageTrouble } = require('./trouble');
+const { VERSION } = require('./version');
 
 const HELP = `Usage: script/inline [OPTIONS] [FILE.js]
-       script/inline --check [OPTIONS] FILE.js...
+       script/inline --check|--json|--page DIR|--out-dir DIR [OPTIONS] FILE.js|FOLDER...
 
-Takes a gate script (a file, or standard input) through the proved pass and prints the result as JavaScript.
+Takes a gate script (a file, or standard input, also named -) through the proved pass and prints the result: the script's own
+text, with its comments and layout, in which the names that the pass replaces are replaced. Of a folder all *.js below it are taken.
 Script and result are then run beside each other against a made-up host; where they do not do the same, the
 differences are told and nothing is written. That is a test and no proof.
 
@@ -17,21 +20,23 @@ differences are told and nothing is written. That is a test and no proof.
   --lines           write the port's lines
   --compare         show script and result line by line, with each replaced name and each emptied declaration
   --check           go through many files: a line for each, a summary, an exit status
-  --out FILE        write there instead of to standard output, whole or not at all
-  --runs N          at most N runs, 1 to ${MOST_RUNS} (${MOST_RUNS})
+  --out FILE        write there instead of to standard output (-), whole or not at all
+${many.HELP}  --runs N          at most N runs, 1 to ${MOST_RUNS} (${MOST_RUNS})
   --accept          write the result although it does something else; --accept=1,13 for these classes only
   --no-guard        do not run script and result beside each other
   --trials N        how many made-up hosts (60)
   --seed N          other made-up hosts (1)
   --port PROGRAM    the port (NEGBOSUN_PORT, or target/bin/negbosun)
-  --help            this text
+  --version         the version
+  -h, --help        this text
 
-Exit status: 0 all well; 1 refused; 2 called wrongly, or no port; 3 the result does something else.
-Classes are those of docs/DIFFERENCES.md.
+Exit status: 0 all well; 1 refused (with many scripts: at least one); 2 called wrongly, no such file, or no port;
+3 the result does something else. Classes are those of docs/DIFFERENCES.md. docs/MILLERS.md says what may be written in a script.
 `;
 
-const FLAGS = ['tree', 'lines', 'compare', 'check', 'no-guard', 'help'];
-const VALUES = ['out', 'runs', 'trials', 'seed', 'port', 'accept'];
+const FLAGS = ['tree', 'lines', 'compare', 'check', 'no-guard', 'help', ...many.FLAGS];
+const VALUES = ['out', 'runs', 'trials', 'seed', 'port', 'accept', ...many.VALUES];
+const SHORT = { help: { type: 'boolean', short: 'h' } };
 const MOST_TRIALS = 100000;
 
 function whole(text, name, low, high) {
@@ -58,23 +63,26 @@ function parsed(list) {
   // `--accept` by itself accepts every class.
   const given = list.map((word) => (word === '--accept' ? '--accept=' : word));
   try {
-    return parseArgs({ args: given, options, allowPositionals: true });
+    return parseArgs({ args: given, options: { ...options, ...SHORT }, allowPositionals: true });
   } catch (error) {
-    throw new UsageTrouble(error.message);
+    throw new UsageTrouble(`${error.message.split('. ')[0]}; --help lists the options`);
   }
 }
 
 function readOptions(list) {
   const { values, positionals: files } = parsed(list);
   if (values.help) return { help: HELP };
+  if (values.version) return { help: `negbosun ${VERSION}\n` };
   const kinds = ['tree', 'lines', 'compare', 'check'].filter((name) => values[name]);
   if (kinds.length > 1) throw new UsageTrouble(`--${kinds[0]} and --${kinds[1]} do not go together`);
-  if (!values.check && files.length > 1) throw new UsageTrouble('one file at a time; --check takes many');
+  const more = many.readMany(values, files, kinds);
+  if (!values.check && !more.isMany && files.length > 1) throw new UsageTrouble('one file at a time; --check, --out-dir, --page and --json take many');
   if (values.check && !files.length) throw new UsageTrouble('--check takes the files to go through');
   return {
+    ...more,
     files,
     output: kinds[0] || 'result',
-    out: values.out,
+    out: values.out === '-' ? undefined : values.out,
     runs: values.runs === undefined ? undefined : runLimit(values.runs),
     accepted: acceptedClasses(values.accept),
     guard: !values['no-guard'],

@@ -3,6 +3,9 @@
 
 const { counts } = require('./harness');
 const { testContexts, testErrors, testPrinting, testRoundTrips, testTreeOfSample } = require('./without_port');
+const { testOutputs, testPlaces } = require('./outputs');
+const { testOwnText } = require('./own_text');
+const { testPages } = require('./pages');
 const { testCommand, testGuard, testRefusals, testResults, testSamples } = require('./with_port');
 
 testTreeOfSample();
@@ -10,14 +13,18 @@ testRoundTrips();
 testPrinting();
 testContexts();
 testErrors();
+testPlaces();
 if (process.env.NEGBOSUN_PORT) {
   testRefusals();
   testResults();
   testSamples();
   testGuard();
   testCommand();
+  testOwnText();
+  testOutputs();
+  testPages();
 } else {
-  console.log('refusals, results, samples, guard and command: skipped, no port');
+  console.log('refusals, results, samples, guard, command, own text, outputs and pages: skipped, no port');
 }
 console.log(`${counts.passed} passed, ${counts.failed} failed`);
 process.exitCode = counts.failed ? 1 : 0;
