@@ -77,7 +77,7 @@ class Check {
     return this.values.make(LITERAL[node.kind], 'literal', node.kind, node.form, text);
   }
 
-  // ---- findings
+  // ---- findings; reasons are worded when they are asked for
 
   find(node, { reason, variable = null }) {
     const named = variable || (node.kind === K.declarator ? node.children[0] : node);
@@ -85,16 +85,17 @@ class Check {
     const key = `${this.numberOf(node)} ${isName ? named.text : ''}`;
     if (this.findings.has(key)) return;
     const at = node.at ? node.at.loc.start : null;
-    this.findings.set(key, { at, line: lineOf(node), name: isName ? named.text : null, identity: isName ? identityOf(named) : null, reason, node });
+    const words = { get reason() { return typeof reason === 'function' ? reason() : reason; } };
+    this.findings.set(key, Object.assign(words, { at, line: lineOf(node), name: isName ? named.text : null, identity: isName ? identityOf(named) : null, node }));
   }
 
-  late(entry, before) { this.find(entry.owner || entry.node, { reason: lateWords(this, entry, before) }); }
+  late(entry, before) { this.find(entry.owner || entry.node, { reason: () => lateWords(this, entry, before) }); }
 
-  notNext(source, parts, next) { this.find(source, { reason: notNextWords(this, source, parts, next) }); }
+  notNext(source, parts, next) { this.find(source, { reason: () => notNextWords(this, source, parts, next) }); }
 
   otherOperands(entry) { this.find(entry.node, { reason: 'it is done with other values' }); }
 
-  otherValue(source) { this.find(source, { reason: otherValueWords(this, source) }); }
+  otherValue(source) { this.find(source, { reason: () => otherValueWords(this, source) }); }
 
   list() { return [...this.findings.values()].sort((a, b) => this.numberOf(a.node) - this.numberOf(b.node)); }
 

@@ -3,10 +3,9 @@
 'use strict';
 
 const vm = require('vm');
-const { K, DECLARATION, isFunction } = require('../src/kinds');
+const { K, DECLARATION, NAMED, isFunction } = require('../src/kinds');
 const { estreeOf } = require('../src/from_tree');
 const { print } = require('../src/print');
-const { textOfTree } = require('../src/result_text');
 const { Random } = require('./random');
 
 const FUNCTIONS = 'g k readLevel minutesNow openGate closeGate setFlow log'.split(' ');
@@ -34,6 +33,7 @@ class Host {
     this.events = 0;
     this.steps = 0;
     this.aborted = false;
+    this.onlyReading = false;
     this.top = [];
     this.things = new Map();
     for (const name of FUNCTIONS) this.things.set(name, this.callable(name));
@@ -44,11 +44,10 @@ class Host {
   show(value, depth = 0) {
     if (value === null || (typeof value !== 'object' && typeof value !== 'function')) return Object.is(value, -0) ? '-0' : JSON.stringify(value) ?? String(value);
     if (value instanceof Error) return value.name;
-    if (!this.names.has(value)) {
-      this.names.set(value, `#${this.names.size}`);
-      if (typeof value === 'function') this.handed.push(value);
-    }
+    if (!this.names.has(value)) this.names.set(value, `#${this.names.size}`);
     const id = this.names.get(value);
+    const isHanded = typeof value === 'function' && !this.onlyReading && !id.startsWith('host');
+    if (isHanded && !this.handed.includes(value)) this.handed.push(value);
     if (typeof value === 'function') return this.plain ? id : `${id} ${value.name}`;
     if (id.startsWith('host') || depth > 3) return id;
     if (Array.isArray(value)) return `${id}[${value.map((item) => this.show(item, depth + 1))}]`;
@@ -99,6 +98,8 @@ class Host {
   touch() {
     const { name, kind, get, set } = this.random.pick(this.top);
     const what = this.level === 'reads' ? 0 : this.random.below(3);
+    // What a host that only reads finds there, it does not call.
+    this.onlyReading = this.level === 'reads';
     try {
       if (what === 0) this.log.push(`${name} is ${this.show(get())}`);
       if (what === 1 && set) set(this.some());
@@ -106,6 +107,8 @@ class Host {
     } catch (error) {
       if (error instanceof Abort) throw error;
       this.log.push(`${name} ! ${this.show(error)}`);
+    } finally {
+      this.onlyReading = false;
     }
   }
 
@@ -199,7 +202,7 @@ function topNames(root) {
   const names = new Map();
   const visit = (node, top) => {
     if (node.kind === K.declaration && (top || node.form === 0)) for (const { children: [name] } of node.children) names.set(name.text, DECLARATION[node.form]);
-    if (node.kind === K.function) names.set(node.children[0].text, 'function');
+    if (node.kind === K.function) names.set(renamed(node.children[0]).text, 'function');
     if (!isFunction(node)) node.children.forEach((child) => visit(child, node.kind === K.script));
   };
   visit(root, true);
@@ -224,9 +227,16 @@ function stepped(node, made) {
   return isFunction(node) && made.body.type === 'BlockStatement' ? { ...made, body: steppedBody(made.body) } : made;
 }
 
+// Every variable below the script's top under a name made of its context, so that no nearer one catches it.
+function renamed(node) {
+  const children = node.children.map(renamed);
+  const own = NAMED.has(node.kind) && node.bits > 1n && !RESERVED.has(node.text);
+  return own ? { ...node, children, text: `${node.text}_${node.bits}` } : { ...node, children };
+}
+
 // The script as a function that first hands the host a way to its top variables.
 function compiled(tree, tops) {
-  const text = print(estreeOf(textOfTree(tree).root, stepped));
+  const text = print(estreeOf(renamed(tree), stepped));
   const ways = tops.filter(({ name }) => !RESERVED.has(name)).map(({ name, kind }) =>
     `{ name: ${JSON.stringify(name)}, kind: ${JSON.stringify(kind)}, get: () => ${name}, set: ${kind === 'const' ? 'null' : `($v) => { ${name} = $v; }`} }`);
   const strict = /^\s*["']use strict["']/.test(text) ? '"use strict";' : '';

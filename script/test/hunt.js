@@ -1,7 +1,9 @@
 // Looks for results that are shown and differ: hunt.js [COUNT [SEED [RUNS]]]. Generated scripts beside the pass's results, and beside wrong ones,
 // against a host that does all that the least level allows at which the result is shown. The counts stand in docs/SCRIPT.md.
+// With RUN_UNSHOWN what is not shown is run, too, to see how much of it differs.
 'use strict';
 
+const fs = require('fs');
 const { changesOf } = require('../src/changes');
 const { textOfTree } = require('../src/result_text');
 const { ScriptTrouble } = require('../src/trouble');
@@ -15,9 +17,10 @@ const { wrongResult } = require('./wrong_results');
 
 const CHUNK = 500;
 
-// Shown at which level, and whether a run tells script and result apart; not shown, whether a run of the plainest host does.
-function outcomeOf(root, result, runs, seed) {
+// Shown at which level, and whether a run tells script and result apart; what is not shown is run only where asked for.
+function outcomeOf(root, result, { runs, seed, runsUnshown }) {
   const level = leastLevel(root, result);
+  if (!level && !runsUnshown) return { level: 'not shown', differs: null };
   try {
     return { level: level ? level.name : 'not shown', differs: difference(root, result, level ? level.name : 'plain', runs, seed) };
   } catch (error) {
@@ -28,14 +31,14 @@ function outcomeOf(root, result, runs, seed) {
 }
 
 class Hunt {
-  constructor(runs, seed) {
-    Object.assign(this, { runs, seed, scripts: 0, refused: 0, wrong: [] });
+  constructor(options) {
+    Object.assign(this, { options, seed: options.seed, scripts: 0, refused: 0, wrong: [] });
     this.counts = { pass: new Map(), random: new Map() };
   }
 
   // `whose` result it is: the pass's or a random one.
   look(whose, { text, root, result }) {
-    const outcome = changesOf(root, result).length ? outcomeOf(root, result, this.runs, this.seed) : null;
+    const outcome = changesOf(root, result).length ? outcomeOf(root, result, this.options) : null;
     if (!outcome) return;
     const { level, differs } = outcome;
     const count = this.counts[whose].get(level) || { all: 0, differ: 0 };
@@ -52,7 +55,7 @@ class Hunt {
     this.refused += count - built.length;
     built.forEach((script, index) => {
       this.look('pass', script);
-      const result = wrongResult(script.root, new Random(this.seed * 7777777 + first + index));
+      const result = index % 4 ? null : wrongResult(script.root, new Random(this.seed * 7777777 + first + index));
       if (result) this.look('random', { ...script, result });
     });
   }
@@ -69,8 +72,8 @@ class Hunt {
   }
 }
 
-function hunt(count, seed, runs, say = () => {}) {
-  const all = new Hunt(runs, seed);
+function hunt(count, options, say = () => {}) {
+  const all = new Hunt(options);
   for (let first = 0; first < count; first += CHUNK) {
     all.chunk(first, Math.min(CHUNK, count - first));
     say(all.summary());
@@ -80,7 +83,8 @@ function hunt(count, seed, runs, say = () => {}) {
 
 if (require.main === module) {
   const [count = 2000, seed = 1, runs = 12] = process.argv.slice(2).map(Number);
-  const all = hunt(count, seed, runs, (text) => process.stderr.isTTY && process.stderr.write(`\r${text}`));
+  const options = { seed, runs, runsUnshown: Boolean(process.env.RUN_UNSHOWN) };
+  const all = hunt(count, options, (text) => fs.writeSync(2, `${text}\n`));
   console.log(all.summary());
   for (const found of all.wrong.slice(0, 5)) console.log(JSON.stringify(found, null, 1));
   process.exitCode = all.wrong.length ? 1 : 0;
