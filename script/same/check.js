@@ -13,6 +13,7 @@ const { Order } = require('./order');
 const { lateWords, lineOf, notNextWords, otherValueWords } = require('./reasons');
 const { Regions } = require('./regions');
 const { keeper } = require('./rules');
+const { renamedFunctions } = require('./renames');
 const { Run } = require('./run');
 const { STATEMENTS, wholeFunction } = require('./statements');
 const { Values } = require('./values');
@@ -106,6 +107,7 @@ class Check {
     if (!this.isCheckable()) return this.list();
     this.pair();
     this.checkTop();
+    this.checkNames();
     this.checkFunction(this.root, this.result);
     for (const [node, after] of this.afters) if (isFunction(node) && !this.isReplaced(node)) this.checkFunction(node, after);
     return this.list();
@@ -128,6 +130,15 @@ class Check {
       if (v && (v.open || (v.top && !this.assumes.unread && this.keeps('read-by-host')))) {
         this.find(node, { reason: 'a host that reads this variable of the script\'s top finds it empty' });
       }
+    }
+  }
+
+  // A renamed function has another name for all who ask.
+  checkNames() {
+    if (this.assumes.nameless || !this.keeps('renamed')) return;
+    for (const name of renamedFunctions(this.result, this.changes)) {
+      const first = [...this.numbers.keys()].find((node) => node.kind === K.binding && node.text === name.was && node.bits === name.bits);
+      this.find(first || this.root, { reason: `the function would have the name \`${name.text}\`` });
     }
   }
 

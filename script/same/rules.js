@@ -5,10 +5,10 @@
 const RULES = `read once order all branch-events allocation operators host-read method
 foreign captured-write try-write outside-write
 uninitialised begin
-loop catch finally join iterator
+loop catch finally join
 arguments own-arguments stable loop-var initialised reached given-before emptied-around
 moved-function scope function-name renamed
-directive eval global-object open read-by-host called-early head-value kinds`.split(/\s+/);
+directive eval global-object open read-by-host called-early head-value`.split(/\s+/);
 
 // `without` is for the tests alone: the rules that are left out.
 const keeper = (without = []) => {

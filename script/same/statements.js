@@ -141,9 +141,8 @@ function loopOver(run, node, after) {
   nextItem(run, node, head);
   round(run, [body, after.children[2]], target);
   run.targets.pop();
+  // The way past the last item always comes, so what holds after the loop is a value of its own, whatever closing the iterator runs.
   run.st = run.joinAll([...target.breaks, exit], run.st);
-  // Leaving the loop closes the iterator, which runs code.
-  run.forget([], 'iterator');
   run.closeScope(node);
 }
 
