@@ -195,13 +195,13 @@ function runBeside(subject) {
   const actual = new Runner(subject.result, subject.plan, subject.reads);
   const { unjudged, differing, findings } = allTrials(subject, actual);
   const all = findings.size ? hiddenFindings(subject, actual, findings) : [];
-  return { changes: subject.changes.length, trials: subject.trials, unjudged, differing, findings: all };
+  return { changes: subject.changes.length, trials: subject.trials, unjudged, differing, neverRan: [], findings: all };
 }
 
 // A result that is the script itself need not be run.
 function guard(root, tree, options) {
   const subject = subjectOf(root, tree, options);
-  return subject.changes.length ? runBeside(subject) : { changes: 0, trials: 0, unjudged: 0, differing: 0, findings: [] };
+  return subject.changes.length ? runBeside(subject) : { changes: 0, trials: 0, unjudged: 0, differing: 0, neverRan: [], findings: [] };
 }
 
 module.exports = { guard, runBeside, subjectOf };

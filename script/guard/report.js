@@ -36,17 +36,7 @@ function findingLines(finding, { name, text }) {
   ];
 }
 
-function summary({ changes, trials, differing, unjudged, findings }, { name, held }) {
-  if (!changes) return `${name}: the pass changes nothing here`;
-  const judged = unjudged ? `, ${unjudged} could not be judged` : '';
-  const written = held ? '; nothing was written (--accept writes it all the same)' : '';
-  if (!findings.length) return `${name}: script and result did the same in ${trials} trials${judged}; a test and no proof`;
-  return `${name}: ${differing} of ${trials} trials differ${judged}; a test and no proof${written}`;
-}
+// `about` has the script's name and text.
+const reportLines = (outcome, about) => outcome.findings.flatMap((finding) => findingLines(finding, about));
 
-// `about` has the script's name and text, and whether the result was held back.
-function reportOf(outcome, about) {
-  return [...outcome.findings.flatMap((finding) => findingLines(finding, about)), summary(outcome, about)].join('\n');
-}
-
-module.exports = { reportOf };
+module.exports = { reportLines };

@@ -98,7 +98,17 @@ function otherValueWords(check, source) {
     return v && v.emptied ? 'it is still read here, and its declaration was emptied' : 'what the script does before this read is done after it, and may change it';
   }
   const between = v ? betweenWords(check, v, source) : null;
-  return between ?? 'the value in its place is not shown to be the same at this point';
+  return between ?? (v && aroundWords(check, v, source)) ?? 'the value in its place is not shown to be the same at this point';
+}
+
+// A variable of a function around: what may set it, or call this function before it has its value.
+function aroundWords(check, v, source) {
+  const inner = check.variables.functions.get(source);
+  if (v.fn === inner) return null;
+  if (v.open && v.kind !== 'const') return 'a host may set this variable of the script\'s top before this use';
+  const [write] = v.writes;
+  if (v.writes.length > 1) return `it is written on lines ${v.writes.map(({ node }) => lineOf(node)).join(' and ')}, and this function may run after either`;
+  return write && !check.order.hasValueIn(v, inner) ? `this function may be called before line ${lineOf(write.node)} gives it its value` : null;
 }
 
 module.exports = { lateWords, notNextWords, otherValueWords, lineOf };

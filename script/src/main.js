@@ -6,20 +6,20 @@ const { check } = require('./check');
 const { readScript } = require('./input');
 const { readOptions } = require('./options');
 const { runOne } = require('./run_one');
-const { PortTrouble, ScriptTrouble, UsageTrouble } = require('./trouble');
+const { PortTrouble, ScriptTrouble, UsageTrouble, toolError } = require('./trouble');
 const { write } = require('./output');
 
-const STATUS = { well: 0, refused: 1, wrong: 2, differs: 3 };
+const STATUS = { well: 0, refused: 1, wrong: 2, differs: 3, unshown: 4, tool: 5 };
 
 const say = (text) => fs.writeSync(2, `${text}\n`);
 
 function single(options) {
   const [file] = options.files;
   const name = file || 'standard input';
-  const { content, report, differs } = runOne(readScript(file || 0), name, options);
+  const { content, report, sort } = runOne(readScript(file || 0), name, options);
   if (report) say(report);
   if (content !== null) write(content, options.out, options.files);
-  return differs ? STATUS.differs : STATUS.well;
+  return STATUS[sort] ?? STATUS.well;
 }
 
 function failed(error, options) {
@@ -31,7 +31,8 @@ function failed(error, options) {
     say(`script/inline: ${error.message}`);
     return STATUS.wrong;
   }
-  throw error;
+  say(`script/inline: ${toolError(error)}`);
+  return STATUS.tool;
 }
 
 function main(list) {

@@ -1,30 +1,28 @@
-// One script: what is written, what the guard says, and whether the result does something else.
+// One script: what is written, the verdict on it, and its report.
 'use strict';
 
 const { build } = require('./build');
 const { compare } = require('./compare');
-const { guard } = require('../guard/guard');
-const { reportOf } = require('../guard/report');
-const { textOfTree } = require('./result_text');
+const { isWritten, judge } = require('../same/judge');
+const { verdictLines } = require('../same/report');
 const { treeOfText } = require('./to_tree');
 const { writeTreeFile } = require('./tree_file');
 
 const CONTENT = {
-  result: (root, answer) => textOfTree(answer.tree).text,
-  lines: (root, answer) => answer.lines,
-  compare: (root, answer) => compare(root, answer.tree),
+  result: ({ text }) => text,
+  lines: (judged, answer) => answer.lines,
+  compare: ({ root, tree }) => compare(root, tree),
 };
 
-// The comparison is for looking at; what a cabinet could run is held back while the guard objects.
+// Comparison and lines are for looking at; what a cabinet could run is held back unless it is shown or accepted.
 function runOne(text, name, options) {
-  if (options.output === 'tree') return { content: writeTreeFile(treeOfText(text)), report: null, differs: false, classes: [] };
+  if (options.output === 'tree') return { content: writeTreeFile(treeOfText(text)), report: null, sort: 'unchanged' };
   const { root, answer } = build(text, options);
-  const outcome = options.guard ? guard(root, answer.tree, options) : null;
-  const classes = outcome ? [...new Set(outcome.findings.map((finding) => finding.number))] : [];
-  const differs = !classes.every(options.accepted);
-  const content = differs && options.output !== 'compare' ? null : CONTENT[options.output](root, answer);
-  const report = outcome ? reportOf(outcome, { name, text, held: content === null }) : null;
-  return { content, report, differs, classes };
+  const judged = judge(root, answer.tree, options);
+  const isHeld = !isWritten(judged) && options.output === 'result';
+  const content = isHeld ? null : CONTENT[options.output](judged, answer);
+  const lines = verdictLines(judged, { name, text });
+  return { content, report: lines.join('\n'), lines, sort: judged.sort, judged };
 }
 
 module.exports = { runOne };
