@@ -15,6 +15,7 @@ const HOST_CONTEXT = 0n;
 const MOST_ROUNDS = 4;
 const MOST_MORE = 40;
 const MOST_TIME = 4000;
+const MOST_USUAL = 15000;
 
 // The names of the host that a script uses; one that is assigned or asked for by typeof may be absent.
 function hostNames(root, shapes) {
@@ -166,8 +167,15 @@ function oneTrial(subject, runner, number, outcome) {
 const noTrials = () => ({ trials: 0, unjudged: 0, differing: 0, findings: new Map(), one: new Set(), two: new Set() });
 
 // All usual trials of the script beside one tree.
-function allTrials(subject, runner, outcome = noTrials()) {
-  for (let number = 0; number < subject.trials; number++) oneTrial(subject, runner, number, outcome);
+function allTrials(subject, runner) {
+  const outcome = noTrials();
+  const end = Date.now() + MOST_USUAL;
+  for (let number = 0; number < subject.trials; number++) {
+    if (Date.now() < end) oneTrial(subject, runner, number, outcome);
+  }
+  // Those for which there was no time count as not judged.
+  outcome.unjudged += subject.trials - outcome.trials;
+  outcome.trials = subject.trials;
   return outcome;
 }
 

@@ -236,8 +236,9 @@ function enter(called, name, turn) {
 
 function throws(error) {
   if (error === stop) return;
-  const isStack = tried(() => error.name === 'RangeError' && /call stack/.test(error.message), false);
-  if (isStack || trace.length >= LONGEST_TRACE) stopped = true;
+  // How much memory is left is no matter of the script's meaning.
+  const isRoom = tried(() => error.name === 'RangeError' && /call stack|allocation failed/.test(error.message), false);
+  if (isRoom || trace.length >= LONGEST_TRACE) stopped = true;
   else record('throw', `throws ${tried(() => shown(error), 'something')}`);
 }
 

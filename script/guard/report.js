@@ -23,6 +23,7 @@ function valueLine({ read, node, inPlace }, text) {
 
 const classOf = ({ number, title }) => (number ? `${title} (class ${number} of docs/DIFFERENCES.md)` : 'no class of docs/DIFFERENCES.md fits');
 
+// `about` has the script's name and text.
 function findingLines(finding, { name, text }) {
   const { line, column } = finding.node.at.loc.start;
   const kept = finding.node.kind === K.script ? [] : [`    script:  ${source(finding.statement, text)}`];
@@ -36,7 +37,4 @@ function findingLines(finding, { name, text }) {
   ];
 }
 
-// `about` has the script's name and text.
-const reportLines = (outcome, about) => outcome.findings.flatMap((finding) => findingLines(finding, about));
-
-module.exports = { reportLines };
+module.exports = { findingLines };

@@ -2,22 +2,17 @@
 'use strict';
 
 const { putBack } = require('../src/changes');
-const { identityOf, K } = require('../src/kinds');
 const { textOfTree } = require('../src/result_text');
-const { guard } = require('../guard/guard');
+const { guardApart } = require('../guard/apart');
+const { readSamples } = require('../guard/samples');
 const { checkResult, leastLevel } = require('./check');
 const { keepShown } = require('./keep');
 const { remarksOf } = require('./remarks');
 
-// The variables of accepted differences.
-function variablesOf(findings) {
-  const names = findings.map(({ node }) => (node.kind === K.declarator ? node.children[0] : node)).filter(({ kind }) => kind === K.identifier || kind === K.binding);
-  return new Set(names.map(identityOf));
-}
-
 // Whether all but the accepted differences is shown.
 function restIsShown(root, tree, findings, level) {
-  return findings.length > 0 && checkResult(root, putBack(root, tree, variablesOf(findings)), level).shown;
+  const variables = new Set(findings.map(({ variable }) => variable).filter(Boolean));
+  return findings.length > 0 && checkResult(root, putBack(root, tree, variables), level).shown;
 }
 
 function sortOf({ root, tree, check, outcome }, { accepted, acceptsAll, unshown, level }) {
@@ -29,14 +24,14 @@ function sortOf({ root, tree, check, outcome }, { accepted, acceptsAll, unshown,
   return 'unshown';
 }
 
-// `options`: level, keepShown, guard, accepted, acceptsAll, unshown, and the guard's own.
-function judge(root, result, options) {
+// `about` has the script's name and text. `options`: level, keepShown, guard, accepted, acceptsAll, unshown, and the guard's own.
+function judge(root, result, about, options) {
   const kept = options.keepShown ? keepShown(root, result, options.level) : null;
   const tree = kept ? kept.tree : result;
   const check = checkResult(root, tree, options.level);
   const least = check.shown ? null : leastLevel(root, tree);
   const printed = textOfTree(tree);
-  const outcome = options.guard && check.changes.length ? guard(root, tree, options) : null;
+  const outcome = options.guard && check.changes.length ? guardApart(tree, about, { ...options, samples: readSamples(options.samples, about.name) }) : null;
   const judged = { root, tree, text: printed.text, check, least, kept, outcome, remarks: remarksOf(root, tree, printed.root, check.changes) };
   return { ...judged, sort: sortOf(judged, options) };
 }

@@ -1,7 +1,6 @@
 // The verdict for a person: a line for each place, and one that sums up.
 'use strict';
 
-const { reportLines } = require('../guard/report');
 const { levelOf } = require('./levels');
 
 const place = (name, at) => (at ? `${name}:${at.line}:${at.column + 1}` : name);
@@ -21,9 +20,12 @@ function keptLines({ whole, kept, back }, name) {
 
 function guardWords(outcome) {
   if (!outcome) return 'the guard was not asked';
+  if (outcome.failed) return `the guard could not judge: ${outcome.failed}`;
   const { trials, differing, unjudged, neverRan } = outcome;
   const unclear = [unjudged ? `${unjudged} could not be judged` : '', neverRan.length ? `changes on line ${neverRan.join(', ')} never ran` : ''].filter(Boolean);
-  const seen = differing ? `${differing} of ${trials} trials differ` : `the guard saw no difference in ${trials} trials`;
+  // What could not be judged counts against.
+  const silent = 2 * unjudged > trials ? `the guard cannot say, in ${trials} trials` : `the guard saw no difference in ${trials} trials`;
+  const seen = differing ? `${differing} of ${trials} trials differ` : silent;
   return `${[seen, ...unclear].join(', ')}; a test and no proof`;
 }
 
@@ -50,7 +52,7 @@ function verdictLines(judged, about) {
   const { name } = about;
   const { outcome, kept, check, remarks } = judged;
   return [
-    ...(outcome ? reportLines(outcome, about) : []),
+    ...(outcome ? outcome.findings.flatMap(({ lines }) => lines) : []),
     ...(kept ? keptLines(kept, name) : []),
     ...unshownLines(check, name),
     ...remarks.map(({ at, text }) => `${place(name, at)}: note: ${text}`),

@@ -18,7 +18,7 @@ const CONTENT = {
 function runOne(text, name, options) {
   if (options.output === 'tree') return { content: writeTreeFile(treeOfText(text)), report: null, sort: 'unchanged' };
   const { root, answer } = build(text, options);
-  const judged = judge(root, answer.tree, options);
+  const judged = judge(root, answer.tree, { name, text }, options);
   const isHeld = !isWritten(judged) && options.output === 'result';
   const content = isHeld ? null : CONTENT[options.output](judged, answer);
   const lines = verdictLines(judged, { name, text });

@@ -3,21 +3,28 @@
 
 const { counts } = require('./harness');
 const { testContexts, testErrors, testPrinting, testRoundTrips, testTreeOfSample } = require('./without_port');
-const { testCommand, testGuard, testRefusals, testResults, testSamples } = require('./with_port');
+const { testHunt, testKeeping, testRules, testUnknownKinds, testVerdicts } = require('./same_meaning');
+const { testCommand, testGuard, testGuardReaches, testRefusals, testResults, testSamples } = require('./with_port');
 
 testTreeOfSample();
 testRoundTrips();
 testPrinting();
 testContexts();
 testErrors();
+testRules();
+testUnknownKinds();
 if (process.env.NEGBOSUN_PORT) {
   testRefusals();
   testResults();
   testSamples();
+  testVerdicts();
+  testKeeping();
+  testHunt();
   testGuard();
+  testGuardReaches();
   testCommand();
 } else {
-  console.log('refusals, results, samples, guard and command: skipped, no port');
+  console.log('refusals, results, samples, verdicts, guard and command: skipped, no port');
 }
 console.log(`${counts.passed} passed, ${counts.failed} failed`);
 process.exitCode = counts.failed ? 1 : 0;

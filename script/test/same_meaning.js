@@ -110,7 +110,7 @@ function keeps(seed) {
 }
 
 function testKeeping() {
-  each('what is kept is shown', Array.from({ length: 60 }, (_, seed) => seed), keeps);
+  each('what is kept is shown', Array.from({ length: 30 }, (_, seed) => seed), keeps);
   each('what is shown is kept, the rest put back', [0], () => {
     const { root, answer } = build('function f(p) { const n = 5; var a = p; p = 2; return a + n; }', {});
     const { tree, back } = keepShown(root, answer.tree, 'anything');
@@ -121,7 +121,7 @@ function testKeeping() {
 
 // A smaller round of the hunt whose figures stand in docs/SCRIPT.md.
 function testHunt() {
-  each('no shown result differs in any run', [[600, { seed: 1, runs: 8 }]], ([count, options]) => {
+  each('no shown result differs in any run', [[300, { seed: 1, runs: 8 }]], ([count, options]) => {
     const all = hunt(count, options);
     console.log(all.summary());
     assert.deepStrictEqual(all.wrong, []);

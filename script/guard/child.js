@@ -1,0 +1,18 @@
+// The guard as a program of its own: a script and its result on standard input as JSON, what was found on standard output.
+'use strict';
+
+const fs = require('fs');
+const { treeOfText } = require('../src/to_tree');
+const { guard, variableOf } = require('./guard');
+const { findingLines } = require('./report');
+
+// Contexts and numbers are whole numbers of 64 bits, which JSON does not have.
+const revived = (node) => ({ ...node, bits: BigInt(node.bits), children: node.children.map(revived) });
+
+function answerTo({ name, text, tree, ...options }) {
+  const { findings, ...outcome } = guard(treeOfText(text), revived(tree), options);
+  const told = findings.map((finding) => ({ number: finding.number, variable: variableOf(finding), lines: findingLines(finding, { name, text }) }));
+  return { ...outcome, findings: told };
+}
+
+fs.writeSync(1, JSON.stringify(answerTo(JSON.parse(fs.readFileSync(0, 'utf8')))));
