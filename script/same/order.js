@@ -1,7 +1,7 @@
 // Which variables never change once they have a value, and which surely have it when a function's code runs.
 'use strict';
 
-const { K, NAMED, isFunction, preorder } = require('../src/kinds');
+const { K, BINARY, NAMED, UNARY, isFunction, preorder } = require('../src/kinds');
 const { strip, isLexical, isLiteral } = require('./variables');
 
 const LOOPS = new Set([K.while, K.do, K.for, K.forIn, K.forOf]);
@@ -130,11 +130,19 @@ class Order {
   }
 }
 
+// Made of literals by operators that run no code on primitive values.
+function isPlain(node) {
+  if (node.kind === K.unary) return UNARY[node.form] !== 'delete' && isPlain(node.children[0]);
+  if (node.kind === K.binary) return !['in', 'instanceof'].includes(BINARY[node.form]) && node.children.every(isPlain);
+  return isLiteral(node) || (node.kind === K.parenthesis && isPlain(node.children[0]));
+}
+
+const QUIET_PARTS = new Set([K.declaration, K.declarator, K.binding, K.expression, K.parenthesis, K.array, K.object, K.property]);
+
 // Runs no code and cannot fail.
 function isQuiet(node) {
-  if ([K.declaration, K.declarator].includes(node.kind)) return node.children.every((child) => child.kind === K.binding || isQuiet(child));
-  if (node.kind === K.expression || node.kind === K.parenthesis) return isQuiet(node.children[0]);
-  return isLiteral(node) || isFunction(node) || node.kind === K.empty;
+  if (isPlain(node) || isFunction(node) || node.kind === K.empty) return true;
+  return QUIET_PARTS.has(node.kind) && node.children.every(isQuiet);
 }
 
 module.exports = { Order };
