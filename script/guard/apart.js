@@ -6,7 +6,7 @@ const path = require('path');
 
 const CHILD = path.join(__dirname, 'child.js');
 const HEAP = '--max-old-space-size=400';
-const MOST_TIME = 60000;
+const MOST_TIME = 120000;
 const MOST_OUTPUT = 1 << 24;
 // Buffers are no part of the heap, so all memory is limited, too (in kilobytes; node itself reserves a good part of it).
 const LIMITED = 'ulimit -v 4000000 2>/dev/null; ulimit -c 0 2>/dev/null; exec "$0" "$@"';

@@ -14,8 +14,8 @@ const { runTrial, STANDARD, STEPS } = require('./trial');
 const HOST_CONTEXT = 0n;
 const MOST_ROUNDS = 4;
 const MOST_MORE = 40;
-const MOST_TIME = 4000;
-const MOST_USUAL = 15000;
+const MOST_TIME = 20000;
+const MOST_USUAL = 40000;
 
 // The names of the host that a script uses; one that is assigned or asked for by typeof may be absent.
 function hostNames(root, shapes) {

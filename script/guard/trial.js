@@ -9,7 +9,7 @@ const STEPS = 20000;
 const MOST_TURNS = 6;
 const LONG_TURNS = 40;
 // Only for what takes long within few steps; loops and calls end by their steps.
-const BACKSTOP = { timeout: 2000 };
+const BACKSTOP = { timeout: 5000 };
 
 // Without a prototype a context leads to no object, and so to no function, from outside; nor does code come from text.
 const realm = () => vm.createContext(Object.create(null), { codeGeneration: { strings: false, wasm: false } });
