@@ -26,6 +26,10 @@ const FORMS = { [K.declaration]: DECLARATION, [K.unary]: UNARY, [K.binary]: BINA
 // A kind or form that is not in the tables is never shown.
 const isKnown = ({ kind, form }) => (VALUES[kind] || STATEMENTS[kind] || PARTS.has(kind)) && (!FORMS[kind] || FORMS[kind][form] !== undefined);
 
+// Where a function may be declared; an engine takes one right below an `if` for one in a block.
+const LISTS = new Set([K.script, K.block, K.case]);
+const hasLooseFunction = (node) => !LISTS.has(node.kind) && node.children.some(({ kind }) => kind === K.function);
+
 const LITERAL = { [K.null]: 'null', [K.boolean]: 'boolean', [K.number]: 'number', [K.string]: 'string' };
 
 // Whether a list of statements begins with the directive that makes it strict.
@@ -116,7 +120,7 @@ class Check {
   // What the check does not know is not shown.
   isCheckable() {
     for (const { how, node } of this.changes) if (how === 'other') this.find(node, { reason: 'a change of a form that is not known' });
-    const unknown = [this.root, this.result].map((tree) => [...preorder(tree)].find((node) => !isKnown(node))).find(Boolean);
+    const unknown = [this.root, this.result].map((tree) => [...preorder(tree)].find((node) => !isKnown(node) || hasLooseFunction(node))).find(Boolean);
     if (unknown) this.find(this.numbers.has(unknown) ? unknown : this.root, { reason: 'a construct that this check does not know' });
     const evaluated = this.keeps('eval') ? namesEval(this.root) : null;
     if (evaluated) this.find(evaluated, { reason: 'code made from text can see every variable here' });

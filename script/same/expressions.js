@@ -153,9 +153,16 @@ function readTarget(run, target) {
   return value;
 }
 
+// A key that may be an object becomes a text before the value is computed in some editions of ECMA-262, after it in others.
+function keyed(run, target, [, , key]) {
+  const plain = target.kind === K.member || run.values.isPrimitive(key) || run.assumes.plain;
+  if (!plain && run.keeps('key')) run.emit(target, ['key', key]);
+}
+
 function assignMember(run, node, op) {
   const [target, right] = node.children;
   const place = reference(run, target);
+  keyed(run, target, place);
   const set = (value) => {
     run.emit(node, ['set', ...place, value]);
     return value;

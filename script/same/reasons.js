@@ -24,6 +24,7 @@ const WORDS = {
   begin: ([, id]) => `the beginning of \`${nameOf(id)}\``,
   unary: ([, op]) => `\`${op}\` on what may be an object`,
   binary: ([, op]) => `\`${op}\` on what may be an object`,
+  key: () => 'a key that may be an object',
   numeric: () => 'an operator on what may be an object',
   either: () => 'a part that may not run',
   array: () => 'a new array',

@@ -2,7 +2,7 @@
 // without the rule that script's wrong result would be shown.
 'use strict';
 
-const RULES = `read once order all branch-events allocation operators host-read method
+const RULES = `read once order all branch-events allocation operators key host-read method
 foreign captured-write try-write outside-write
 uninitialised begin
 loop catch finally join
