@@ -151,7 +151,7 @@ class Check {
     if (list.kind !== K.binding && this.keeps('directive') && isStrict(list.children) !== isStrict(other.children)) {
       this.find(this.becomesDirective(list, other) || node, { reason: 'the result would become strict by a directive "use strict"' });
     }
-    wholeFunction(new Run(this, node), node, after);
+    wholeFunction(new Run(this, node, after), node, after);
   }
 
   // The first name that became a text at a list's start.

@@ -12,6 +12,7 @@ class Order {
   constructor(variables) {
     this.variables = variables;
     this.known = new Map();
+    this.before = new Map();
   }
 
   parent(node) { return this.variables.parents.get(node); }
@@ -102,14 +103,22 @@ class Order {
   }
 
   // A hoisted function is not called while the list's statements up to the declarator run, nor by what they call or hand over.
-  isNotReachedBefore(called, { node, statement, list, index }) {
+  isNotReachedBefore(called, giver) {
     const { keeps, assumes, functions, root } = this.variables;
     if (!keeps('reached')) return true;
+    if (!this.before.has(giver.node)) this.before.set(giver.node, this.upTo(giver));
+    const { named, quiet } = this.before.get(giver.node);
+    // The host finds functions of the script's top, those of its blocks too, under their names.
+    if (functions.get(giver.statement) === root && !assumes.calm && keeps('called-early')) return quiet;
+    return quiet || !named.has(called);
+  }
+
+  // What runs in a list up to a declarator: which declared functions it may reach, and whether it runs no code at all.
+  upTo({ node, statement, list, index }) {
     const before = list.children.slice(0, index).filter((child) => child.kind !== K.function);
     before.push(...statement.children.slice(0, statement.children.indexOf(node) + 1));
-    // The host finds functions of the script's top, those of its blocks too, under their names.
-    if (functions.get(statement) === root && !assumes.calm && keeps('called-early')) return before.every(isQuiet);
-    return !this.namedFrom(before).has(called);
+    const quiet = before.every(isQuiet);
+    return { quiet, named: quiet ? null : this.namedFrom(before) };
   }
 
   // The declared functions that some nodes name, and those that these name, and so on.

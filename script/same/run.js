@@ -1,16 +1,13 @@
 // One function of script and result, run beside each other on symbols: the state, the events of both, and what is not the same.
 'use strict';
 
-const { K, identityOf } = require('../src/kinds');
+const { K, NAMED, identityOf, preorder } = require('../src/kinds');
 const { Env, State, SIDES, join } = require('./state');
 const { isLexical } = require('./variables');
 
-// Text of an event, to tell whether two are the same.
-const keyOf = (parts) => JSON.stringify(parts);
-
 class Run {
-  constructor(check, fn) {
-    Object.assign(this, { check, fn });
+  constructor(check, fn, after) {
+    Object.assign(this, { check, fn, after });
     this.values = check.values;
     this.variables = check.variables;
     this.keeps = check.keeps;
@@ -28,9 +25,7 @@ class Run {
 
   atEntry() {
     const state = new State(new Env(), new Env());
-    for (const v of this.variables.all()) {
-      if (v.fn === this.fn) continue;
-      if (!this.variables.isInside(this.fn, v.scope)) continue;
+    for (const v of this.variablesAround()) {
       const { value, maybe } = this.check.around.of(v, this.fn);
       const lost = v.emptied && this.keeps('emptied-around');
       state.p.vals.set(v.id, value);
@@ -38,6 +33,12 @@ class Run {
       if (maybe) SIDES.forEach((side) => state[side].maybe.add(v.id));
     }
     return state;
+  }
+
+  // Variables of functions around that script or result name in this function.
+  variablesAround() {
+    const named = new Set([this.fn, this.after].flatMap((node) => [...preorder(node)]).filter(({ kind }) => NAMED.has(kind)).map((node) => this.variables.of(node)));
+    return [...named].filter((v) => v && v.fn !== this.fn && this.variables.isInside(this.fn, v.scope));
   }
 
   // The function's own parameters and variables at its start.
@@ -103,7 +104,8 @@ class Run {
 
   eventId(node, parts, alloc) {
     const { part, side, owner } = this.at;
-    const key = keyOf(parts);
+    // Short, since one event may hold others.
+    const key = this.values.make(null, 'key', ...parts);
     if (part) {
       part.events.push(key);
       return `${part.prefix}.${part.events.length}`;

@@ -11,16 +11,30 @@ const strip = (node) => (node.kind === K.parenthesis ? strip(node.children[0]) :
 const isLiteral = (node) => [K.null, K.boolean, K.number, K.string].includes(node.kind);
 const isLexical = (v) => v.kind === 'let' || v.kind === 'const';
 
+// First and last number of each node's nodes, in the tree file's order.
+function spanOf(root, spans) {
+  let last = 0;
+  const visit = (node) => {
+    const span = [++last, 0];
+    spans.set(node, span);
+    node.children.forEach(visit);
+    span[1] = last;
+  };
+  visit(root);
+}
+
 class Variables {
   // `emptied` has the declarators that the pass emptied, `assumes` what the level takes for granted.
   constructor(root, emptied, assumes, keeps) {
     Object.assign(this, { root, emptied, assumes, keeps });
     this.byId = new Map();
     this.parents = new Map();
+    this.spans = new Map();
     this.functions = new Map();
     this.withTry = new Set();
     this.withArguments = new Set();
     this.hostWritten = new Set();
+    spanOf(root, this.spans);
     this.enter(root, null, root, root);
     this.exposed = exposureOf(root, this.parents);
     for (const node of preorder(root)) this.note(node);
@@ -158,8 +172,8 @@ class Variables {
   }
 
   isInside(node, outer) {
-    for (let n = node; n; n = this.parents.get(n)) if (n === outer) return true;
-    return false;
+    const [[first], [start, end]] = [this.spans.get(node), this.spans.get(outer)];
+    return start <= first && first <= end;
   }
 
   // Variables whose scope lies inside a node.

@@ -13,10 +13,11 @@ function outcomeOf(file, options) {
     const { lines, sort } = runOne(readScript(file), file, { ...options, output: 'result' });
     return { sort, lines };
   } catch (error) {
-    if (error instanceof PortTrouble) throw error;
+    // Without a port no file can be built; one that fails on a file says so for that file.
+    if (error instanceof PortTrouble && error.isAbsent) throw error;
     if (error instanceof ScriptTrouble) return { sort: 'refused', lines: error.lines(file) };
     if (error.syscall === 'open' || error.syscall === 'read') return { sort: 'refused', lines: [`${file}: ${error.message}`] };
-    return { sort: 'failed', lines: [`${file}: ${toolError(error)}`] };
+    return { sort: 'failed', lines: [`${file}: ${error instanceof PortTrouble ? error.message : toolError(error)}`] };
   }
 }
 

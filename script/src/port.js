@@ -20,7 +20,7 @@ const portPath = (named, runs) => named || process.env.NEGBOSUN_PORT || (runs !=
 function portOutput(bytes, { port, runs }) {
   const command = portPath(port, runs);
   if (!fs.existsSync(command)) {
-    throw new PortTrouble(`no port at ${command}; build it, or name one by --port or NEGBOSUN_PORT`);
+    throw Object.assign(new PortTrouble(`no port at ${command}; build it, or name one by --port or NEGBOSUN_PORT`), { isAbsent: true });
   }
   const list = runs === undefined ? [] : ['--runs', String(runs)];
   const { stdout, stderr, error } = spawnSync(command, list, { input: bytes, encoding: 'utf8', maxBuffer: LONGEST_ANSWER });

@@ -3,7 +3,7 @@
 
 const { counts } = require('./harness');
 const { testContexts, testErrors, testPrinting, testRoundTrips, testTreeOfSample } = require('./without_port');
-const { testHunt, testKeeping, testRules, testUnknownKinds, testVerdicts } = require('./same_meaning');
+const { testHunt, testKeeping, testRules, testTime, testUnknownKinds, testVerdicts } = require('./same_meaning');
 const { testCommand, testGuard, testGuardReaches, testRefusals, testResults, testSamples } = require('./with_port');
 
 testTreeOfSample();
@@ -19,6 +19,7 @@ if (process.env.NEGBOSUN_PORT) {
   testSamples();
   testVerdicts();
   testKeeping();
+  testTime();
   testHunt();
   testGuard();
   testGuardReaches();

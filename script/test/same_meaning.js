@@ -97,6 +97,25 @@ function testVerdicts() {
   });
 }
 
+// The largest scripts that the port takes, nested as deep as it goes, and with as many functions and variables.
+const LARGE = [
+  `function f(p) { var a = p; ${'g(a) ? '.repeat(90)}1${' : (g(2) ?? 3)'.repeat(90)}; return a; }`,
+  `function f(p) { var a = p; ${'if (g()) '.repeat(25)}g(2); return a; }`,
+  Array.from({ length: 60 }, (_, n) => `const a${n} = ${n}; function f${n}() { return a${n} + a${n ? n - 1 : 0}; }`).join('\n'),
+  Array.from({ length: 60 }, (_, n) => `const b${n} = ${n}; while (g(b${n})) { h++; }`).join('\n'),
+];
+
+// Processor time, since a machine may have other work; the best of some, since the first ones also translate the check itself.
+function isQuick(text) {
+  const { root, answer } = build(text, {});
+  const times = Array.from({ length: 5 }, () => {
+    const start = process.cpuUsage();
+    checkResult(root, answer.tree, 'anything');
+    return process.cpuUsage(start).user / 1000;
+  });
+  assert.ok(Math.min(...times) < 50, `${times} ms: ${text.slice(0, 60)}`);
+}
+
 // What is kept is shown, printable, and no more than the pass changed; nothing is put back where all is shown.
 function keeps(seed) {
   const { root, answer } = build(gateScript(seed), {});
@@ -107,6 +126,10 @@ function keeps(seed) {
     assert.ok(kept <= whole);
     assert.strictEqual(checkResult(root, answer.tree, name).shown, back.length === 0);
   }
+}
+
+function testTime() {
+  each('the largest scripts are checked in time', LARGE, isQuick);
 }
 
 function testKeeping() {
@@ -128,4 +151,4 @@ function testHunt() {
   });
 }
 
-module.exports = { testHunt, testKeeping, testRules, testUnknownKinds, testVerdicts };
+module.exports = { testHunt, testKeeping, testRules, testTime, testUnknownKinds, testVerdicts };
