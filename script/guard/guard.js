@@ -164,14 +164,20 @@ function oneTrial(subject, runner, number, outcome) {
   }
 }
 
+// Processor time in milliseconds, so that other work on the machine does not change what is found.
+function now() {
+  const { user, system } = process.cpuUsage();
+  return (user + system) / 1000;
+}
+
 const noTrials = () => ({ trials: 0, unjudged: 0, differing: 0, findings: new Map(), one: new Set(), two: new Set() });
 
 // All usual trials of the script beside one tree.
 function allTrials(subject, runner) {
   const outcome = noTrials();
-  const end = Date.now() + MOST_USUAL;
+  const end = now() + MOST_USUAL;
   for (let number = 0; number < subject.trials; number++) {
-    if (Date.now() < end) oneTrial(subject, runner, number, outcome);
+    if (now() < end) oneTrial(subject, runner, number, outcome);
   }
   // Those for which there was no time count as not judged.
   outcome.unjudged += subject.trials - outcome.trials;
@@ -179,10 +185,11 @@ function allTrials(subject, runner) {
   return outcome;
 }
 
-// While a changed place has not run in both, more trials with many calls, up to a bound.
+// While a changed place has not run in both, and no difference is known, more trials with many calls, up to a bound.
 function moreTrials(subject, runner, outcome) {
-  const end = Date.now() + MOST_TIME;
-  for (let more = 0; more < MOST_MORE && Date.now() < end && subject.coverage.missing(outcome.one, outcome.two).length; more++) {
+  const end = now() + MOST_TIME;
+  for (let more = 0; more < MOST_MORE && now() < end && !outcome.differing; more++) {
+    if (!subject.coverage.missing(outcome.one, outcome.two).length) return;
     oneTrial(subject, runner, subject.trials + more, outcome);
   }
 }
