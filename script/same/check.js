@@ -156,7 +156,8 @@ class Check {
 
   // The first name that became a text at a list's start.
   becomesDirective(list, other) {
-    const index = list.children.findIndex((node, at) => node.kind === K.expression && node.children[0].kind !== K.string && other.children[at].children[0].kind === K.string);
+    const isText = (node) => node.kind === K.expression && node.children[0].kind === K.string;
+    const index = list.children.findIndex((node, at) => node.kind === K.expression && !isText(node) && isText(other.children[at]));
     return index < 0 ? null : list.children[index].children[0];
   }
 }

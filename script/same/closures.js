@@ -28,7 +28,8 @@ function checkMoved(run, node) {
     if (!NAMED.has(inner.kind) || inner.bits === 0n || own.has(identityOf(inner))) continue;
     if (!run.env.vals.has(identityOf(inner))) run.nowhere(inner);
     const v = run.variables.of(inner);
-    if (v && v.emptied && run.keeps('moved-function')) run.check.find(run.reading || run.fn, { reason: `the moved function uses \`${v.name}\`, whose declaration was emptied` });
+    if (!v || !v.emptied || !run.keeps('moved-function')) continue;
+    run.check.find(run.reading || run.fn, { reason: `the moved function uses \`${v.name}\`, whose declaration was emptied` });
   }
 }
 

@@ -23,11 +23,11 @@ function renamed(root, printed) {
 }
 
 function codeFromText(root) {
-  const named = [...preorder(root)].filter((node) => (node.kind === K.identifier && node.text === 'eval') || (node.kind === K.identifier && makesCode(node)));
+  const named = [...preorder(root)].filter((node) => node.kind === K.identifier && (node.text === 'eval' || makesCode(node)));
   return named.map((node) => ({ node, text: `\`${node.text}\` makes code from text, which is not looked into` }));
 }
 
-// The names that `const` declares, and function expressions' own.
+// The names that `const` declares.
 function constants(root) {
   const found = new Set();
   for (const node of preorder(root)) {
@@ -42,7 +42,8 @@ function constantWrites(root) {
   for (const parent of preorder(root)) {
     for (const node of parent.children) {
       const isName = node.kind === K.binding || node.kind === K.identifier;
-      if (isName && names.has(identityOf(node)) && Variables.writeOf(node, parent)) found.push({ node, text: `the constant \`${node.text}\` is written here; that fails when it runs` });
+      if (!isName || !names.has(identityOf(node)) || !Variables.writeOf(node, parent)) continue;
+      found.push({ node, text: `the constant \`${node.text}\` is written here; that fails when it runs` });
     }
   }
   return found;

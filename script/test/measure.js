@@ -51,6 +51,8 @@ for (let first = 0; first < count; first += CHUNK) {
   resultsOf(texts).forEach(measure);
 }
 const { scripts, changed, changes, longest, time, differ, shownAndDiffer } = totals;
-console.log(`${scripts} scripts, ${changed} changed, ${changes} changes; ${(time / changed / LEVELS.length).toFixed(2)} ms for a script and level, at most ${longest.toFixed(0)} ms`);
-for (const [name, { shown, kept }] of levels) console.log(`${name}: ${shown} shown (${(100 * shown / changed).toFixed(1)} %), ${kept} changes kept (${(100 * kept / changes).toFixed(1)} %)`);
+const mean = (time / changed / LEVELS.length).toFixed(2);
+const part = (some, whole) => `(${(100 * some / whole).toFixed(1)} %)`;
+console.log(`${scripts} scripts, ${changed} changed, ${changes} changes; ${mean} ms for a script and level, at most ${longest.toFixed(0)} ms`);
+for (const [name, { shown, kept }] of levels) console.log(`${name}: ${shown} shown ${part(shown, changed)}, ${kept} changes kept ${part(kept, changes)}`);
 if (process.env.GUARD) console.log(`found different by the guard: ${differ}, of these shown at a level: ${shownAndDiffer}`);
