@@ -9,10 +9,15 @@ const { findingLines } = require('./report');
 // Contexts and numbers are whole numbers of 64 bits, which JSON does not have.
 const revived = (node) => ({ ...node, bits: BigInt(node.bits), children: node.children.map(revived) });
 
+// A finding without its trees: its place, what it was told from, and its lines.
+function plainFinding(finding, about) {
+  const { number, title, shown, entered, node } = finding;
+  return { number, title, shown, entered, node: { at: { loc: { start: node.at.loc.start } } }, variable: variableOf(finding), lines: findingLines(finding, about) };
+}
+
 function answerTo({ name, text, tree, ...options }) {
   const { findings, ...outcome } = guard(treeOfText(text), revived(tree), options);
-  const told = findings.map((finding) => ({ number: finding.number, variable: variableOf(finding), lines: findingLines(finding, { name, text }) }));
-  return { ...outcome, findings: told };
+  return { ...outcome, findings: findings.map((finding) => plainFinding(finding, { name, text })) };
 }
 
 fs.writeSync(1, JSON.stringify(answerTo(JSON.parse(fs.readFileSync(0, 'utf8')))));
