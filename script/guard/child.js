@@ -11,8 +11,10 @@ const revived = (node) => ({ ...node, bits: BigInt(node.bits), children: node.ch
 
 // A finding without its trees: its place, what it was told from, and its lines.
 function plainFinding(finding, about) {
-  const { number, title, shown, entered, node } = finding;
-  return { number, title, shown, entered, node: { at: { loc: { start: node.at.loc.start } } }, variable: variableOf(finding), lines: findingLines(finding, about) };
+  const { number, title, shown, entered } = finding;
+  const { text, at } = finding.node;
+  const node = { text, at: { loc: { start: at.loc.start } } };
+  return { number, title, shown, entered, node, variable: variableOf(finding), lines: findingLines(finding, about) };
 }
 
 function answerTo({ name, text, tree, ...options }) {
