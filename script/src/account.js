@@ -5,7 +5,7 @@ const { noteOf } = require('./compare');
 const { preorder } = require('./kinds');
 const { limitsOf } = require('./limits');
 const { countedVariables, whyChanged } = require('./reasons');
-const { REFUSED, verdictOf } = require('./verdict');
+const { FAILED, REFUSED, verdictOf } = require('./verdict');
 
 const count = (edits, how) => edits.filter((edit) => edit.how === how).length;
 
@@ -27,8 +27,8 @@ function findingOf({ number, title, node, shown, entered }) {
 
 function testOf(outcome) {
   if (!outcome) return null;
-  const { trials, differing, unjudged, findings } = outcome;
-  return { trials, differing, unjudged, findings: findings.map(findingOf) };
+  const { trials, differing, unjudged, neverRan, failed = null, findings } = outcome;
+  return { trials, differing, unjudged, neverRan, failed, findings: findings.map(findingOf) };
 }
 
 // `facts` has the script's tree, the port's answer, the result's own text, what the guard says, and a verdict, if one was given.
@@ -53,9 +53,10 @@ function accountOf({ name, text, root, answer, own, outcome, verdict, isHeld }) 
 }
 
 // A script that has no result: `refusals` have line, column (both null where there is no place), message and what to do.
-function refusedAccount(name, text, refusals) {
+function refusedAccount(name, text, refusals, isToolsFault = false) {
+  const verdict = isToolsFault ? FAILED : REFUSED;
   return {
-    file: name, verdict: REFUSED, isWritten: false, counts: null, limits: [], variables: [], changes: [], trials: null, refusals, script: text, result: null,
+    file: name, verdict, isWritten: false, counts: null, limits: [], variables: [], changes: [], trials: null, refusals, script: text, result: null,
   };
 }
 

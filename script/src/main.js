@@ -8,20 +8,19 @@ const { nameOf, readScript, scriptsOf } = require('./input');
 const { many } = require('./many');
 const { readOptions } = require('./options');
 const { runOne } = require('./run_one');
-const { FileTrouble, PortTrouble, ScriptTrouble, UsageTrouble } = require('./trouble');
+const { STATUS, statusOf } = require('./status');
+const { FileTrouble, PortTrouble, ScriptTrouble, UsageTrouble, toolError } = require('./trouble');
 const { write } = require('./output');
-
-const STATUS = { well: 0, refused: 1, wrong: 2, differs: 3 };
 
 const say = (text) => fs.writeSync(2, `${text}\n`);
 
 function single(options) {
   const [file] = options.files;
   options.text = readScript(file);
-  const { content, report, differs } = runOne(options.text, nameOf(file), options);
+  const { content, report, sort } = runOne(options.text, nameOf(file), options);
   if (report) say(report);
   if (content !== null) write(content, options.out, options.files);
-  return differs ? STATUS.differs : STATUS.well;
+  return statusOf(sort);
 }
 
 function failed(error, options) {
@@ -33,7 +32,8 @@ function failed(error, options) {
     say(`script/inline: ${error.message}`);
     return STATUS.wrong;
   }
-  throw error;
+  say(`script/inline: ${toolError(error)}`);
+  return STATUS.tool;
 }
 
 function main(list) {
@@ -44,9 +44,9 @@ function main(list) {
       write(options.help);
       return STATUS.well;
     }
-    if (options.isMany) return many(options, STATUS, say);
+    if (options.isMany) return many(options, say);
     if (options.output !== 'check') return single(options);
-    return check({ ...options, files: scriptsOf(options.files).map(({ file }) => file) }, STATUS);
+    return check({ ...options, files: scriptsOf(options.files).map(({ file }) => file) });
   } catch (error) {
     return failed(error, options);
   }

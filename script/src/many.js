@@ -11,16 +11,17 @@ const { write } = require('./output');
 const { pageOf } = require('./page');
 const { indexOf, summary } = require('./page_index');
 const { runOne } = require('./run_one');
-const { FileTrouble, ScriptTrouble, UsageTrouble } = require('./trouble');
+const { findingsOf, sortOfError, worstOf } = require('./status');
+const { ScriptTrouble, UsageTrouble } = require('./trouble');
 const { VERSION } = require('./version');
 
 const refusalOf = ({ at, message, hint = null }) => ({ line: at ? at.line : null, column: at ? at.column + 1 : null, message, hint });
 
 // A script that has no result, with what is said of it.
-function refusedEntry(script, error, text) {
-  const name = nameOf(script.file);
-  const account = refusedAccount(name, text, error.findings.map(refusalOf));
-  return { ...script, account, edits: null, content: null, sort: error instanceof FileTrouble ? 'wrong' : 'refused', told: troubleLines(error, name, text) };
+function withoutResult(script, error, text) {
+  const [name, sort, findings] = [nameOf(script.file), sortOfError(error), findingsOf(error)];
+  const account = refusedAccount(name, text, findings.map(refusalOf), sort === 'tool');
+  return { ...script, account, edits: null, content: null, sort, told: troubleLines(new ScriptTrouble(findings), name, text) };
 }
 
 function entryOf(script, options) {
@@ -30,8 +31,7 @@ function entryOf(script, options) {
     const { content, report, sort, account, edits } = runOne(text, nameOf(script.file), { ...options, output: 'result' });
     return { ...script, account: account(), edits: edits(), content, sort, told: report ? [report] : [] };
   } catch (error) {
-    if (error instanceof ScriptTrouble) return refusedEntry(script, error, text);
-    throw error;
+    return withoutResult(script, error, text);
   }
 }
 
@@ -78,21 +78,14 @@ function writeResults(entries, { outDir }, say) {
 const jsonOf = (entries) => `${JSON.stringify({ version: VERSION, scripts: entries.map(({ account }) => account) }, null, 2)}\n`;
 
 // The worst of all decides.
-const WORST = ['wrong', 'refused', 'differs', 'unshown'];
-
-function worst(entries, status) {
-  const found = WORST.find((sort) => entries.some((entry) => entry.sort === sort));
-  return status[found] ?? status.well;
-}
-
-function many(options, status, say) {
+function many(options, say) {
   const entries = entriesOf(options);
   entries.forEach(({ told }) => told.forEach(say));
   if (entries.length > 1) say(`${entries.length} scripts: ${summary(entries.map(({ account }) => account))}`);
   if (options.outDir !== undefined) writeResults(entries, options, say);
   if (options.page !== undefined) writePages(entries, options);
   if (options.json) write(jsonOf(entries), options.out, options.files);
-  return worst(entries, status);
+  return worstOf(entries.map(({ sort }) => sort));
 }
 
 module.exports = { many };

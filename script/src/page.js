@@ -15,7 +15,7 @@ function countWords({ replaced, emptied, renamed, nodes, runs }) {
 
 function verdictPart({ verdict, isWritten, counts }) {
   const level = verdict.level ? html`<p>Level: ${verdict.level}</p>` : '';
-  const written = isWritten || verdict.status === 'refused' ? '' : html`<p>The result was held back: it is shown here to be looked at, and was not written.</p>`;
+  const written = isWritten || !counts ? '' : html`<p>The result was held back: it is shown here to be looked at, and was not written.</p>`;
   const changed = counts ? html`<p>${countWords(counts)}</p>` : '';
   return html`<section class="verdict" aria-label="Verdict">
 <p><strong><span class="sign" aria-hidden="true">${verdict.sign}</span> ${verdict.title}</strong></p>
@@ -65,16 +65,16 @@ function findingNote({ when, script, result }) {
   return html`<li class="finding"><b>≠</b> When ${when}: the script does <code>${script}</code>, the result <code>${result}</code>.</li>`;
 }
 
-function refusalNote({ line, column, message, hint }) {
+function refusalNote({ line, column, message, hint }, { status }) {
   const place = line === null ? '' : html`, line ${line}, column ${column}`;
-  return html`<li class="refusal"><b>✕ refused</b>${place}: ${sentence(message)} ${hint ? begun(sentence(hint)) : ''}</li>`;
+  return html`<li class="refusal"><b>✕ ${status}</b>${place}: ${sentence(message)} ${hint ? begun(sentence(hint)) : ''}</li>`;
 }
 
 // All that is told of a line of the script.
 function notesOf(account, line) {
   const here = (list) => list.filter((one) => (one.shownAt ?? one.line) === line);
   return [
-    ...here(account.refusals).map(refusalNote),
+    ...here(account.refusals).map((refusal) => refusalNote(refusal, account.verdict)),
     ...here(account.verdict.places).map((place) => placeNote(place, account.verdict)),
     ...here(account.trials ? account.trials.findings : []).map(findingNote),
     ...here(account.changes).map(changeNote),
@@ -125,7 +125,7 @@ ${sidesTable(['Line', 'Script'], lines)}`;
 // What has no line of its own.
 function unplacedPart(account) {
   const notes = [
-    ...account.refusals.filter(({ line }) => line === null).map(refusalNote),
+    ...account.refusals.filter(({ line }) => line === null).map((refusal) => refusalNote(refusal, account.verdict)),
     ...account.verdict.places.filter(({ line }) => !line).map((place) => placeNote(place, account.verdict)),
   ];
   return notes.length ? html`<ul>${notes}</ul>` : '';

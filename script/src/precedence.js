@@ -66,9 +66,9 @@ function clashes(parent, node) {
   return LOGICAL.has(outer) && LOGICAL.has(inner) && (outer === '??') !== (inner === '??');
 }
 
-// At the beginning of a statement, and of an arrow's body, `{` and `function` mean something else; a text would be a directive.
+// At the beginning of a statement, and of an arrow's body, `{` and `function` mean something else; a text could be a directive, or let the next one be one.
 function startsOtherwise(parent, node, level) {
-  if (node.kind === K.string) return parent.kind === K.expression && node.text === 'use strict';
+  if (node.kind === K.string) return parent.kind === K.expression;
   const braced = node.kind === K.object || node.kind === K.functionExpression;
   return braced && (level > P.assign || [K.expression, K.arrow, K.sequence].includes(parent.kind));
 }

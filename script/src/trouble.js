@@ -23,6 +23,9 @@ class UsageTrouble extends Error {}
 // The port could not be run, or answered what no port answers.
 class PortTrouble extends Error {}
 
+// Anything else is a mistake in the tool itself.
+const toolError = (error) => `an error of the tool itself, not of the script: ${String(error && error.message ? error.message : error).split('\n')[0]}`;
+
 const trouble = (at, message, hint = null) => new ScriptTrouble([{ at, message, hint }]);
 
-module.exports = { FileTrouble, ScriptTrouble, UsageTrouble, PortTrouble, trouble };
+module.exports = { FileTrouble, ScriptTrouble, UsageTrouble, PortTrouble, toolError, trouble };

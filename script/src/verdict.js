@@ -18,6 +18,7 @@ const WORDS = {
   },
   unchanged: { sign: '=', title: 'Nothing was changed: the result is the script.', words: 'The pass found no name to replace.' },
   refused: { sign: '✕', title: 'This script cannot be built.', words: 'There is no result. What stands in the way is told at its place.' },
+  failed: { sign: '✕', title: 'The tool failed on this script.', words: 'There is no result. That is a mistake of the tool, not of the script.' },
 };
 
 const STATUSES = Object.keys(WORDS);
@@ -28,7 +29,8 @@ function placeOf(finding) {
   return { line, column: column + 1, variable: finding.node.text, reason };
 }
 
-function trialWords({ trials, differing, unjudged, neverRan = [] }) {
+function trialWords({ trials, differing, unjudged, neverRan = [], failed = null }) {
+  if (failed) return `Script and result could not be run beside each other: ${failed}.`;
   const judged = unjudged ? `; ${unjudged} could not be judged` : '';
   const unseen = neverRan.length ? `; changes on line ${neverRan.join(', ')} never ran` : '';
   return `Script and result were run beside each other in ${trials} trials: ${differing || 'none'} differed${judged}${unseen}.`;
@@ -59,10 +61,12 @@ function verdictOfCheck({ sort, check, kept = null, outcome = null, remarks = []
 function verdictOf({ given, outcome, isChanged }) {
   const { status, level = null, places = [], also = null } = given || fromGuard(outcome, isChanged);
   const known = WORDS[status] || { sign: '?', title: status, words: '' };
-  const tests = also || (outcome && outcome.trials ? trialWords(outcome) : null);
+  const tests = also || (outcome && (outcome.trials || outcome.failed) ? trialWords(outcome) : null);
   return { status, level, ...known, tests, places };
 }
 
-const REFUSED = { status: 'refused', level: null, ...WORDS.refused, tests: null, places: [] };
+const without = (status) => ({ status, level: null, ...WORDS[status], tests: null, places: [] });
+const REFUSED = without('refused');
+const FAILED = without('failed');
 
-module.exports = { REFUSED, STATUSES, verdictOf, verdictOfCheck };
+module.exports = { FAILED, REFUSED, STATUSES, verdictOf, verdictOfCheck };

@@ -34,6 +34,7 @@ const TEXTS = [
   ['const b = a; function f(a) { return {a}.a > b; }', 'const b = a; function f(a$1) { return {a: a$1}.a > a; }'],
   ['function h(p) {\n  var t = [p]\n  g = 1\n  t.x\n}', 'function h(p) {\n  var t\n  g = 1\n  ;[p].x\n}'],
   ['const a = "use strict";\nfunction f() { a; g(); }', 'const a = "use strict";\nfunction f() { ("use strict"); g(); }'],
+  ['const a = "x";\nfunction f() { a; "use strict"; g(); }', 'const a = "x";\nfunction f() { ("x"); "use strict"; g(); }'],
   ['var x;\r\nx;\r\n', 'var x;\r\nvoid 0;\r\n'],
   ['\ufeffconst a = 1; f(a)', '\ufeffconst a = 1; f(1)'],
   ['#!/usr/bin/env node\nconst a = 1; f(a)', '#!/usr/bin/env node\nconst a = 1; f(1)'],
