@@ -31,12 +31,12 @@ function testOf(outcome) {
   return { trials, differing, unjudged, neverRan, failed, findings: findings.map(findingOf) };
 }
 
-// `facts` has the script's tree, the port's answer, the result's own text, what the guard says, and a verdict, if one was given.
+// `facts` has the script's tree, the port's answer, the result's own text, what the guard says, and the check's verdict.
 function accountOf({ name, text, root, answer, own, outcome, verdict, isHeld }) {
   const variables = countedVariables(root, own.edits);
   return {
     file: name,
-    verdict: verdictOf({ given: verdict, outcome, isChanged: own.edits.length > 0 }),
+    verdict: verdictOf({ given: verdict, outcome }),
     isWritten: !isHeld,
     counts: {
       nodes: [...preorder(root)].length, runs: answer.runs,

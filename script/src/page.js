@@ -15,11 +15,12 @@ function countWords({ replaced, emptied, renamed, nodes, runs }) {
 
 function verdictPart({ verdict, isWritten, counts }) {
   const level = verdict.level ? html`<p>Level: ${verdict.level}</p>` : '';
+  const least = verdict.least ? html`<p>It is shown at another level: ${verdict.least}</p>` : '';
   const written = isWritten || !counts ? '' : html`<p>The result was held back: it is shown here to be looked at, and was not written.</p>`;
   const changed = counts ? html`<p>${countWords(counts)}</p>` : '';
   return html`<section class="verdict" aria-label="Verdict">
 <p><strong><span class="sign" aria-hidden="true">${verdict.sign}</span> ${verdict.title}</strong></p>
-<p>${verdict.words}</p>${level}${verdict.tests ? html`<p>${verdict.tests}</p>` : ''}${written}${changed}
+<p>${verdict.words}</p>${level}${least}${verdict.tests ? html`<p>${verdict.tests}</p>` : ''}${written}${changed}
 </section>`;
 }
 

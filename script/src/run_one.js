@@ -10,7 +10,7 @@ const { verdictLines } = require('../same/report');
 const { ownText } = require('./own_text');
 const { treeOfText } = require('./to_tree');
 const { writeTreeFile } = require('./tree_file');
-const { verdictOfCheck } = require('./verdict');
+const { verdictOfCheck, wordsOf } = require('./verdict');
 
 const CONTENT = {
   result: ({ own }) => own().text,
@@ -33,7 +33,7 @@ function runOne(text, name, options) {
   const isHeld = !isWritten(judged) && options.output === 'result';
   const content = isHeld ? null : CONTENT[options.output]({ text, answer, own });
   const lines = verdictLines(judged, { name, text });
-  const verdict = verdictOfCheck(judged, levelOf(judged.check.level).words);
+  const verdict = verdictOfCheck(judged, wordsOf(levelOf(judged.check.level)));
   const account = () => accountOf({ name, text, root, answer, own: own(), outcome: judged.outcome, verdict, isHeld });
   return { content, report: lines.join('\n'), lines, sort: judged.sort, judged, account, edits: () => own().edits };
 }

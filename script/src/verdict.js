@@ -6,7 +6,7 @@ const WORDS = {
   shown: { sign: '✓', title: 'The result does what the script does.', words: 'This was shown, whatever the host does within the level named.' },
   'not shown': {
     sign: '?', title: 'It is not shown that the result does what the script does.',
-    words: 'Nothing was found that tells them apart, but that is a test and no proof. Look at the marked places before a cabinet runs the result.',
+    words: 'Nothing is known that tells them apart, but that is no proof. Look at the marked places before a cabinet runs the result.',
   },
   different: {
     sign: '≠', title: 'The result does something else than the script.',
@@ -26,7 +26,7 @@ const STATUSES = Object.keys(WORDS);
 function placeOf(finding) {
   const { line, column } = finding.node.at.loc.start;
   const reason = finding.number ? `${finding.title} (class ${finding.number})` : 'no known class fits';
-  return { line, column: column + 1, variable: finding.node.text, reason };
+  return { line, column: column + 1, variable: finding.node.text, reason, kind: 'different' };
 }
 
 function trialWords({ trials, differing, unjudged, neverRan = [], failed = null }) {
@@ -36,37 +36,37 @@ function trialWords({ trials, differing, unjudged, neverRan = [], failed = null 
   return `Script and result were run beside each other in ${trials} trials: ${differing || 'none'} differed${judged}${unseen}.`;
 }
 
-// What the guard alone lets one say: `outcome` is null where it was not asked.
-function fromGuard(outcome, isChanged) {
-  if (!isChanged) return { status: 'unchanged', places: [] };
-  if (!outcome) return { status: 'not shown', places: [], also: 'Script and result were not run beside each other.' };
-  const status = outcome.findings.length ? 'different' : 'not shown';
-  return { status, places: outcome.findings.map(placeOf), also: trialWords(outcome) };
+// `outcome` is null where script and result were not run.
+function testWords(outcome, status) {
+  if (outcome) return trialWords(outcome);
+  return status === 'unchanged' ? null : 'Script and result were not run beside each other.';
 }
+
+// A level by its name and what it stands for.
+const wordsOf = ({ name, words }) => `${name}, ${words}`;
 
 const STATUS_OF = { shown: 'shown', unchanged: 'unchanged', accepted: 'accepted', unshown: 'not shown', differs: 'different' };
 
 const told = (kind) => ({ at, name = null, reason, text }) => ({ line: at ? at.line : null, column: at ? at.column + 1 : null, variable: name, reason: reason ?? text, kind });
 
 // The verdict of a static check as page and JSON take it; `level` is what is taken for granted of the host, in words.
-function verdictOfCheck({ sort, check, kept = null, outcome = null, remarks = [] }, level) {
+function verdictOfCheck({ sort, check, kept = null, outcome = null, least = null, remarks = [] }, level) {
   const findings = outcome ? outcome.findings.map(placeOf) : [];
   const back = kept ? kept.back.map(told('put back')) : [];
   const places = [...findings, ...check.findings.map(told('not shown')), ...back, ...remarks.map(told('note'))];
-  return { status: STATUS_OF[sort] || sort, level, places };
+  return { status: STATUS_OF[sort] || sort, level, least: least && wordsOf(least), places };
 }
 
-// `given` is the verdict of a check, where there is one: { status, level, places }, of which parts may be absent. A place is
+// `given` is the verdict of a check, { status, level, least, places }, of which parts may be absent. A place is
 // { line, variable, reason } and may have a kind of its own (put back, note); without one it is of the verdict's.
-function verdictOf({ given, outcome, isChanged }) {
-  const { status, level = null, places = [], also = null } = given || fromGuard(outcome, isChanged);
+function verdictOf({ given, outcome }) {
+  const { status, level = null, least = null, places = [] } = given;
   const known = WORDS[status] || { sign: '?', title: status, words: '' };
-  const tests = also || (outcome && (outcome.trials || outcome.failed) ? trialWords(outcome) : null);
-  return { status, level, ...known, tests, places };
+  return { status, level, least, ...known, tests: testWords(outcome, status), places };
 }
 
-const without = (status) => ({ status, level: null, ...WORDS[status], tests: null, places: [] });
+const without = (status) => ({ status, level: null, least: null, ...WORDS[status], tests: null, places: [] });
 const REFUSED = without('refused');
 const FAILED = without('failed');
 
-module.exports = { FAILED, REFUSED, STATUSES, verdictOf, verdictOfCheck };
+module.exports = { FAILED, REFUSED, STATUSES, verdictOf, verdictOfCheck, wordsOf };

@@ -63,7 +63,8 @@ class Hunt {
   summaryOf(whose) {
     const counts = [...this.counts[whose]].sort();
     const sum = counts.reduce((total, [, { all }]) => total + all, 0);
-    return `${sum} changed (${counts.map(([level, { all, differ }]) => `${level} ${all}, of these ${differ} seen to differ`).join('; ')})`;
+    const seen = (level, differ) => (level === 'not shown' && !this.options.runsUnshown ? 'which were not run' : `of these ${differ} seen to differ`);
+    return `${sum} changed (${counts.map(([level, { all, differ }]) => `${level} ${all}, ${seen(level, differ)}`).join('; ')})`;
   }
 
   summary() {

@@ -77,15 +77,15 @@ function checkRefused() {
 // A verdict of a check, with parts absent, is shown with its sign, level and places.
 function checkVerdicts() {
   const { account, edits } = made('x.js', 'var a = 1;\nf(a);\n');
-  const shown = (given) => plain(pageOf({ ...account, verdict: verdictOf({ given, outcome: null, isChanged: true }) }, edits));
+  const shown = (given) => plain(pageOf({ ...account, verdict: verdictOf({ given, outcome: null }) }, edits));
   assert.match(shown({ status: 'shown', level: 'any host' }), /✓ The result does what the script does\.[^]*Level: any host/);
   assert.match(shown({ status: 'not shown', places: [{ line: 2, variable: 'a', reason: 'a is written on line 9' }] }), /\? not shown, line 2 a: a is written on line 9\./);
   assert.match(shown({ status: 'different', places: [{ reason: 'somewhere' }] }), /≠ different: somewhere\./);
   assert.match(shown({ status: 'unchanged' }), /= Nothing was changed/);
-  const checked = { sort: 'unshown', check: { findings: [{ at: { line: 2, column: 2 }, name: 'a', reason: 'a is written on line 9' }] },
+  const checked = { sort: 'unshown', least: { name: 'plain', words: 'a plain host' }, check: { findings: [{ at: { line: 2, column: 2 }, name: 'a', reason: 'a is written on line 9' }] },
     kept: { back: [{ at: { line: 1, column: 4 }, name: 'a', reason: 'the host may read it' }] }, remarks: [{ at: null, text: 'eval is used' }] };
   const said = shown(verdictOfCheck(checked, 'any host'));
-  assert.match(said, /\? It is not shown[^]*Level: any host/);
+  assert.match(said, /\? It is not shown[^]*Level: any host[^]*It is shown at another level: plain, a plain host/);
   for (const note of ['? not shown, line 2 a: a is written on line 9.', '↩ put back, line 1 a: the host may read it.', 'i note: eval is used.']) assert.ok(said.includes(note), note);
 }
 

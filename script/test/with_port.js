@@ -187,6 +187,40 @@ function keptOnly() {
   assert.match(said, /0 of 2 changes are kept; this is no longer the pass's own answer/);
 }
 
+// Page and JSON have the check's verdict, and only what is kept.
+function accounts() {
+  const told = (list, text) => {
+    const { status, text: json } = inline(['--no-guard', '--json', ...list], text);
+    return { status, ...JSON.parse(json).scripts[0] };
+  };
+  const held = told([], CORE);
+  assert.deepStrictEqual([held.status, held.verdict.status, held.isWritten, held.changes.length], [4, 'not shown', false, 2]);
+  assert.deepStrictEqual(held.verdict.places.map(({ line, variable, kind }) => [line, variable, kind]), [[3, 'change', 'not shown'], [5, 'change', 'not shown']]);
+  const kept = told(['--keep-shown'], CORE);
+  assert.deepStrictEqual([kept.status, kept.result, kept.changes], [0, CORE, []]);
+  assert.ok(kept.verdict.places.some(({ variable, kind }) => variable === 'change' && kind === 'put back'));
+  assert.doesNotMatch(inline(['--no-guard', '--keep-shown', '--compare'], CORE).text, /^ {6}\+/m);
+  assert.match(told([], 'var x = 1; x;').verdict.least, /^apart, such a host/);
+}
+
+// A folder of results is held back with the one that is not shown.
+function heldFolder() {
+  const folder = fs.mkdtempSync(path.join(os.tmpdir(), 'inline-'));
+  try {
+    const [well, core, built] = ['well.js', 'core.js', 'built'].map((name) => path.join(folder, name));
+    fs.writeFileSync(well, 'const a = 7; log(a);');
+    fs.writeFileSync(core, CORE);
+    const { status, said } = inline(['--no-guard', '--out-dir', built, well, core]);
+    assert.strictEqual(status, 4);
+    assert.match(said, /2 scripts: 1 shown, 1 not shown\nnothing was written to .*: 1 of 2 scripts has no result/);
+    assert.strictEqual(fs.existsSync(built), false);
+    assert.strictEqual(inline(['--no-guard', '--keep-shown', '--out-dir', built, well, core]).status, 0);
+    assert.deepStrictEqual([read(path.join(built, 'well.js')), read(path.join(built, 'core.js'))], ['const a = 7; log(7);', CORE]);
+  } finally {
+    fs.rmSync(folder, { recursive: true });
+  }
+}
+
 function remarks() {
   const said = (text) => inline(['--no-guard', '--host=plain'], text).said;
   assert.match(said('var lead = 35;\nlog(lead);'), /:1:5: note: `lead` of the script's top is emptied/);
@@ -206,6 +240,10 @@ function toolFails() {
   const many = inline(['--check', sampleFile('levels')], '', env);
   assert.strictEqual(many.status, 5);
   assert.match(many.text, /levels.js: an error of the tool itself.*\n1 files: .* 1 on which the tool failed\n$/);
+  const told = inline(['--json', sampleFile('levels'), sampleFile('tide')], '', env);
+  assert.strictEqual(told.status, 5);
+  assert.deepStrictEqual(JSON.parse(told.text).scripts.map(({ verdict }) => verdict.status), ['failed', 'failed']);
+  assert.match(told.said, /levels.js: an error of the tool itself.*\n.*tide.js: an error of the tool itself.*\n2 scripts: 2 failed\n$/);
 }
 
 // Only a real configuration lets the changed place run.
@@ -247,6 +285,8 @@ const COMMANDS = {
   },
   'not shown': notShown,
   'only what is shown is kept': keptOnly,
+  'the verdict in JSON': accounts,
+  'a folder with a result that is not shown': heldFolder,
   'accepted by class only if the rest is shown': () => {
     const rest = `${DIFFERING} function h(p) { var end = p + 30; closeGate(end); }`;
     assert.deepStrictEqual([inline(['--accept=5'], rest).status, inline(['--accept'], rest).status], [4, 0]);
