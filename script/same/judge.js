@@ -30,9 +30,9 @@ function judge(root, result, about, options) {
   const tree = kept ? kept.tree : result;
   const check = checkResult(root, tree, options.level);
   const least = check.shown ? null : leastLevel(root, tree);
-  const printed = textOfTree(tree);
+  const printed = textOfTree(tree).root;
   const outcome = options.guard && check.changes.length ? guardApart(tree, about, { ...options, samples: readSamples(options.samples, about.name) }) : null;
-  const judged = { root, tree, text: printed.text, check, least, kept, outcome, remarks: remarksOf(root, tree, printed.root, check.changes) };
+  const judged = { root, tree, check, least, kept, outcome, remarks: remarksOf(root, tree, printed, check.changes) };
   return { ...judged, sort: sortOf(judged, options) };
 }
 
