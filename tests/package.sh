@@ -50,7 +50,8 @@ has_all() {
     local file
     dpkg-deb --contents "$deb" >"$out/contents" || return
     for file in usr/bin/negbosun usr/bin/negbosun-inline usr/bin/negbosun-script usr/include/negbosun.h "usr/lib/$multiarch/libnegbosun.a" \
-        "usr/lib/$multiarch/pkgconfig/negbosun.pc" usr/share/doc/negbosun/copyright usr/share/doc/negbosun/TREE.md; do
+        "usr/lib/$multiarch/pkgconfig/negbosun.pc" usr/share/doc/negbosun/{copyright,TREE.md,MILLERS.md,SAME_MEANING.md} \
+        usr/lib/negbosun/script/{src/own_text.js,src/page.js,same/check.js,guard/child.js}; do
         grep -q " \./$file\( ->.*\)\?\$" "$out/contents" || { echo "no $file"; return 1; }
     done
     ! grep -v " root/root " "$out/contents"
@@ -60,7 +61,7 @@ depends_on_libraries() {
     local depends package libraries
     depends=$(dpkg-deb --field "$deb" Depends) || return
     libraries=$(sed -n 's/^for package in \(.*\); do$/\1/p' script/setup)
-    for package in nodejs libc6 ${libraries:-node-acorn node-eslint-scope node-escodegen}; do
+    for package in nodejs libc6 ${libraries:-node-acorn node-eslint-scope node-escodegen node-magic-string}; do
         grep -qE "(^|, )$package( |,|\$)" <<<"$depends" || { echo "$package is not in: $depends"; return 1; }
     done
 }
@@ -148,7 +149,7 @@ fi
 if command -v cargo >/dev/null 2>&1; then
     one "Rust program" rust_there
 fi
-if [ -d /usr/share/nodejs/acorn ] && [ -d /usr/share/nodejs/eslint-scope ] && [ -d /usr/share/nodejs/escodegen ]; then
+if [ -d /usr/share/nodejs/acorn ] && [ -d /usr/share/nodejs/eslint-scope ] && [ -d /usr/share/nodejs/escodegen ] && [ -d /usr/share/nodejs/magic-string ]; then
     one "script" script_there
     one "script with a run limit" limited_there
 else

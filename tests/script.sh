@@ -14,9 +14,8 @@ skip() {
 
 if ! script/setup >"$log" 2>&1; then
     tail -n 3 "$log"
-    skip "node, or one of the libraries node-acorn, node-eslint-scope and node-escodegen, is absent and could not be installed"
+    skip "node 18.3, or one of the libraries node-acorn, node-eslint-scope, node-escodegen and node-magic-string, is absent and could not be installed"
 fi
-node -e 'process.exit(parseInt(process.versions.node) >= 20 ? 0 : 1)' || skip "node 20 or newer is needed"
 
 if [ -z "${NEGBOSUN_PORT:-}" ]; then
     for candidate in target/bin/negbosun oracle/target/release/oracle; do

@@ -1,12 +1,11 @@
+// Reads the gauge, tries again where it fails, and calls the right people.
 const tries = 3;
 const warn = 310;
 const flood = 355;
-const reasons = {
-  gauge: "the gauge does not answer",
-  rising: "the river rises fast"
-};
+const reasons = { gauge: "the gauge does not answer", rising: "the river rises fast" };
 var lastLevel = -1;
 var silent = 0;
+
 function readGauge() {
   for (var attempt = 1; attempt <= 3; attempt++) {
     try {
@@ -17,12 +16,14 @@ function readGauge() {
   }
   return -1;
 }
+
 function stageOf(level) {
   if (level >= 355) {
     return "flood";
   }
   return level >= 310 ? "warn" : "calm";
 }
+
 function act(stage, level) {
   switch (stage) {
   case "flood":
@@ -38,6 +39,7 @@ function act(stage, level) {
     gate.rest();
   }
 }
+
 function everyTenMinutes() {
   var level = readGauge();
   if (level < 0) {

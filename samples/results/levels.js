@@ -1,12 +1,15 @@
+// Opens and shuts by the levels on both sides of the sluice, with a band between so that the gate does not flutter.
 const high = 240;
 const low = 190;
 const gap = 12;
 var isOpen = false;
 var moves = 0;
+
 function head(above, below) {
   var difference = above - below;
   return difference < 0 ? 0 : difference;
 }
+
 function wanted(above, below) {
   var drop = head(above, below);
   if (drop < 12) {
@@ -17,6 +20,7 @@ function wanted(above, below) {
   }
   return above > 240;
 }
+
 function move(target) {
   if (target === isOpen) {
     return false;
@@ -30,6 +34,7 @@ function move(target) {
   isOpen = target;
   return true;
 }
+
 function tick(station) {
   var above = station.above;
   var below = station.below;

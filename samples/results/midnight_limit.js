@@ -1,9 +1,12 @@
+// Keeps yesterday's closing minute as the limit when the day changes. The limit is taken before `today` is written.
 const day = 1440;
 const rest = 45;
 let nights = 0;
+
 function minuteOf(clock) {
   return clock.hour * 60 + clock.minute;
 }
+
 function shorter(from, to) {
   var length = to - from;
   if (length < 0) {
@@ -11,6 +14,7 @@ function shorter(from, to) {
   }
   return length;
 }
+
 function closing(clock, before) {
   let today = before;
   const limit = today;
@@ -26,6 +30,7 @@ function closing(clock, before) {
   hold("gate", nights);
   return 0;
 }
+
 function evening(clock, plan) {
   var kept = [];
   for (const minute of plan.closings) {

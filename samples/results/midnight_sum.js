@@ -1,10 +1,14 @@
+// The Friday mill: opens when the minutes since the last opening and those left over from before midnight
+// come to more than five hours. `o` is declared twice, once for each half of the night.
 const day = 1440;
 const threshold = 300;
 const step = 15;
 var openings = 0;
+
 function sinceMidnight(clock) {
   return clock.hour * 60 + clock.minute;
 }
+
 function carried(clock, last) {
   var now = sinceMidnight(clock);
   if (now < last) {
@@ -12,6 +16,7 @@ function carried(clock, last) {
   }
   return 0;
 }
+
 function due(t, c) {
   var o;
   var o = t + c;
@@ -22,6 +27,7 @@ function due(t, c) {
   }
   return false;
 }
+
 function night(clock, last) {
   var rest = carried(clock, last);
   var passed = rest > 0 ? sinceMidnight(clock) : sinceMidnight(clock) - last;

@@ -1,3 +1,4 @@
+// A whole day of a tidal mill: fills the pond on the flood, mills on the ebb, keeps the road dry, across midnight.
 const dayMinutes = 1440;
 const fillLead = 25;
 const millLead = 95;
@@ -6,14 +7,12 @@ const roadLevel = 410;
 const pondFull = 380;
 const pondEmpty = 150;
 const openWidth = 100;
-const quiet = {
-  from: 1320,
-  to: 360
-};
+const quiet = { from: 1320, to: 360 };
 var state = "rest";
 var width = 0;
 var turned = 0;
 var warnings = [];
+
 function wrap(minute) {
   var inDay = minute % 1440;
   if (inDay < 0) {
@@ -21,18 +20,22 @@ function wrap(minute) {
   }
   return inDay;
 }
+
 function minuteOf(clock) {
   return wrap(clock.hour * 60 + clock.minute);
 }
+
 function within(minute, from, to) {
   if (to < from) {
     return minute >= from || minute < to;
   }
   return minute >= from && minute < to;
 }
+
 function isQuiet(minute) {
   return within(minute, quiet.from, quiet.to);
 }
+
 function warn(text, value) {
   var known = false;
   for (const warning of warnings) {
@@ -46,6 +49,7 @@ function warn(text, value) {
     report(text, value);
   }
 }
+
 function setGate(target) {
   var step = target > width ? 10 : -10;
   var steps = 0;
@@ -60,6 +64,7 @@ function setGate(target) {
   }
   return steps;
 }
+
 function plan(tide) {
   var flood = minuteOf(tide.low);
   var ebb = minuteOf(tide.high);
@@ -70,6 +75,7 @@ function plan(tide) {
     millTo: wrap(ebb + 95 + 260)
   };
 }
+
 function choose(minute, today, levels) {
   if (levels.sea > 410) {
     return "shut";
@@ -82,6 +88,7 @@ function choose(minute, today, levels) {
   }
   return "rest";
 }
+
 function enter(next, levels) {
   switch (next) {
   case "fill":
@@ -107,6 +114,7 @@ function enter(next, levels) {
   }
   state = next;
 }
+
 function everyMinute(clock, tide, levels) {
   var minute = minuteOf(clock);
   var today = plan(tide);

@@ -1,10 +1,9 @@
+// Milling hours by the day of the week, with a pause at noon and an early end before a holiday.
 const minutesOfDay = 1440;
-const pause = {
-  from: 720,
-  to: 765
-};
+const pause = { from: 720, to: 765 };
 const notice = 20;
 var announced = false;
+
 function hoursOf(weekday, holidayTomorrow) {
   var from = 480;
   var to = 1020;
@@ -22,18 +21,18 @@ function hoursOf(weekday, holidayTomorrow) {
   if (holidayTomorrow) {
     to = to - 120;
   }
-  return {
-    from: from,
-    to: to
-  };
+  return { from: from, to: to };
 }
+
 function inside(minute, span) {
   return minute >= span.from && minute < span.to;
 }
+
 function untilEnd(minute, span) {
   var left = span.to - minute;
   return left < 0 ? left + 1440 : left;
 }
+
 function shouldTurn(clock, calendar) {
   var minute = clock.hour * 60 + clock.minute;
   var hours = hoursOf(calendar.weekday, calendar.holidayTomorrow);
@@ -51,6 +50,7 @@ function shouldTurn(clock, calendar) {
   }
   return true;
 }
+
 function everyMinute(clock, calendar) {
   var turn = shouldTurn(clock, calendar);
   wheel.brake = !turn;

@@ -2,16 +2,20 @@
 'use strict';
 
 const vm = require('vm');
-const { K, ASSIGN, UNARY, identityOf, isFunction, preorder } = require('../src/kinds');
+const { K, ASSIGN, UNARY, identityOf, preorder } = require('../src/kinds');
 const { changesOf, numberPlaces, putBack } = require('../src/changes');
 const { textOfTree } = require('../src/result_text');
 const { classify } = require('./classify');
+const { Coverage } = require('./coverage');
 const { instrument } = require('./instrument');
 const { shapesOf } = require('./shapes');
 const { runTrial, STANDARD, STEPS } = require('./trial');
 
 const HOST_CONTEXT = 0n;
 const MOST_ROUNDS = 4;
+const MOST_MORE = 40;
+const MOST_TIME = 20000;
+const MOST_USUAL = 40000;
 
 // The names of the host that a script uses; one that is assigned or asked for by typeof may be absent.
 function hostNames(root, shapes) {
@@ -30,21 +34,17 @@ function hostNames(root, shapes) {
   return [...names.values()];
 }
 
-// The declared names of the script's top, with how each is declared.
+// The declared names of the script's top.
 function topNames(root) {
   const names = [];
   for (const node of root.children) {
-    if (node.kind === K.function) names.push({ name: node.children[0].text, callable: true, node });
-    if (node.kind !== K.declaration) continue;
-    for (const declarator of node.children) {
-      const [name, value] = declarator.children;
-      names.push({ name: name.text, callable: Boolean(value && isFunction(value)), node: declarator });
-    }
+    if (node.kind === K.function) names.push({ name: node.children[0].text, node });
+    if (node.kind === K.declaration) names.push(...node.children.map((declarator) => ({ name: declarator.children[0].text, node: declarator })));
   }
   return names;
 }
 
-function planOf(root, changes, seed) {
+function planOf(root, changes, { seed, trials, samples = {} }) {
   const shapes = shapesOf(root);
   const emptied = new Set(changes.filter(({ how }) => how === 'emptied').map(({ node }) => node));
   const tops = topNames(root);
@@ -52,8 +52,10 @@ function planOf(root, changes, seed) {
   return {
     shapes,
     seed,
+    samples,
+    usual: trials,
     globals: hostNames(root, shapes),
-    entries: tops.filter(({ callable, node }) => callable && !emptied.has(node)).map(({ name }) => name),
+    entries: tops.filter(({ node }) => !emptied.has(node)).map(({ name }) => name),
     emptied: new Set(tops.filter(({ node }) => emptied.has(node)).map(({ name }) => name)),
     reach: new vm.Script(`$negbosun.reach([${names.map((name) => `[${JSON.stringify(name)}, () => ${name}]`)}])`),
   };
@@ -116,7 +118,7 @@ const enteredBefore = (trace, index) => trace.slice(0, index + 1).filter(({ kind
 class Runner {
   constructor(tree, plan, reads) {
     const code = (places) => new vm.Script(instrument(tree, plan.shapes, places));
-    const [plain, telling] = [code(new Set()), code(reads)];
+    const [plain, telling] = [code(plan.marks), code(reads)];
     const [outcomes, told] = [new Map(), new Map()];
     const once = (known, number, run) => (known.has(number) ? known : known.set(number, run())).get(number);
     this.outcome = (number) => once(outcomes, number, () => runTrial(plain, plan, number));
@@ -129,9 +131,10 @@ function subjectOf(root, tree, options) {
   const result = textOfTree(tree).root;
   numberPlaces(root, result);
   const changes = changesOf(root, result);
-  const plan = planOf(root, changes, options.seed);
+  const coverage = new Coverage(root, changes);
+  const plan = { ...planOf(root, changes, options), marks: coverage.marks };
   const reads = readPlaces(root);
-  return { root, result, changes, plan, reads, script: new Runner(root, plan, reads), trials: options.trials };
+  return { root, result, changes, coverage, plan, reads, script: new Runner(root, plan, reads), trials: options.trials };
 }
 
 // Differences of one cause are told once, by the shortest trial that shows them.
@@ -146,20 +149,49 @@ function explained(subject, runner, number, shown) {
   return { ...cause, shown, trial: number, entered: one ? enteredBefore(one.trace, shown.index) : null };
 }
 
-// All trials of the script beside one tree.
-function allTrials(subject, runner) {
-  const outcome = { unjudged: 0, differing: 0, findings: new Map() };
-  for (let number = 0; number < subject.trials; number++) {
-    const [one, two] = [subject.script.outcome(number), runner.outcome(number)];
-    const shown = one && two && difference(one, two, subject.plan.emptied);
-    if (shown) {
-      outcome.differing += 1;
-      addFinding(outcome.findings, explained(subject, runner, number, shown));
-    } else if (!one || !two || one.stopped || two.stopped) {
-      outcome.unjudged += 1;
-    }
+// One trial of the script beside one tree, added to what is known.
+function oneTrial(subject, runner, number, outcome) {
+  const [one, two] = [subject.script.outcome(number), runner.outcome(number)];
+  const shown = one && two && difference(one, two, subject.plan.emptied);
+  outcome.trials += 1;
+  outcome.one = subject.coverage.add(outcome.one, one);
+  outcome.two = subject.coverage.add(outcome.two, two);
+  if (shown) {
+    outcome.differing += 1;
+    addFinding(outcome.findings, explained(subject, runner, number, shown));
+  } else if (!one || !two || one.stopped || two.stopped) {
+    outcome.unjudged += 1;
   }
+}
+
+// Processor time in milliseconds, so that other work on the machine does not change what is found.
+function now() {
+  const { user, system } = process.cpuUsage();
+  return (user + system) / 1000;
+}
+
+const noTrials = () => ({ trials: 0, unjudged: 0, differing: 0, findings: new Map(), one: new Set(), two: new Set() });
+
+// All usual trials of the script beside one tree.
+function allTrials(subject, runner) {
+  const outcome = noTrials();
+  const end = now() + MOST_USUAL;
+  for (let number = 0; number < subject.trials; number++) {
+    if (now() < end) oneTrial(subject, runner, number, outcome);
+  }
+  // Those for which there was no time count as not judged.
+  outcome.unjudged += subject.trials - outcome.trials;
+  outcome.trials = subject.trials;
   return outcome;
+}
+
+// While a changed place has not run in both, and no difference is known, more trials with many calls, up to a bound.
+function moreTrials(subject, runner, outcome) {
+  const end = now() + MOST_TIME;
+  for (let more = 0; more < MOST_MORE && now() < end && !outcome.differing; more++) {
+    if (!subject.coverage.missing(outcome.one, outcome.two).length) return;
+    oneTrial(subject, runner, subject.trials + more, outcome);
+  }
 }
 
 // The variable that a finding is about, null where it is about a whole statement.
@@ -190,18 +222,20 @@ function hiddenFindings(subject, actual, found) {
   return [...findings.values()].sort((a, b) => a.node.place - b.node.place);
 }
 
-// What a number of made-up hosts show: findings by cause, and how many trials could not be judged.
+// What a number of made-up hosts show: findings by cause, how many trials could not be judged, and the lines of changes that never ran.
 function runBeside(subject) {
   const actual = new Runner(subject.result, subject.plan, subject.reads);
-  const { unjudged, differing, findings } = allTrials(subject, actual);
+  const outcome = allTrials(subject, actual);
+  moreTrials(subject, actual, outcome);
+  const { trials, unjudged, differing, findings, one, two } = outcome;
   const all = findings.size ? hiddenFindings(subject, actual, findings) : [];
-  return { changes: subject.changes.length, trials: subject.trials, unjudged, differing, findings: all };
+  return { changes: subject.changes.length, trials, unjudged, differing, neverRan: subject.coverage.missing(one, two), findings: all };
 }
 
 // A result that is the script itself need not be run.
 function guard(root, tree, options) {
   const subject = subjectOf(root, tree, options);
-  return subject.changes.length ? runBeside(subject) : { changes: 0, trials: 0, unjudged: 0, differing: 0, findings: [] };
+  return subject.changes.length ? runBeside(subject) : { changes: 0, trials: 0, unjudged: 0, differing: 0, neverRan: [], findings: [] };
 }
 
-module.exports = { guard, runBeside, subjectOf };
+module.exports = { guard, runBeside, subjectOf, variableOf };

@@ -1,10 +1,13 @@
-// The made-up host. This text is run inside the sandbox as the body of a function of `config`, so that a script meets no object from
-// outside of it. What the host gives depends only on the seed and on a value's path, so that script and result meet the same host.
+// The made-up host. This text is run in a realm of its own as the body of a function of `config` and `script`, the script's global object.
+// That realm's built-ins are frozen, so that no script can change what the host works with; a script meets no object from outside of the two.
+// What the host gives depends only on the seed and on a value's path, so that script and result meet the same host.
 'use strict';
 
-/* global config */
-const { seed, shapes, globals, numbers, steps: limit, moving, throwing, eager, logging } = config;
-const LONGEST_TRACE = 400;
+/* global config, script */
+const { seed, shapes, globals, numbers, samples, steps: limit, moving, steady, throwing, eager, logging } = config;
+const LONGEST_TRACE = 2000;
+const LARGEST_VALUE = 20000;
+const MOST_FUNCTIONS = 200;
 const ANY = { type: 'plain', literals: [], members: {}, items: null };
 const stop = { stop: true };
 const trace = [];
@@ -13,14 +16,12 @@ const callbacks = [];
 const paths = new WeakMap();
 const parameters = new WeakMap();
 const counts = new Map();
+const ran = new Set();
 let place = 0;
 let steps = 0;
 let epoch = 0;
 let stopped = false;
 let own = [];
-
-// The text of a function shows every change inside it; that is no difference to speak of.
-Function.prototype.toString = () => 'function';
 
 function hash(...parts) {
   let h = 2166136261 ^ seed;
@@ -42,21 +43,48 @@ function record(kind, text) {
   trace.push({ kind, text, place });
 }
 
-function shownError(error) {
-  return error.name === 'Error' ? `Error ${JSON.stringify(error.message)}` : String(error.name);
+// What a script's own object answers may be anything, an error too.
+function tried(act, otherwise) {
+  try {
+    return act();
+  } catch (error) {
+    if (error === stop) throw error;
+    return otherwise;
+  }
 }
 
-function shown(value, depth = 0) {
+const sortOf = (value) => tried(() => Object.prototype.toString.call(value), '');
+const dateOf = (value) => tried(() => Date.prototype.getTime.call(value), null);
+
+function shownError(error) {
+  const name = tried(() => String(error.name), 'Error');
+  return name === 'Error' ? `Error ${tried(() => JSON.stringify(error.message), '')}` : name;
+}
+
+// A whole value as text: objects by what they hold, one that holds itself by how far up it stands.
+function shown(value, around = [], size = { left: LARGEST_VALUE }) {
   if (typeof value === 'function') return paths.get(value) || 'function';
   if (typeof value === 'string') return JSON.stringify(value);
   if (typeof value !== 'object' || value === null) return Object.is(value, -0) ? '-0' : String(value);
   if (paths.has(value)) return paths.get(value);
-  if (value instanceof Error) return shownError(value);
-  if (value instanceof Date) return `Date ${value.getTime()}`;
-  if (value === globalThis) return 'global';
-  if (depth > 2) return '...';
-  if (Array.isArray(value)) return `[${value.map((item) => shown(item, depth + 1)).join(', ')}]`;
-  return `{${Object.keys(value).map((key) => `${key}: ${shown(value[key], depth + 1)}`).join(', ')}}`;
+  if (value === script) return 'global';
+  if (sortOf(value) === '[object Error]') return shownError(value);
+  const date = dateOf(value);
+  if (date !== null) return `Date ${date}`;
+  if (around.includes(value)) return `(${around.length - around.indexOf(value)} up)`;
+  size.left -= 1;
+  if (size.left < 0) halt();
+  return shownParts(value, [...around, value], size);
+}
+
+function shownParts(value, around, size) {
+  const keys = tried(() => Object.keys(value), []);
+  const isList = Array.isArray(value);
+  const parts = keys.map((key) => {
+    const text = tried(() => shown(value[key], around, size), 'fails');
+    return isList ? text : `${key}: ${text}`;
+  });
+  return isList ? `[${parts.join(', ')}]` : `{${parts.join(', ')}}`;
 }
 
 // A host's object with what it holds, for a person to read.
@@ -163,7 +191,16 @@ function hostFunction(shape, path, owner) {
   return made;
 }
 
+// Values that were given for a place of the host, in the realm's own objects.
+function sampleFor(path, change) {
+  const name = path.replace(/#\d+/g, '');
+  if (!Object.hasOwn(samples, name)) return null;
+  return { value: JSON.parse(JSON.stringify(pick(samples[name], 'sample', path, change))) };
+}
+
 function make(shape, path, change, owner = () => undefined) {
+  const sample = sampleFor(path, change);
+  if (sample) return sample.value;
   const named = change ? `${path}#${change}` : path;
   if (shape.type === 'function') return hostFunction(shape, named, owner);
   if (shape.type === 'object') return hostObject(shape, named);
@@ -173,13 +210,23 @@ function make(shape, path, change, owner = () => undefined) {
   return Array.from({ length }, (_, index) => make(item, `${named}[${index}]`, 0));
 }
 
-// Functions that the script hands over are called back.
+// The functions in a value of the script: itself, or inside objects and lists, with the path to each.
+function functionsIn(value, path, found = [], seen = new Set()) {
+  const own = (typeof value === 'object' && value !== null) || typeof value === 'function';
+  if (!own || paths.has(value) || value === script || seen.has(value) || seen.size > MOST_FUNCTIONS) return found;
+  seen.add(value);
+  if (typeof value === 'function') found.push([path, value]);
+  for (const key of tried(() => Object.keys(value), [])) functionsIn(tried(() => value[key], null), `${path}.${key}`, found, seen);
+  return found;
+}
+
+// Functions that the script hands over, in objects and lists too, are called back.
 function keep(value) {
-  if (typeof value === 'function' && !paths.has(value) && !callbacks.includes(value)) callbacks.push(value);
+  for (const [, called] of functionsIn(value, '')) if (!callbacks.includes(called) && callbacks.length < MOST_FUNCTIONS) callbacks.push(called);
 }
 
 function enter(called, name, turn) {
-  const list = (parameters.get(called) || []).map(([param, index]) => make(shapes[index], `${param}`, turn));
+  const list = (parameters.get(called) || []).map(([param, index]) => make(shapes[index], `${param}`, steady ? 0 : turn));
   record('enter', `the host calls ${name}(${list.map((value) => inFull(value)).join(', ')})`);
   const answer = called(...list);
   keep(answer);
@@ -189,17 +236,25 @@ function enter(called, name, turn) {
 
 function throws(error) {
   if (error === stop) return;
-  if (error instanceof RangeError && /call stack/.test(error.message)) stopped = true;
-  else record('throw', `throws ${shown(error)}`);
+  // How much memory is left is no matter of the script's meaning.
+  const isRoom = tried(() => error.name === 'RangeError' && /call stack|allocation failed/.test(error.message), false);
+  if (isRoom || trace.length >= LONGEST_TRACE) stopped = true;
+  else record('throw', `throws ${tried(() => shown(error), 'something')}`);
 }
 
-// One call of the host: any function of the script, or one that was handed over.
+// All that the host may call: the script's functions, those in its tables, and those that were handed over.
+function callable() {
+  const named = own.filter(([name]) => config.entries.includes(name)).flatMap(([name, read]) => functionsIn(readOr(read), name));
+  const known = new Set(named.map(([, value]) => value));
+  return [...named, ...callbacks.map((value, index) => [`callback ${index + 1}`, value]).filter(([, value]) => !known.has(value))];
+}
+
+// One call of the host.
 function turn(number) {
-  const named = own.filter(([name]) => config.entries.includes(name)).map(([name, read]) => [name, readOr(read)]);
-  const handed = callbacks.map((value, index) => [`callback ${index + 1}`, value]);
-  const callable = [...named, ...handed].filter(([, value]) => typeof value === 'function');
-  if (!callable.length || stopped) return;
-  const [name, called] = pick(callable, 'turn', number);
+  if (stopped) return;
+  const choices = callable();
+  if (!choices.length) return;
+  const [name, called] = pick(choices, 'turn', steady ? 0 : number);
   // Between its calls the host's time goes on.
   if (moving) epoch += 1;
   try {
@@ -217,44 +272,61 @@ function readOr(read) {
   }
 }
 
-// The clock and the dice of the host are its own, and stand still unless it is called.
+// The clock and the dice are the host's own, and stand still unless it is called. The text of a function shows every change inside it; that
+// is no difference to speak of.
 function standStill() {
   const now = () => 1700000000000 + 60000 * (hash('clock', epoch) % 1440);
-  const RealDate = Date;
-  globalThis.Date = class extends RealDate {
+  const RealDate = script.Date;
+  script.Date = class extends RealDate {
     constructor(...list) { super(...(list.length ? list : [now()])); }
     static now() { return now(); }
   };
   let rolls = 0;
-  Math.random = () => hash('dice', ++rolls) / 4294967296;
+  script.Math.random = () => hash('dice', ++rolls) / 4294967296;
+  script.Function.prototype.toString = () => 'function';
 }
 
 function provide() {
   for (const { name, index } of globals) {
-    Object.defineProperty(globalThis, name, { configurable: true, enumerable: true, ...slot(shapes[index], name) });
+    Object.defineProperty(script, name, { configurable: true, enumerable: true, ...slot(shapes[index], name) });
   }
+}
+
+// A list of pairs from the script's realm, by what no script can change.
+function pairsOf(list) {
+  const pairs = [];
+  for (let index = 0; index < list.length; index++) pairs.push([list[index][0], list[index][1]]);
+  return pairs;
 }
 
 standStill();
 provide();
-const api = {
+const hooks = {
   at(number) {
-    if (number) place = number;
+    if (number) {
+      place = number;
+      ran.add(number);
+    }
     steps += 1;
     if (stopped || steps > limit) halt();
   },
   value(number, value) {
+    ran.add(number);
     if (logging && values.length < 20000) values.push({ place: number, text: shown(value), at: trace.length });
     return value;
   },
   fn(params, made) {
-    parameters.set(made, params);
+    parameters.set(made, pairsOf(params));
     return made;
   },
-  reach(list) { own = list; },
+  reach(list) { own = pairsOf(list); },
+};
+const finals = () => own.map(([name, read]) => [name, tried(() => shown(readOr(read)), 'too large')]);
+
+// Frozen, so that a script that finds the hooks cannot take them away.
+Object.defineProperty(script, '$negbosun', { value: Object.freeze(hooks) });
+return {
   turn,
   throws,
-  outcome: () => JSON.stringify({ trace, values, stopped, steps, finals: own.map(([name, read]) => [name, shown(readOr(read))]) }),
+  outcome: () => JSON.stringify({ trace, values, stopped, steps, ran: [...ran], finals: finals() }),
 };
-
-Object.defineProperty(globalThis, '$negbosun', { value: api });

@@ -23,6 +23,7 @@ function valueLine({ read, node, inPlace }, text) {
 
 const classOf = ({ number, title }) => (number ? `${title} (class ${number} of docs/DIFFERENCES.md)` : 'no class of docs/DIFFERENCES.md fits');
 
+// `about` has the script's name and text.
 function findingLines(finding, { name, text }) {
   const { line, column } = finding.node.at.loc.start;
   const kept = finding.node.kind === K.script ? [] : [`    script:  ${source(finding.statement, text)}`];
@@ -36,17 +37,4 @@ function findingLines(finding, { name, text }) {
   ];
 }
 
-function summary({ changes, trials, differing, unjudged, findings }, { name, held }) {
-  if (!changes) return `${name}: the pass changes nothing here`;
-  const judged = unjudged ? `, ${unjudged} could not be judged` : '';
-  const written = held ? '; nothing was written (--accept writes it all the same)' : '';
-  if (!findings.length) return `${name}: script and result did the same in ${trials} trials${judged}; a test and no proof`;
-  return `${name}: ${differing} of ${trials} trials differ${judged}; a test and no proof${written}`;
-}
-
-// `about` has the script's name and text, and whether the result was held back.
-function reportOf(outcome, about) {
-  return [...outcome.findings.flatMap((finding) => findingLines(finding, about)), summary(outcome, about)].join('\n');
-}
-
-module.exports = { reportOf };
+module.exports = { findingLines };

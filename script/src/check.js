@@ -2,22 +2,20 @@
 'use strict';
 
 const fs = require('fs');
-const { readScript } = require('./input');
+const { nameOf, readScript } = require('./input');
 const { runOne } = require('./run_one');
+const { findingsOf, sortOfError, worstOf } = require('./status');
 const { ScriptTrouble } = require('./trouble');
 const { write } = require('./output');
 
-// One file's outcome; what cannot be read is refused like what cannot be built.
+// One file's outcome; no error on a file ends the round.
 function outcomeOf(file, options) {
+  const name = nameOf(file);
   try {
-    const { report, differs, classes } = runOne(readScript(file), file, { ...options, output: 'result' });
-    if (differs) return { sort: 'differs', lines: report.split('\n') };
-    if (classes.length) return { sort: 'accepted', lines: [`${file}: accepted, class ${classes.join(', ')}`] };
-    return { sort: 'well', lines: [`${file}: well`] };
+    const { lines, sort } = runOne(readScript(file), name, { ...options, output: 'result' });
+    return { sort, lines };
   } catch (error) {
-    if (error instanceof ScriptTrouble) return { sort: 'refused', lines: error.lines(file) };
-    if (error.syscall === 'open' || error.syscall === 'read') return { sort: 'refused', lines: [`${file}: ${error.message}`] };
-    throw error;
+    return { sort: sortOfError(error), lines: new ScriptTrouble(findingsOf(error)).lines(name) };
   }
 }
 
@@ -26,8 +24,20 @@ function progress(done, count, file) {
   if (process.stderr.isTTY) fs.writeSync(2, done < count ? `\r\x1b[K${done + 1} of ${count}: ${file}` : '\r\x1b[K');
 }
 
-function check(options, status) {
-  const counts = { well: 0, accepted: 0, differs: 0, refused: 0 };
+const SORTS = {
+  shown: 'shown',
+  unchanged: 'unchanged',
+  accepted: 'accepted',
+  unshown: 'not shown',
+  differs: 'whose result does something else',
+  refused: 'refused',
+  wrong: 'that cannot be read',
+  tool: 'on which the tool failed',
+};
+
+// The worst outcome decides.
+function check(options) {
+  const counts = Object.fromEntries(Object.keys(SORTS).map((sort) => [sort, 0]));
   const lines = [];
   options.files.forEach((file, index) => {
     progress(index, options.files.length, file);
@@ -36,11 +46,10 @@ function check(options, status) {
     lines.push(...outcome.lines);
   });
   progress(options.files.length, options.files.length, '');
-  const { well, accepted, differs, refused } = counts;
-  lines.push(`${options.files.length} files: ${well} well, ${accepted} accepted, ${differs} whose result does something else, ${refused} refused`);
+  const sums = Object.entries(SORTS).map(([sort, words]) => `${counts[sort]} ${words}`);
+  lines.push(`${options.files.length} files: ${sums.join(', ')}`);
   write(`${lines.join('\n')}\n`, options.out, options.files);
-  if (refused) return status.refused;
-  return differs ? status.differs : status.well;
+  return worstOf(Object.keys(SORTS).filter((sort) => counts[sort]));
 }
 
-module.exports = { check };
+module.exports = { check, progress };

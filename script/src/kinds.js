@@ -41,9 +41,13 @@ function numberOfBits(bits) {
 }
 
 // All nodes under a node, itself first, in the tree file's order.
-function* preorder(node) {
-  yield node;
-  for (const child of node.children) yield* preorder(child);
+function* preorder(root) {
+  const left = [root];
+  while (left.length) {
+    const node = left.pop();
+    yield node;
+    for (let index = node.children.length - 1; index >= 0; index--) left.push(node.children[index]);
+  }
 }
 
 module.exports = {

@@ -3,35 +3,37 @@
 
 const fs = require('fs');
 const { check } = require('./check');
-const { readScript } = require('./input');
+const { troubleLines } = require('./frame');
+const { nameOf, readScript, scriptsOf } = require('./input');
+const { many } = require('./many');
 const { readOptions } = require('./options');
 const { runOne } = require('./run_one');
-const { PortTrouble, ScriptTrouble, UsageTrouble } = require('./trouble');
+const { STATUS, statusOf } = require('./status');
+const { FileTrouble, PortTrouble, ScriptTrouble, UsageTrouble, toolError } = require('./trouble');
 const { write } = require('./output');
-
-const STATUS = { well: 0, refused: 1, wrong: 2, differs: 3 };
 
 const say = (text) => fs.writeSync(2, `${text}\n`);
 
 function single(options) {
   const [file] = options.files;
-  const name = file || 'standard input';
-  const { content, report, differs } = runOne(readScript(file || 0), name, options);
+  options.text = readScript(file);
+  const { content, report, sort } = runOne(options.text, nameOf(file), options);
   if (report) say(report);
   if (content !== null) write(content, options.out, options.files);
-  return differs ? STATUS.differs : STATUS.well;
+  return statusOf(sort);
 }
 
 function failed(error, options) {
   if (error instanceof ScriptTrouble) {
-    error.lines(options.files[0] || 'standard input').forEach(say);
-    return STATUS.refused;
+    troubleLines(error, nameOf(options.files[0]), options.text ?? null).forEach(say);
+    return error instanceof FileTrouble ? STATUS.wrong : STATUS.refused;
   }
   if (error instanceof UsageTrouble || error instanceof PortTrouble || error.syscall) {
     say(`script/inline: ${error.message}`);
     return STATUS.wrong;
   }
-  throw error;
+  say(`script/inline: ${toolError(error)}`);
+  return STATUS.tool;
 }
 
 function main(list) {
@@ -42,7 +44,9 @@ function main(list) {
       write(options.help);
       return STATUS.well;
     }
-    return options.output === 'check' ? check(options, STATUS) : single(options);
+    if (options.isMany) return many(options, say);
+    if (options.output !== 'check') return single(options);
+    return check({ ...options, files: scriptsOf(options.files).map(({ file }) => file) });
   } catch (error) {
     return failed(error, options);
   }

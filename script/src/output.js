@@ -25,6 +25,18 @@ function placeOf(file, scripts) {
   return real;
 }
 
+const WORDS = {
+  ENOENT: (file) => `the folder ${path.dirname(file)} is not there; make it first`,
+  EACCES: () => 'this may not be written here',
+  EROFS: () => 'nothing can be written here',
+  ENOSPC: () => 'there is no room left on the disk',
+};
+
+// What the system says about a file that cannot be written, in plain words.
+function plainly(error, file) {
+  return WORDS[error.code] ? new UsageTrouble(`--out ${file}: ${WORDS[error.code](file)}`) : error;
+}
+
 // A file is written beside its name and then moved there.
 function writeFile(file, bytes, scripts) {
   const place = placeOf(file, scripts);
@@ -34,7 +46,7 @@ function writeFile(file, bytes, scripts) {
     fs.renameSync(beside, place);
   } catch (error) {
     fs.rmSync(beside, { force: true });
-    throw error;
+    throw plainly(error, file);
   }
 }
 

@@ -2,10 +2,11 @@
 'use strict';
 
 const acorn = require('acorn');
+const { unclosed } = require('./brackets');
 const { ScriptTrouble, trouble } = require('./trouble');
 const { findUnsupported, message } = require('./unsupported');
 
-const OPTIONS = { ecmaVersion: 2022, sourceType: 'script', preserveParens: true, locations: true, ranges: true, allowHashBang: true };
+const PARSER = { ecmaVersion: 2022, sourceType: 'script', preserveParens: true, locations: true, ranges: true, allowHashBang: true };
 
 // The parser names modules and some newer syntax only in its message.
 const SYNTAX = [
@@ -13,18 +14,26 @@ const SYNTAX = [
   [/Cannot use 'import.meta'/, message(['import.meta', 'a name of the host'])],
 ];
 
-function syntaxTrouble(error) {
+// A bracket that is not closed is seldom where the parser stumbles.
+function bracketHint(text) {
+  const open = unclosed(text, PARSER);
+  return open && `the ${open.label} of line ${open.at.line}, column ${open.at.column + 1} is not closed, or one inside it`;
+}
+
+function syntaxTrouble(error, text) {
   const known = SYNTAX.find(([pattern]) => pattern.test(error.message));
+  if (known) return trouble(error.loc, known[1]);
   const plain = error.message.replace(/ \(\d+:\d+\)$/, '');
-  return trouble(error.loc, known ? known[1] : `syntax error: ${plain}`);
+  const ended = error.pos >= text.trimEnd().length && plain === 'Unexpected token';
+  return trouble(error.loc, `syntax error: ${ended ? 'the script ends too early' : plain}`, bracketHint(text));
 }
 
 function parse(text) {
   let program;
   try {
-    program = acorn.parse(text, OPTIONS);
+    program = acorn.parse(text, PARSER);
   } catch (error) {
-    if (error instanceof SyntaxError && error.loc) throw syntaxTrouble(error);
+    if (error instanceof SyntaxError && error.loc) throw syntaxTrouble(error, text);
     throw error;
   }
   const findings = findUnsupported(program);
@@ -32,4 +41,4 @@ function parse(text) {
   return program;
 }
 
-module.exports = { parse };
+module.exports = { parse, PARSER };

@@ -12,6 +12,9 @@ const LOOSER = new Set(['SequenceExpression', 'AssignmentExpression', 'Condition
 
 const finished = (content, precedence) => ({ type: 'Identifier', name: '', finished: { content, precedence } });
 
+// A part that is printed as this text, which binds as tightly as a name.
+const finishedText = (content) => finished(content, Precedence.Primary);
+
 const isNode = (value) => value !== null && typeof value === 'object' && typeof value.type === 'string';
 const isCoalesce = (node) => node.type === 'LogicalExpression' && node.operator === '??';
 
@@ -68,4 +71,4 @@ function print(program, cautious = false) {
   return printed === '' ? '' : `${printed}\n`;
 }
 
-module.exports = { print };
+module.exports = { finishedText, print };

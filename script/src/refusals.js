@@ -2,9 +2,9 @@
 'use strict';
 
 const { K, NAMED, TEXTED, identityOf, isStatement, preorder } = require('./kinds');
-const { trouble } = require('./trouble');
-
-const LIMITS = { nodes: 1024, texts: 256, textBytes: 4096, depth: 200, identifiers: 256 };
+const { LIMITS, figure, limitText, limitsOf } = require('./limits');
+const { MOST, namesItself, rightSidesIn, scopesIn, valuesIn } = require('./running');
+const { ScriptTrouble, trouble } = require('./trouble');
 
 const WORDS = {
   1: 'the run limit is not from 1 to 16, or the port has too little room to work in',
@@ -49,7 +49,7 @@ function overNamed(root) {
   const seen = new Set();
   for (const node of preorder(root)) {
     if (NAMED.has(node.kind)) seen.add(identityOf(node));
-    if (seen.size > LIMITS.identifiers) return node;
+    if (seen.size > LIMITS.variables) return node;
   }
   return null;
 }
@@ -79,10 +79,58 @@ function firstRefused(root, refusal, refusalOf) {
 
 const PLACES = { 3: overLong, 6: (root) => tooDeep(root), 7: overNamed, 8: firstRefused, 9: firstRefused };
 
-// `refusalOf` runs the port on another tree and answers its refusal's number.
-function refusalTrouble(number, root, refusalOf) {
-  const node = PLACES[number] ? PLACES[number](root, number, refusalOf) : null;
-  return trouble(node ? node.at.loc.start : null, `refusal ${number}: ${WORDS[number]}`);
+const over = (count, most, words) => `${figure(count)} ${words}, at most ${figure(most)}`;
+
+// Which of the script's counts pass a limit, in words.
+const passed = (root, names) => limitsOf(root).filter(({ name, count, most }) => names.includes(name) && count > most).map(limitText).join('; ');
+
+// What row 8 met, as far as the script's text tells.
+function tooDeepWhileRunning(root) {
+  const [scopes, sides, own] = [scopesIn(root), rightSidesIn(root), namesItself(root)];
+  if (scopes > MOST.scopes) return over(scopes, MOST.scopes, 'scopes (functions, blocks, loops and branches) in one another');
+  if (sides > MOST.rightSides) return over(sides, MOST.rightSides, 'right sides of && and || in one another');
+  const why = own ? `; ${own.children[0].text} names itself in its own value` : '';
+  return `over ${MOST.depth} nodes in one another once values were put in the place of names, at most ${MOST.depth}${why}`;
 }
 
-module.exports = { refusalTrouble, WORDS };
+// What row 9 may have met: the port does not say which, so all three counts are told.
+function tooMuchWhileRunning(root) {
+  const [{ count: nodes }, , , , { count: variables }] = limitsOf(root);
+  const counted = (words, count, most) => `${words} ${figure(count)}, at most ${figure(most)}`;
+  return `too much once values were put in the place of names; before that: ${counted('nodes', nodes, MOST.nodes)}; `
+    + `${counted('nodes in the values of variables', valuesIn(root), MOST.values)}; ${counted('variables', variables, MOST.variables)}`;
+}
+
+const DETAILS = {
+  3: (root) => passed(root, ['nodes', 'texts', 'textBytes']),
+  6: (root) => passed(root, ['depth']),
+  7: (root) => passed(root, ['variables']),
+  8: tooDeepWhileRunning,
+  9: tooMuchWhileRunning,
+};
+
+const HINTS = {
+  3: 'split the script in two, or take out what it does not use (each name, value, operator and statement is a node; comments do not count)',
+  6: 'take the inner parts out into functions or variables of their own',
+  7: 'use fewer variables, or split the script in two',
+  8: 'take inner functions, blocks and conditions out of one another; let no variable\'s value name the variable itself',
+  9: 'split the script in two, or shorten the values that are put in the place of names',
+};
+
+// `refusalOf` runs the port on another tree and answers its refusal's number; it may take too long for that.
+function placeOf(number, root, refusalOf) {
+  try {
+    return PLACES[number] ? PLACES[number](root, number, refusalOf) : null;
+  } catch (error) {
+    if (error instanceof ScriptTrouble) return null;
+    throw error;
+  }
+}
+
+function refusalTrouble(number, root, refusalOf) {
+  const node = placeOf(number, root, refusalOf);
+  const detail = (DETAILS[number] && DETAILS[number](root)) || WORDS[number];
+  return trouble(node ? node.at.loc.start : null, `refusal ${number}: ${detail}`, HINTS[number] || null);
+}
+
+module.exports = { HINTS, refusalTrouble, WORDS };

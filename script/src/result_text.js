@@ -71,15 +71,21 @@ function placed(root, pairs) {
   return copy(root);
 }
 
+// The tree with another name for a variable that would catch one of the same name; null where none would.
+function renamedApart(root, pairs) {
+  const caught = catcher(pairs);
+  return caught && renamed(root, identityOf(caught), freshName(root, caught.text));
+}
+
 // The text of a tree, and the tree with the names and places that it has in the text.
 function textOfTree(tree) {
   let root = tree;
   for (;;) {
     const { text, pairs } = printedPairs(root);
-    const caught = catcher(pairs);
-    if (!caught) return { text, root: placed(root, pairs) };
-    root = renamed(root, identityOf(caught), freshName(root, caught.text));
+    const apart = renamedApart(root, pairs);
+    if (!apart) return { text, root: placed(root, pairs) };
+    root = apart;
   }
 }
 
-module.exports = { textOfTree };
+module.exports = { textOfTree, pairsOf, renamedApart };

@@ -1,30 +1,41 @@
-// One script: what is written, what the guard says, and whether the result does something else.
+// One script: what is written, the verdict on it, and its report.
 'use strict';
 
+const { accountOf } = require('./account');
 const { build } = require('./build');
 const { compare } = require('./compare');
-const { guard } = require('../guard/guard');
-const { reportOf } = require('../guard/report');
-const { textOfTree } = require('./result_text');
+const { isWritten, judge } = require('../same/judge');
+const { levelOf } = require('../same/levels');
+const { verdictLines } = require('../same/report');
+const { ownText } = require('./own_text');
 const { treeOfText } = require('./to_tree');
 const { writeTreeFile } = require('./tree_file');
+const { verdictOfCheck, wordsOf } = require('./verdict');
 
 const CONTENT = {
-  result: (root, answer) => textOfTree(answer.tree).text,
-  lines: (root, answer) => answer.lines,
-  compare: (root, answer) => compare(root, answer.tree),
+  result: ({ own }) => own().text,
+  lines: ({ answer }) => answer.lines,
+  compare: ({ text, own }) => compare(text, own()),
 };
 
-// The comparison is for looking at; what a cabinet could run is held back while the guard objects.
+// A value that is made when it is first asked for.
+function once(make) {
+  let made = null;
+  return () => (made ??= make());
+}
+
+// Comparison and lines are for looking at; what a cabinet could run is held back unless it is shown or accepted.
 function runOne(text, name, options) {
-  if (options.output === 'tree') return { content: writeTreeFile(treeOfText(text)), report: null, differs: false, classes: [] };
+  if (options.output === 'tree') return { content: writeTreeFile(treeOfText(text)), report: null, sort: 'unchanged' };
   const { root, answer } = build(text, options);
-  const outcome = options.guard ? guard(root, answer.tree, options) : null;
-  const classes = outcome ? [...new Set(outcome.findings.map((finding) => finding.number))] : [];
-  const differs = !classes.every(options.accepted);
-  const content = differs && options.output !== 'compare' ? null : CONTENT[options.output](root, answer);
-  const report = outcome ? reportOf(outcome, { name, text, held: content === null }) : null;
-  return { content, report, differs, classes };
+  const judged = judge(root, answer.tree, { name, text }, options);
+  const own = once(() => ownText(root, judged.tree, text));
+  const isHeld = !isWritten(judged) && options.output === 'result';
+  const content = isHeld ? null : CONTENT[options.output]({ text, answer, own });
+  const lines = verdictLines(judged, { name, text });
+  const verdict = verdictOfCheck(judged, wordsOf(levelOf(judged.check.level)));
+  const account = () => accountOf({ name, text, root, answer, own: own(), outcome: judged.outcome, verdict, isHeld });
+  return { content, report: lines.join('\n'), lines, sort: judged.sort, judged, account, edits: () => own().edits };
 }
 
 module.exports = { runOne };

@@ -3,8 +3,10 @@
 
 const { K, DECLARATION, UNARY, BINARY, ASSIGN, FOR, TRY, bitsOfNumber } = require('./kinds');
 const { addContexts } = require('./contexts');
-const { parse } = require('./parse');
-const { WORDS } = require('./refusals');
+const { deepest } = require('./brackets');
+const { LIMITS, figure } = require('./limits');
+const { PARSER, parse } = require('./parse');
+const { HINTS } = require('./refusals');
 const { trouble } = require('./trouble');
 
 const present = (...children) => children.filter(Boolean);
@@ -109,18 +111,31 @@ function treeNode(node) {
   return { kind, form, text, bits, children: children.map(treeNode), at: node };
 }
 
-// A script's text as a tree with contexts.
-function treeOfText(text) {
+// Nested so deep that it cannot even be parsed; the port refuses far less.
+function tooDeep(text) {
+  const { deep, place } = deepest(text, PARSER, LIMITS.depth);
+  const counted = place ? `${figure(deep)} brackets in one another` : 'nested too deep to be read';
+  return trouble(place, `refusal 6: ${counted}, at most ${LIMITS.depth} nodes`, HINTS[6]);
+}
+
+// Does what walks a whole tree, and refuses the text where that goes too deep.
+function withinDepth(text, act) {
   try {
-    const program = parse(text);
-    const root = treeNode(program);
-    addContexts(root, program);
-    return root;
+    return act();
   } catch (error) {
-    // Nested so deep that it cannot even be parsed; the port refuses far less.
-    if (error instanceof RangeError) throw trouble(null, `refusal 6: ${WORDS[6]}`);
+    if (error instanceof RangeError) throw tooDeep(text);
     throw error;
   }
 }
 
-module.exports = { treeOfText };
+// A script's text as a tree with contexts.
+function treeOfText(text) {
+  return withinDepth(text, () => {
+    const program = parse(text);
+    const root = treeNode(program);
+    addContexts(root, program);
+    return root;
+  });
+}
+
+module.exports = { treeOfText, withinDepth };

@@ -1,7 +1,7 @@
 // What keeps a script from being built, with its place.
 'use strict';
 
-// `places` are lines "LINE:COLUMN" or null, one for each message.
+// Findings have a place `at` or null, a message, and may have a hint: what to do.
 class ScriptTrouble extends Error {
   constructor(findings) {
     super(findings.map((finding) => finding.message).join('\n'));
@@ -14,12 +14,18 @@ class ScriptTrouble extends Error {
   }
 }
 
+// A file that cannot be read.
+class FileTrouble extends ScriptTrouble {}
+
 // A mistake in how the command was called.
 class UsageTrouble extends Error {}
 
 // The port could not be run, or answered what no port answers.
 class PortTrouble extends Error {}
 
-const trouble = (at, message) => new ScriptTrouble([{ at, message }]);
+// Anything else is a mistake in the tool itself.
+const toolError = (error) => `an error of the tool itself, not of the script: ${String(error && error.message ? error.message : error).split('\n')[0]}`;
 
-module.exports = { ScriptTrouble, UsageTrouble, PortTrouble, trouble };
+const trouble = (at, message, hint = null) => new ScriptTrouble([{ at, message, hint }]);
+
+module.exports = { FileTrouble, ScriptTrouble, UsageTrouble, PortTrouble, toolError, trouble };

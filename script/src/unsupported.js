@@ -5,6 +5,7 @@ const CLASS = ['a class', 'functions and plain objects'];
 const PATTERN = ['destructuring', 'one variable for each part: `var a = o.a;`'];
 const TEMPLATE = ['a template', 'strings joined by `+`'];
 const SPREAD = ['spread', 'each value by itself, or a loop'];
+const HALF = /\p{Cs}/u;
 
 // By the parser's node type; where only some nodes of a type are unsupported, by a function in PARTLY.
 const NEVER = {
@@ -38,7 +39,7 @@ function ofFunction(node) {
 function ofLiteral(node) {
   if (node.regex) return ['a regular expression', 'string methods such as `indexOf`'];
   if (node.bigint) return ['a big integer', 'a number'];
-  if (typeof node.value === 'string' && !node.value.isWellFormed()) {
+  if (typeof node.value === 'string' && HALF.test(node.value)) {
     return ['half of a character (a lone surrogate) in a string', 'whole characters; texts are UTF-8'];
   }
   return null;

@@ -80,9 +80,9 @@ function sampleSize(name) {
 function testSamples() {
   each('samples have 100 to 600 nodes', samples(), sampleSize);
   each('results of samples and what the guard says', samples(), sampleResult);
-  each('comparison of a sample', ['midnight_sum'], (name) => {
+  each('comparison of a sample', [['midnight_sum', 3], ['tide', 4]], ([name, ended]) => {
     const { text, status } = inline(['--compare', sampleFile(name)]);
-    assert.strictEqual(status, 3);
+    assert.strictEqual(status, ended);
     assert.strictEqual(text, read(path.join(RESULTS, `${name}.compare`)));
   });
 }
@@ -104,6 +104,35 @@ const QUIET = [
 // Finds its way out only where it can make functions from text; it then ends this program, which fails the tests.
 const WAY_OUT = 'const a = 1; var out = this.constructor.constructor; try { out("return process")().exit(1); } catch (e) { log(e.name, a); }';
 
+// Wrong results that run only deep inside: in objects and tables, after many calls, in a nested argument.
+const DEEP = [
+  'let last = 0; register({ onTick: function (level) { var change = level - last; last = level; report(change); } });',
+  'let last = 0; const table = { tick: function (level) { var change = level - last; last = level; report(change); } };',
+  'let last = 0; on([[function (level) { var change = level - last; last = level; report(change); }]]);',
+  'let last = 0; let ticks = 0; function tick(level) { ticks++; if (ticks % 12 === 0) { var change = level - last; last = level; report(change); } }',
+  'let last = 0; let over = 0; function tick(level) { if (level > 300) over++; else over = 0; if (over > 5) { var change = level - last; last = level; report(change); } }',
+  'let last = 0; function tick(level) { var change = level - last; last = level; report({ a: { b: { c: { d: { e: change } } } } }); }',
+];
+
+// Built-ins that a script takes away are not the guard's.
+const SABOTAGE = 'const a = 1; Array.prototype.map = Array.prototype.push = JSON.stringify = Object.keys = Map.prototype.get = null; log(a, [a]);';
+
+function testGuardReaches() {
+  const run = (text) => {
+    const { root, answer } = build(text, {});
+    return guard(root, answer.tree, { seed: 1, trials: 60 });
+  };
+  each('the guard finds what lies deep', DEEP, (text) => assert.deepStrictEqual(run(text).findings.map(({ number }) => number), [13], text));
+  each('the guard names changes that never ran', [0], () => {
+    const { neverRan, differing } = run('function tick(level) {\n  const most = 5;\n  if (typeof level === "symbol") {\n    report(most);\n  }\n}');
+    assert.deepStrictEqual([neverRan, differing], [[4], 0]);
+  });
+  each('the guard keeps its own built-ins', [SABOTAGE], (text) => {
+    const { unjudged, differing, trials } = run(text);
+    assert.deepStrictEqual([unjudged, differing, trials], [0, 0, 60]);
+  });
+}
+
 function testGuard() {
   const numbers = (text) => {
     const { root, answer } = build(text, {});
@@ -122,23 +151,122 @@ function outputIsWholeOrAbsent() {
   try {
     assert.strictEqual(inline(['--out', file], DIFFERING).status, 3);
     assert.deepStrictEqual(fs.readdirSync(folder), []);
-    assert.strictEqual(inline(['--out', file], 'var x = 1; x;').status, 0);
-    assert.strictEqual(read(file), 'var x;\n1;\n');
+    assert.strictEqual(inline(['--no-guard', '--out', file], 'var x = 1; x;').status, 4);
+    assert.deepStrictEqual(fs.readdirSync(folder), []);
+    assert.strictEqual(inline(['--no-guard', '--host=apart', '--out', file], 'var x = 1; x;').status, 0);
+    assert.strictEqual(read(file), 'var x; 1;');
     assert.strictEqual(inline(['--out', file], 'class A {}').status, 1);
-    assert.strictEqual(read(file), 'var x;\n1;\n');
+    assert.strictEqual(read(file), 'var x; 1;');
     assert.strictEqual(inline(['--out', file, file]).status, 2);
     assert.strictEqual(inline(['--out', folder], 'f();').status, 2);
     assert.strictEqual(inline(['--out', '/dev/null'], 'f();').status, 2);
-    assert.strictEqual(read(file), 'var x;\n1;\n');
+    assert.strictEqual(read(file), 'var x; 1;');
     assert.deepStrictEqual(fs.readdirSync(folder), ['out.js']);
   } finally {
     fs.rmSync(folder, { recursive: true });
   }
 }
 
+const WILD_FILE = path.join('script', 'test', 'wild.js');
+const CORE = 'let last = 0;\non({ tick: function (level) {\n  var change = level - last;\n  last = level;\n  report(change);\n} });\n';
+
+function notShown() {
+  const { text, status, said } = inline(['--no-guard'], CORE);
+  assert.deepStrictEqual([text, status], ['', 4]);
+  assert.match(said, /standard input:5:10: not shown: `change`: `last` is written on line 4 between this value and its use/);
+  const written = inline(['--no-guard', '--unshown'], CORE);
+  assert.strictEqual(written.status, 0);
+  assert.match(written.text, /report\(level - last\)/);
+}
+
+function keptOnly() {
+  const { text, status, said } = inline(['--keep-shown'], CORE);
+  assert.strictEqual(status, 0);
+  assert.match(text, /var change = level - last;/);
+  assert.match(said, /put back: `change`: `last` is written on line 4/);
+  assert.match(said, /0 of 2 changes are kept; this is no longer the pass's own answer/);
+}
+
+// Page and JSON have the check's verdict, and only what is kept.
+function accounts() {
+  const told = (list, text) => {
+    const { status, text: json } = inline(['--no-guard', '--json', ...list], text);
+    return { status, ...JSON.parse(json).scripts[0] };
+  };
+  const held = told([], CORE);
+  assert.deepStrictEqual([held.status, held.verdict.status, held.isWritten, held.changes.length], [4, 'not shown', false, 2]);
+  assert.deepStrictEqual(held.verdict.places.map(({ line, variable, kind }) => [line, variable, kind]), [[3, 'change', 'not shown'], [5, 'change', 'not shown']]);
+  const kept = told(['--keep-shown'], CORE);
+  assert.deepStrictEqual([kept.status, kept.result, kept.changes], [0, CORE, []]);
+  assert.ok(kept.verdict.places.some(({ variable, kind }) => variable === 'change' && kind === 'put back'));
+  assert.doesNotMatch(inline(['--no-guard', '--keep-shown', '--compare'], CORE).text, /^ {6}\+/m);
+  assert.match(told([], 'var x = 1; x;').verdict.least, /^apart, such a host/);
+}
+
+// A folder of results is held back with the one that is not shown.
+function heldFolder() {
+  const folder = fs.mkdtempSync(path.join(os.tmpdir(), 'inline-'));
+  try {
+    const [well, core, built] = ['well.js', 'core.js', 'built'].map((name) => path.join(folder, name));
+    fs.writeFileSync(well, 'const a = 7; log(a);');
+    fs.writeFileSync(core, CORE);
+    const { status, said } = inline(['--no-guard', '--out-dir', built, well, core]);
+    assert.strictEqual(status, 4);
+    assert.match(said, /2 scripts: 1 shown, 1 not shown\nnothing was written to .*: 1 of 2 scripts has no result/);
+    assert.strictEqual(fs.existsSync(built), false);
+    assert.strictEqual(inline(['--no-guard', '--keep-shown', '--out-dir', built, well, core]).status, 0);
+    assert.deepStrictEqual([read(path.join(built, 'well.js')), read(path.join(built, 'core.js'))], ['const a = 7; log(7);', CORE]);
+  } finally {
+    fs.rmSync(folder, { recursive: true });
+  }
+}
+
+function remarks() {
+  const said = (text) => inline(['--no-guard', '--host=plain'], text).said;
+  assert.match(said('var lead = 35;\nlog(lead);'), /:1:5: note: `lead` of the script's top is emptied/);
+  assert.match(said('const a = 7; log(a); eval("1");'), /note: `eval` makes code from text/);
+  assert.match(said('const a = 7; log(a); new Function("1");'), /note: `Function` makes code from text/);
+  assert.match(said('const a = 7; log(a); a = 8;'), /note: the constant `a` is written here/);
+  assert.match(said('const a = "use strict"; function f() { a; return 1; }'), /note: this statement becomes a text in parentheses; without them it would be a directive/);
+  assert.match(said('const limit = today; function f(today) { return limit > today; }'), /note: `today` is now called `today\$1`/);
+}
+
+// Something that the tool needs is broken: a status of its own, one line, no trace.
+function toolFails() {
+  const env = { ...process.env, NODE_OPTIONS: `--require ${path.join(__dirname, 'broken.js')}` };
+  const { status, said, text } = inline([], 'f("text");', env);
+  assert.deepStrictEqual([status, text], [5, '']);
+  assert.match(said, /^script\/inline: an error of the tool itself, not of the script: .*\n$/);
+  const many = inline(['--check', sampleFile('levels')], '', env);
+  assert.strictEqual(many.status, 5);
+  assert.match(many.text, /levels.js: an error of the tool itself.*\n1 files: .* 1 on which the tool failed\n$/);
+  const told = inline(['--json', sampleFile('levels'), sampleFile('tide')], '', env);
+  assert.strictEqual(told.status, 5);
+  assert.deepStrictEqual(JSON.parse(told.text).scripts.map(({ verdict }) => verdict.status), ['failed', 'failed']);
+  assert.match(told.said, /levels.js: an error of the tool itself.*\n.*tide.js: an error of the tool itself.*\n2 scripts: 2 failed\n$/);
+}
+
+// Only a real configuration lets the changed place run.
+function samplesOfHost() {
+  const folder = fs.mkdtempSync(path.join(os.tmpdir(), 'inline-'));
+  try {
+    const script = path.join(folder, 'gate.js');
+    fs.writeFileSync(script, 'let last = 0; var limits = JSON.parse(config());\nfunction tick(level) { if (limits.most > 1) { var change = level - last; last = level; report(change); } }\n');
+    const before = inline([script]);
+    assert.strictEqual(before.status, 4);
+    assert.match(before.said, /changes on line 2 never ran/);
+    fs.writeFileSync(path.join(folder, 'gate.samples.json'), '{"config()": ["{\\"most\\": 5}"]}');
+    assert.strictEqual(inline([script]).status, 3);
+    fs.writeFileSync(path.join(folder, 'gate.samples.json'), '{"config()": 5}');
+    assert.strictEqual(inline([script]).status, 2);
+  } finally {
+    fs.rmSync(folder, { recursive: true });
+  }
+}
+
 const COMMANDS = {
-  'result on standard output': () => assert.strictEqual(inline([], 'const a = 7; a;').text, 'const a = 7;\n7;\n'),
-  'lines': () => assert.match(inline(['--lines'], 'const a = 7; a;').text, /^ok runs 2 changed 0 nodes 7\n1 0 2 0 0000000000000000\n/),
+  'result on standard output': () => assert.strictEqual(inline([], 'const a = 7; a;').text, 'const a = 7; 7;'),
+  'lines': () => assert.match(inline(['--no-guard', '--lines'], 'const a = 7; a;').text, /^ok runs 2 changed 0 nodes 7\n1 0 2 0 0000000000000000\n/),
   'tree file': () => assert.ok(inline(['--tree'], 'const a = 7; a;').out.equals(writeTreeFile(treeOfText('const a = 7; a;')))),
   'held back while it differs': () => {
     const { text, status, said } = inline([], DIFFERING);
@@ -148,10 +276,32 @@ const COMMANDS = {
   },
   'accepted': () => assert.strictEqual(inline(['--accept'], DIFFERING).status, 0),
   'accepted by class': () => assert.deepStrictEqual([inline(['--accept=5'], DIFFERING).status, inline(['--accept=7'], DIFFERING).status], [0, 3]),
-  'no guard': () => assert.deepStrictEqual([inline(['--no-guard'], DIFFERING).status, inline(['--no-guard'], DIFFERING).said], [0, '']),
+  'without the guard the static check alone decides': () => {
+    const { text, status, said } = inline(['--no-guard'], DIFFERING);
+    assert.deepStrictEqual([text, status], ['', 4]);
+    assert.match(said, /not shown: `t`: .*\n.*the guard was not asked/);
+    assert.strictEqual(inline(['--no-guard', '--accept'], DIFFERING).status, 0);
+    assert.strictEqual(inline(['--no-guard'], 'const a = 7; log(a);').status, 0);
+  },
+  'not shown': notShown,
+  'only what is shown is kept': keptOnly,
+  'the verdict in JSON': accounts,
+  'a folder with a result that is not shown': heldFolder,
+  'accepted by class only if the rest is shown': () => {
+    const rest = `${DIFFERING} function h(p) { var end = p + 30; closeGate(end); }`;
+    assert.deepStrictEqual([inline(['--accept=5'], rest).status, inline(['--accept'], rest).status], [4, 0]);
+  },
+  'the level is printed, and the least that would do': () => {
+    assert.match(inline(['--no-guard'], 'const a = 7; log(a);').said, /shown for any host \(--host=anything\)/);
+    assert.match(inline(['--no-guard'], 'var x = 1; x;').said, /not shown for any host \(--host=anything\); it is shown for .* \(--host=apart\)/);
+    assert.strictEqual(inline(['--host=nobody'], '').status, 2);
+  },
+  'remarks': remarks,
+  'an error of the tool itself': toolFails,
+  'samples of the host': samplesOfHost,
   'one run, where a port takes a limit': () => {
     const { NEGBOSUN_PORT, ...unnamed } = process.env;
-    const { text, said } = inline(['--lines', '--runs', '1'], 'var x = 1; x;', takesLimit() ? unnamed : process.env);
+    const { text, said } = inline(['--no-guard', '--lines', '--runs', '1'], 'var x = 1; x;', takesLimit() ? unnamed : process.env);
     assert.match(text + said, takesLimit() ? /^ok runs 1 changed 1 / : /^ok runs 1 changed 1 |this port takes no run limit/);
   },
   'a file that is not UTF-8': () => assert.match(inline([], Buffer.from([0x78, 0xff])).said, /not UTF-8/),
@@ -163,9 +313,19 @@ const COMMANDS = {
   'check of well and differing files': () => {
     const { text, status } = inline(['--check', sampleFile('levels'), sampleFile('midnight_sum')]);
     assert.strictEqual(status, 3);
-    assert.match(text, /2 files: 1 well, 0 accepted, 1 whose result does something else, 0 refused\n$/);
+    assert.match(text, /2 files: 1 shown, 0 unchanged, 0 accepted, 0 not shown, 1 whose result does something else, 0 refused, 0 that cannot be read, 0 on which the tool failed\n$/);
   },
-  'check with a file that is not there': () => assert.strictEqual(inline(['--check', 'nowhere.js', sampleFile('levels')]).status, 1),
+  'check goes on whatever a script does': () => {
+    const { text, status } = inline(['--check', WILD_FILE, sampleFile('levels')]);
+    assert.strictEqual(status, 0);
+    assert.match(text, /wild.js: shown .*; the guard could not judge: /);
+    assert.match(text, /levels.js: shown .*\n2 files: 2 shown, /);
+  },
+  'check with a file that is not there': () => {
+    const { text, status } = inline(['--check', 'nowhere.js', sampleFile('levels')]);
+    assert.strictEqual(status, 2);
+    assert.match(text, /^nowhere.js: no such file\n[^]*\n2 files: 1 shown, .* 1 that cannot be read, /);
+  },
   'output whole or absent': outputIsWholeOrAbsent,
 };
 
@@ -179,4 +339,4 @@ function testCommand() {
   });
 }
 
-module.exports = { testCommand, testGuard, testRefusals, testResults, testSamples };
+module.exports = { COMMANDS, testCommand, testGuard, testGuardReaches, testRefusals, testResults, testSamples };
