@@ -25,8 +25,14 @@ build() {
   (cd oracle && cargo build --release --offline --quiet -j "${JOBS:-1}")
 }
 
+own_tests() {
+  (cd oracle && cargo test --release --offline --quiet -j "${JOBS:-1}" -p tree_file)
+}
+
 one "build" build || finish
 bin=oracle/target/release
+
+one "tests of its own" own_tests
 
 count "stored vectors" "$bin/replay" tests/vectors/sample.txt tests/vectors/small.txt
 one "sample rewritten" rewritten sample

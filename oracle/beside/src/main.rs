@@ -153,9 +153,8 @@ impl Worker<'_> {
 
     /// Every `=` outside an initialiser is in the result, with its target, in its order.
     fn keeps_assignments(&mut self, script: &Script, result: &Tree, runs: u32) {
-        let targets = assignments::targets(&script.tree);
-        self.tally.assignments += targets.len() as u64;
-        if targets != assignments::targets(result) {
+        self.tally.assignments += assignments::outside(&script.tree) as u64;
+        if !assignments::kept(&script.tree, result) {
             let file = to_hex(&write(script));
             self.fails(format!("assignments\n{file} {runs}\n"));
         }
