@@ -26,7 +26,7 @@ build() {
 }
 
 own_tests() {
-  (cd oracle && cargo test --release --offline --quiet -j "${JOBS:-1}" -p tree_file)
+  (cd oracle && cargo test --release --offline --quiet -j "${JOBS:-1}" -p tree_file -p programs)
 }
 
 one "build" build || finish

@@ -76,7 +76,7 @@ def root_lines(roots, count):
 def vectors():
     """File, run limit and answer of each stored vector."""
     here = os.path.dirname(os.path.abspath(__file__))
-    for name, count in (("sample", 688), ("small", 473), ("amended", 108)):
+    for name, count in (("sample", 631), ("small", 447), ("amended", 317)):
         with open(os.path.join(here, "vectors", name + ".txt"), encoding="utf-8") as f:
             blocks = [b for b in f.read().split("\n\n") if b.strip()]
         if len(blocks) != count:

@@ -18,6 +18,8 @@ OPEN, DECLARE, WRITE, RECORD, FIRST, CONST, CLOSE, READ, PREVENT, SENSITIVE, BAR
 WEIGHTS = {OPEN: 16, DECLARE: 26, WRITE: 9, RECORD: 7, FIRST: 4, CONST: 7, CLOSE: 12, READ: 12, PREVENT: 3, SENSITIVE: 4, BARRIER: 6, PARAMS: 2, DEFINE: 2}
 # values 1 to 7, none is 0: two identifiers, a literal, a member, an array, a call, a tree of 11 nodes; 8 begins behind its last node
 BEHIND, WHOLE, ARRAY, LITERAL = 8, 7, 5, 3
+# in the mark of a declaration: the binding is flagged (request 3)
+FLAGGED = 16
 # how often each is taken: identifiers make aliases
 VALUES = [3, 5, 5, 1, 2, 1, 1, 1]
 SEQUENCES = 400
@@ -101,9 +103,24 @@ def behind():
         yield [(call, x, BEHIND if v > LITERAL else v, m) for call, x, v, m in sequence(rng)]
 
 
+def flagged():
+    """Declarations of flagged bindings: without a value, of an identifier, of a literal, of an array and of one only seen, each new, after an unflagged one, and before one; a parameter, in a loop, hoisted."""
+    plain = (DECLARE, 2, LITERAL, 1)
+    for v, seen in (0, 0), (1, 0), (LITERAL, 0), (ARRAY, 0), (ARRAY, 8):
+        again = (DECLARE, 2, v, 1 + seen + FLAGGED)
+        yield [again]
+        yield [plain, again]
+        yield [again, plain]
+    yield [(DECLARE, 0, LITERAL, 1), (DECLARE, 2, 1, 1 + FLAGGED), (READ, 2, 0, 0), (DECLARE, 0, ARRAY, 1 + FLAGGED)]
+    yield [(OPEN, 0, 0, 3), (DECLARE, 2, 0, FLAGGED), (DECLARE, 2, ARRAY, 1 + FLAGGED)]
+    yield [(OPEN, 0, 0, 1), (DECLARE, 2, LITERAL, 1 + FLAGGED)]
+    yield [(OPEN, 0, 0, 2), (DECLARE, 2, LITERAL, 1 + FLAGGED), (CLOSE, 0, 0, 0), plain]
+    yield [(DECLARE, 2, 0, 1 + 4 + FLAGGED), (FIRST, 2, LITERAL, 0)]
+
+
 def sequences():
     rng = random.Random(4)
-    return [sequence(rng) for _ in range(SEQUENCES)] + list(limits()) + list(behind()) + list(recorded()) + list(named())
+    return [sequence(rng) for _ in range(SEQUENCES)] + list(limits()) + list(behind()) + list(recorded()) + list(named()) + list(flagged())
 
 
 def script(path):

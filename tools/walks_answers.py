@@ -541,25 +541,26 @@ BEHIND = '(heres.here-next sim-skip %s refl %s %s)' % (HK, NZ, PAST)
 HJ = '(heres.here-one (λ z. omega (arith, z, @if3 .left, %s .some)) %s)' % (BD, BEHIND)
 SIMN = '(sim-name (sims (@args .d)) (@args .p))'
 D0 = '%s (@args .p) %s %s %s %s (@skip .ensures .0)' % (V, SIMF, H0, AR0, BD)
-D1 = '%s (rest %s .varDeclKind) (declrs.kind-other %s (omega (arith, @if1 .left))) (@ident-at .result) (@ident-at .ensures) (@stays .ensures)' % (D0, W0, W0)
+D1 = '%s (rest %s .varDeclKind) (declrs.kind-other %s (omega (arith, @if1 .left))) (@form-at .result) (@form-at .ensures) (@ident-at .result) (@ident-at .ensures) (@stays .ensures)' % (D0, W0, W0)
 WALKED = '(declrs.walked %s (@if3 .left) %s (@full .ensures) (@skip3 .ensures .0))' % (D0, IGOT)
 A['init'] = {
     'name-requires': '(%s, (%s, %s))' % (M, H0, AR0),
     'returns': 'ways.did-as (sym (@next .ensures .0)) (declrs.end-const %s (@args .p) %s %s %s (treeAt (abs %s) %s) (rest %s .varDeclKind) (declrs.kind-const %s (@if1 .taken)) (@name .ensures))' % (V, SIMN, H0, AR0, W0, I1, W0, W0),
     'ident-at-requires': 'declrs.at-name %s %s' % (HK, BD),
+    'form-at-requires': 'heres.at-node (heres.here-one %s %s)' % (NZ, HK),
     'skip-requires': 'declrs.at-bound %s %s' % (HK, BD),
     'sub-stays': 'omega (arith, %s .some)' % BD,
     'stays-requires': 'heres.at-trees ' + BEHIND,
     'skip-requires-2': 'heres.at-skip ' + H0,
     'returns-2': 'declrs.init-stays %s (@if2 .taken) (@skip2 .ensures .0)' % D1,
     'declr-end-requires': '(%s .planted, declrs.spot-none %s (@if3 .taken))' % (H0, D0),
-    'returns-3': 'declrs.init-none %s (@if2 .left) (@if3 .taken) (declrs.after-kind %s (@args .i) (@ident-at .result) 0 (@skip .result) (@skip .result) (@declr-end .ensures))' % (D1, W0),
+    'returns-3': 'declrs.init-none %s (@if2 .left) (@if3 .taken) (declrs.after-kind %s (@args .i) (@form-at .result) (@ident-at .result) 0 (@skip .result) (@skip .result) (@declr-end .ensures))' % (D1, W0),
     'full-requires': '(%s, %s)' % (M, HJ),
     'returns-4': 'ways.did-as (sym (@next2 .ensures .0)) (declrs.init-stop %s (@if2 .left) (@if3 .left) %s (@full .ensures))' % (D1, ITOLD),
     'skip-requires-3': 'heres.here-below (@args .i) (omega (arith, @skip .ensures .1)) (heres.here-still (sims (@args .d) .full %s) %s %s refl (@full .ensures))' % (P1, HJ, IGOT),
     'sub-declr-end': 'omega (arith, %s .some)' % BD,
     'declr-end-requires-2': '(@full .ensures .ok .planted, declrs.spot %s %s (λ z. @skip3 .ensures .0))' % (D0, WALKED),
-    'returns-5': 'declrs.init-then %s (@if2 .left) %s (declrs.after-kind %s (@args .i) (@ident-at .result) (@args .n - 1) (@skip .result) (@skip3 .result) (@declr-end2 .ensures))' % (D1, WALKED, W0),
+    'returns-5': 'declrs.init-then %s (@if2 .left) %s (declrs.after-kind %s (@args .i) (@form-at .result) (@ident-at .result) (@args .n - 1) (@skip .result) (@skip3 .result) (@declr-end2 .ensures))' % (D1, WALKED, W0),
 }
 # a declarator
 SIMT = '(sim-split sim-skip (sim-each (sims (@args .d) .full %s)))' % P1
@@ -571,7 +572,7 @@ LOOKED = '%s %s %s (@nameless .result) (@nameless .ensures)' % (WS, N, I1)
 HEAD = '(declrs.headed-no %s (@if1 .left))' % LOOKED
 EA = '%s (@args .p) %s (%s .0) (%s .1)' % (V, SIMN, AGAIN, AGAIN)
 THEN = lambda x: 'declrs.declr-then %s %s %s (@tail .ensures) %s (@set-pat-mode .ensures) (%s)' % (V, H, AR, GOT1, x)
-OV = '%s (treeAt (abs %s) %s) (rest %s .varDeclKind) (%s .0) (ways.in-analysis %s (@if2 .left)) (@ident-at .result) (declrs.name-num %s (%s .1) (@ident-at .ensures)) (@over .result) (@over .ensures)' % (EA, WS, I1, WS, HEAD, WS, HS, HEAD)
+OV = '%s (treeAt (abs %s) %s) (rest %s .varDeclKind) (%s .0) (ways.in-analysis %s (@if2 .left)) (@form-at .result) (declrs.name-form %s (%s .1) (@form-at .ensures)) (@ident-at .result) (declrs.name-num %s (%s .1) (@ident-at .ensures)) (@over .result) (@over .ensures)' % (EA, WS, I1, WS, HEAD, WS, HS, HEAD, HS, HEAD)
 INITED = THEN('declrs.end-inlining %s (treeAt (abs %s) %s) (rest %s .varDeclKind) (%s .0) (ways.in-inlining %s (@if2 .taken)) (@init .ensures)' % (EA, WS, I1, WS, HEAD, WS))
 A['declr'] = {
     'arity-at-requires': 'heres.at-node ' + H,
@@ -585,6 +586,7 @@ A['declr'] = {
     'coded-requires': 'codes.low-did (sim-declr (sims (@args .d)) (@args .p)) (@init .result) %s (%s)' % (H, INITED),
     'returns-3': INITED,
     'ident-at-requires': 'declrs.at-name %s (%s .1)' % (HS, HEAD),
+    'form-at-requires': 'heres.at-node (heres.here-one (λ z. omega (arith, z, %s .1 .some)) %s)' % (HEAD, HS),
     'over-requires': 'heres.at-trees ' + HS,
     'returns-5': THEN('declrs.over-stop %s (@m .given .0 .0) (@m .given .1)' % OV),
     'skip-requires': 'heres.at-skip (declrs.over-here %s .0)' % OV,

@@ -18,9 +18,9 @@ function carried(clock, last) {
 }
 
 function due(t, c) {
-  var o;
+  var o = t;
   var o = t + c;
-  if (t > 300) {
+  if (o > 300) {
     openings = openings + 1;
     raise(openings);
     return true;

@@ -5,7 +5,7 @@ const { K, BINARY, DECLARATION, UNARY, identityOf, isFunction, isStatement, preo
 
 const TITLES = {
   0: 'no class',
-  1: 'a second declaration keeps the first value',
+  1: 'a declaration keeps an earlier value',
   2: 'a `var` without a value empties, and the mark of being empty stays',
   3: 'a second declaration clears the mark that keeps a variable',
   4: 'a read above the declaration',
@@ -157,11 +157,15 @@ function ofMoved(after, facts, own) {
   return again || (facts.resultTexts.get(text) || 0) > (facts.scriptTexts.get(text) || 1) ? 14 : 13;
 }
 
+// Whether a declaration with a value of its own stands between the one that gives a value and the read.
+const isOver = (giver, node) => ({ how, name, value }) => declares({ how }) && value && !SIMPLE.has(value.kind) && giver.name.place < name.place && name.place < node.place;
+
 // Where the value in the name's place comes from decides, and where that stands.
 function ofSource(node, after, sources, facts) {
   const giver = sources.find(({ value }) => value && signature(value) === signature(after));
   const outer = sources.find(({ how, name }) => ['let', 'parameter'].includes(how) && facts.functionOf(name) !== facts.functionOf(node));
   if (giver && facts.mayNotHappen(giver.name)) return 6;
+  if (giver && sources.some(isOver(giver, node))) return 1;
   if (giver && giver.name.place > node.place) return giver.how === 'assign' ? 5 : 4;
   if (outer && sources.some(({ how }) => !declares({ how }))) return 12;
   if (after.kind === K.identifier) return hasMoved(after, facts) ? 11 : ofAlias(after, node, facts);

@@ -32,7 +32,7 @@ const REFUSED = [
   [6, '1:202', `x = ${'['.repeat(199)}${']'.repeat(199)};`],
   [7, '58:6', `[${Array.from({ length: 200 }, (_, n) => `a${n}`)}];\n${lines(60, () => '{let a0}')}`],
   [8, '2:1', 'g();\nconst a = a;\na;\ng();'],
-  [8, '4:3', 'g();\nfunction f(y) {\n  var y = b && [y];\n  z = [y];\n}\ng();'],
+  [8, '4:3', `g();\nfunction f(y) {\n  var z = y;\n  g(${'y && ['.repeat(13)}z${']'.repeat(13)});\n}\ng();`],
   [9, '342:1', `var x;\n${lines(510, () => 'x;')}`],
 ];
 
@@ -80,7 +80,7 @@ function sampleSize(name) {
 function testSamples() {
   each('samples have 100 to 600 nodes', samples(), sampleSize);
   each('results of samples and what the guard says', samples(), sampleResult);
-  each('comparison of a sample', [['midnight_sum', 3], ['tide', 4]], ([name, ended]) => {
+  each('comparison of a sample', [['midnight_sum', 0], ['tide', 4], ['wheel_speed', 3]], ([name, ended]) => {
     const { text, status } = inline(['--compare', sampleFile(name)]);
     assert.strictEqual(status, ended);
     assert.strictEqual(text, read(path.join(RESULTS, `${name}.compare`)));
@@ -99,6 +99,7 @@ function classified() {
 
 const QUIET = [
   'const a = 7; log(a);', 'var x = 1; while (x) { x; }', 'function f(p) { var a = p; return a; }', 'let n = 5; function f(t) { return t > n; }',
+  'const n = 300; function f(t, c) { var a = t; var a = t + c; if (a > n) g(); }',
 ];
 
 // Finds its way out only where it can make functions from text; it then ends this program, which fails the tests.
@@ -311,7 +312,7 @@ const COMMANDS = {
   'no port': () => assert.strictEqual(inline(['--port', 'nowhere'], '').status, 2),
   'an empty script': () => assert.deepStrictEqual([inline([], '').text, inline([], '').status], ['', 0]),
   'check of well and differing files': () => {
-    const { text, status } = inline(['--check', sampleFile('levels'), sampleFile('midnight_sum')]);
+    const { text, status } = inline(['--check', sampleFile('levels'), sampleFile('wheel_speed')]);
     assert.strictEqual(status, 3);
     assert.match(text, /2 files: 1 shown, 0 unchanged, 0 accepted, 0 not shown, 1 whose result does something else, 0 refused, 0 that cannot be read, 0 on which the tool failed\n$/);
   },

@@ -5,6 +5,7 @@ use mathlib.Core.List.{List, [], _∷_}
 use Prim.Native.Nat.{ℕ, zero, suc, _+_}
 use lib.Dec.{eqb, T}
 use Rattle.def_pass.specs.Tree.{Tree, Forest, node, nil, cons, same, voidZero}
+use Rattle.def_pass.specs.Twice.{flagged}
 use Rattle.def_pass.specs.Walk.{corePass, Outcome, refused, result}
 
 -- builders
@@ -79,8 +80,9 @@ meets (refused n) (yes! k c t) = false
 meets (result k c t ms) (no! m) = false
 meets (result k c t ms) (yes! l d u) = eqb k l && sameMark c d && same t u
 
+-- its bindings flagged, as the pass does it first
 abbrev pub stays : Tree → Case
-stays t = record { input = t; answer = yes! 1 false t }
+stays t = record { input = t; answer = yes! 1 false (flagged t) }
 
 abbrev pub becomes : ℕ → Tree → Tree → Case
 becomes n t u = record { input = t; answer = yes! n false u }
@@ -125,7 +127,7 @@ abbrev pub fun2 : Tree → Tree → Tree
 fun2 d e = script (f1 (fun (f4 (bind 1) (bind 2) (bind 3) (block (f3 d (declTo 0 4 (op 13 (name 2) (name 3))) (node 9 0 0 (f2 (op 8 e (lit 20)) (do′ (call (name 5))))))))))
 
 abbrev pub c-fun : Case
-c-fun = becomes 2 (fun2 (declTo 0 4 (name 2)) (name 4)) (fun2 (decl 0 4) (name 2))
+c-fun = stays (fun2 (declTo 0 4 (name 2)) (name 4))
 
 -- let b = 1; const a = b; b = 2; a;
 abbrev pub c-const : Case
@@ -133,7 +135,7 @@ c-const = becomes 2 (script (f4 (declTo 1 1 (lit 5)) (declTo 2 2 (name 1)) (do�
 
 -- function f(y) { var y = b && [y]; z = [y]; }
 abbrev pub c-floor : Case
-c-floor = isRefused 8 (script (f1 (fun (f3 (bind 1) (bind 2) (block (f2 (declTo 0 2 (op 0 (name 3) (array (name 2)))) (do′ (assign 4 (array (name 2))))))))))
+c-floor = stays (script (f1 (fun (f3 (bind 1) (bind 2) (block (f2 (declTo 0 2 (op 0 (name 3) (array (name 2)))) (do′ (assign 4 (array (name 2))))))))))
 
 -- const a = a; a;   const a = 7; a;
 abbrev pub c-loop : Case

@@ -6,7 +6,7 @@ use mathlib.Core.List.{List, [], _∷_, map}
 use Prim.Native.Nat.{ℕ, zero, suc}
 use Rattle.def_pass.specs.Tree.{Tree, Forest, node, nil, cons}
 use Rattle.def_pass.specs.Walk.{corePass}
-use Rattle.def_pass.specs.Cases.{Answer, yes!, meets, script, decl, declTo, do′, name, bind, lit, array, assign, block, f1, f2, f3}
+use Rattle.def_pass.specs.Cases.{Answer, yes!, meets, script, decl, declTo, do′, name, bind, lit, array, assign, block, f1, f2, f3, f4}
 
 -- n arrays around x
 abbrev pub nest : ℕ → Tree → Tree
@@ -27,16 +27,16 @@ pub record Limited : Type 0 where
 abbrev pub limited : ℕ → Tree → Answer → Limited
 limited n t a = record { runs = n; input = t; answer = a }
 
--- var x = b; var x = a; x; var y = a; var y = 1; y; b; in three runs, of which the second changes the tree too
+-- let y; var b = y; y = a; b; in three runs, of which the second changes the tree too
 abbrev pub threeRuns : Tree
-threeRuns = script (cons (declTo 0 1 (name 2)) (cons (declTo 0 1 (name 3)) (cons (do′ (name 1)) (cons (declTo 0 4 (name 3)) (cons (declTo 0 4 (lit 16)) (f2 (do′ (name 4)) (do′ (name 2))))))))
+threeRuns = script (f4 (decl 1 1) (declTo 0 2 (name 1)) (do′ (assign 1 (name 3))) (do′ (name 2)))
 
 abbrev pub threeRunsEnd : Tree
-threeRunsEnd = script (cons (decl 0 1) (cons (decl 0 1) (cons (do′ (name 3)) (cons (decl 0 4) (cons (decl 0 4) (f2 (do′ (lit 16)) (do′ (name 2))))))))
+threeRunsEnd = script (f4 (decl 1 1) (decl 0 2) (do′ (assign 1 (name 3))) (do′ (name 3)))
 
--- b = (p) => { var b = p; var b = [p]; var p = b; }: every run has the mark, and none changes the tree
+-- b = (p) => { let b = p; let b = [p]; let p = b; }: every run has the mark, and none changes the tree
 abbrev pub always : Tree
-always = script (f1 (do′ (assign 1 (node 40 0 0 (f2 (bind 2) (block (f3 (declTo 0 1 (name 2)) (declTo 0 1 (array (name 2))) (declTo 0 2 (name 1)))))))))
+always = script (f1 (do′ (assign 1 (node 40 0 0 (f2 (bind 2) (block (f3 (declTo 1 1 (name 2)) (declTo 1 1 (array (name 2))) (declTo 1 2 (name 1)))))))))
 
 -- x; 511 times, and an empty statement: 1,024 nodes
 abbrev pub wide : Tree

@@ -1,6 +1,7 @@
 pub mod Tree
 pub mod Scope
 pub mod Targets
+pub mod Twice
 pub mod Walk
 pub mod Script
 pub mod Entry

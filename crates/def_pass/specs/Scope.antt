@@ -383,14 +383,14 @@ abbrev pub preventInlineO : Option ℕ → Stack → Stack
 preventInlineO none st = st
 preventInlineO (some i) st = preventInline i st
 
--- Inlining::declare, with its is_undefined given
-unfoldable pub declare : ℕ → Init → Bool → VarType → Stack → Stack
-declare i v undefined k [] = []
-declare i v undefined k (s ∷ st) =
+-- Inlining::declare, with its is_undefined given; `again`: the binding is flagged (request 3)
+unfoldable pub declare : Bool → ℕ → Init → Bool → VarType → Stack → Stack
+declare again i v undefined k [] = []
+declare again i v undefined k (s ∷ st) =
     let e = initOf v in
     let target = idxValO (identOf e) (s .bindings) in
     let al = aliasFrom target in
-    let p = shouldPreventInlineBecauseOfScope i (s ∷ st) || preventedO e (s ∷ st) in
+    let p = again || shouldPreventInlineBecauseOfScope i (s ∷ st) || preventedO e (s ∷ st) in
     let idx = placeOr (length (s .bindings)) (idxVal 0 i (s .bindings)) in
     let old = findIn i (s .bindings) in
     let new = pick (isSome old) (changeIn i (redeclare p undefined (kept v (valueO old))) (s .bindings)) (s .bindings ++ (fresh i k al p undefined (kept v none) ∷ [])) in

@@ -1,5 +1,5 @@
 -- The core tree: what the walks see. A node has its kind and form (document 01), one number, and its children.
--- The number is, of a binding or identifier (20, 21): the number of the identifier, and its form is 1 where its name is `arguments`;
+-- The number is, of a binding or identifier (20, 21): the number of the identifier, and its form is 1 where its name is `arguments`, and 2 more where it is a binding that request 3 flags;
 -- of a literal (all are kind 22, form 0): its origin; of a property or member (29, 37): the number of the input node whose text it has.
 use mathlib.Core.Bool.{Bool, true, false, _&&_, _||_, not}
 use mathlib.Core.Option.{Option, none, some}

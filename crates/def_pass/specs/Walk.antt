@@ -10,6 +10,7 @@ use Rattle.def_tree.specs.Combine.{Res, stop, done, M as MS, Nothing, andThen, 
 use Rattle.def_tree.specs.Base.{pick}
 use Rattle.def_pass.specs.Tree.{Tree, Forest, node, nil, cons, kind, form, num, kids, isIdent, isLit, isCheap, headT, tailF, count, counts, height, voidZero, hasThis, identList, identListF}
 use Rattle.def_pass.specs.Targets.{targets}
+use Rattle.def_pass.specs.Twice.{isTwice, isArgs, unflagged, flagged}
 use Rattle.def_pass.specs.Scope.{VarType, param, vVar, vLet, vConst, isVar, isConst, ScopeKind, cond, loop, block, fn, isFn, Scope, Stack, VarInfo, newScope, preventInline, isInlinePrevented, varInlinePrevented, preventedO, findBinding, findBindingFromCurrent, findConstant, addConst, addRead, addWrite, markThisSensitive, identOf, storeInlineBarrier, hasSameThis, Init, noInit, recorded, seen, seenInit, declare, close, change, withValue, defined, recordedNodes, live}
 
 -- PatFoldingMode
@@ -117,7 +118,7 @@ inCond m = within deeper shallower (inScope cond m)
 -- the identifier of a node of kind 20 or 21 is written, forced or not
 unfoldable pub write : Bool → Tree → M Nothing
 unfolding addWrite
-write force t = grow (addWrite (num t) (eqb (form t) 1) force)
+write force t = grow (addWrite (num t) (isArgs (form t)) force)
 
 unfoldable pub writes : Bool → List Tree → M Nothing
 unfolding write
@@ -191,7 +192,7 @@ unfoldable pub declareM : Tree → Init → Bool → VarType → M Nothing
 unfolding declare
 declareM name v isChange k = do
   s ← get
-  grow (declare (num name) v (isVar (s .varDeclKind) && not isChange && noValue v && s .inlining) k)
+  grow (declare (isTwice (form name)) (num name) v (isVar (s .varDeclKind) && not isChange && noValue v && s .inlining) k)
 
 -- constants.insert: without an identifier that the script as read targets (request 8)
 abbrev pub insertConst : ℕ → Option Tree → M Nothing
@@ -224,7 +225,7 @@ readOnce? none = false
 readOnce? (some b) = eqb (b .readCnt) 1
 
 abbrev pub asIdent : Tree → Tree
-asIdent (node k f a ts) = node 21 f a ts
+asIdent (node k f a ts) = node 21 (unflagged f) a ts
 
 -- is the name a binding
 abbrev pub isBind : Tree → Bool
@@ -628,4 +629,4 @@ runs (suc n) k t s = again (runs n (suc k)) (suc k) (run t (setChanged false s))
 -- the pass on a core tree, with at most n runs
 unfoldable pub corePass : ℕ → Tree → Outcome
 unfolding runs
-corePass n t = runs n 0 t (start t)
+corePass n t = runs n 0 (flagged t) (start t)

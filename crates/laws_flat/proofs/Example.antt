@@ -4,6 +4,7 @@ use mathlib.Core.Bool.{false}
 use mathlib.Core.List.{List, [], _∷_}
 use Rattle.def_tree.specs.Tree.{Core, core, flat}
 use Rattle.def_pass.specs.Tree.{Tree}
+use Rattle.def_pass.specs.Twice.{flagged}
 use Rattle.def_pass.specs.Walk.{corePass, start}
 use Rattle.laws_flat.specs.WalkF.{runsF, resultF, flatOutcome}
 use Rattle.def_pass.specs.Cases.{script, declTo, do′, name, lit, f2}
@@ -19,5 +20,5 @@ computed : flatOutcome (corePass 16 given) ≡ resultF 2 false wanted ((1, false
 unfolding corePass
 computed = refl
 
-pub example : runsF 16 0 (record { nodes = flat given []; rest = start given }) ≡ resultF 2 false wanted ((1, false) ∷ [])
+pub example : runsF 16 0 (record { nodes = flat (flagged given) []; rest = start given }) ≡ resultF 2 false wanted ((1, false) ∷ [])
 example = pass-same 16 given ∙ computed

@@ -15,6 +15,7 @@ use Rattle.def_tree.proofs.Whole.{Whole, length-dropF, unplant}
 use Rattle.def_tree.specs.Base.{pick, toNat}
 use Rattle.def_pass.specs.Tree.{headT}
 use Rattle.def_pass.specs.Targets.{aims, aimedAt, firstIs, targets, targetsF}
+use Rattle.def_pass.specs.Twice.{flagged}
 use Rattle.def_pass.specs.Walk.{Outcome, refused, result, corePass}
 use Rattle.def_file.specs.Kinds.{allows, rowOf, formOk, countOk}
 use Rattle.def_file.specs.declared.Raw.{Raw}
@@ -24,7 +25,7 @@ use Rattle.def_file.specs.Core.{coreNode, coreFrom, coreNodes, back}
 use Rattle.def_pass.specs.Script.{Answer, answer, passTree, pass, rootOf, passRead, passFile}
 use Rattle.def_pass.specs.Entry.{Entry, refused as refusedE, written, entryRead, entry}
 use Rattle.laws_flat.specs.WalkF.{runsF, flatOutcome}
-use Rattle.laws_flat.specs.PassF.{some!, nextIs, targetsL, startF, answerF, passF, passReadF, passFileF, entryReadF, entryF}
+use Rattle.laws_flat.specs.PassF.{some!, flaggedO, nextIs, targetsL, startF, answerF, passF, passReadF, passFileF, entryReadF, entryF}
 use Rattle.laws_flat.proofs.Sim.{pass-same}
 
 and-left : (p q : Bool) → T (p && q) → T p
@@ -213,8 +214,8 @@ script-same n s t = go (planted-ok s t)
     go p =
         let u = p .tree in
         let k : length (s .nodes) ≡ count u = sym (length-core s 1 (s .nodes)) ∙ ap length (sym (p .nodes)) ∙ length-flat u [] ∙ omega arith in
-        ap₂ {C = Answer} (λ (cs : List Core) (m : ℕ). answerF s (runsF n 0 (record { nodes = cs; rest = startF m (targetsL cs) }))) (sym (p .nodes)) k
-        ∙ ap (λ (tg : ℕ → Bool). answerF s (runsF n 0 (record { nodes = flat u []; rest = startF (count u) tg }))) (same-targets u)
+        ap₂ {C = Answer} (λ (ts : Forest) (m : ℕ). answerF s (runsF n 0 (record { nodes = flaggedO (headT ts); rest = startF m (targetsL (coreNodes s)) }))) (p .planted) k
+        ∙ ap (λ (tg : ℕ → Bool). answerF s (runsF n 0 (record { nodes = flat (flagged u) []; rest = startF (count u) tg }))) (ap targetsL (sym (p .nodes)) ∙ same-targets u)
         ∙ ap (answerF s) (pass-same n u)
         ∙ answer-same s (corePass n u)
         ∙ ap (λ (ts : Forest). answer s (passTree n (headT ts))) (sym (p .planted))

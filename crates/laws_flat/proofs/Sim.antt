@@ -10,6 +10,7 @@ use lib.Dec.{eqb, ltb}
 use lib.ListN.{length, getD}
 use Rattle.def_tree.specs.Base.{pick}
 use Rattle.def_pass.specs.Tree.{Tree, kind, form, num, kids, headT, tailF, voidZero, count}
+use Rattle.def_pass.specs.Twice.{flagged}
 use Rattle.def_pass.specs.Scope.{VarType, isConst, ScopeKind, cond, loop, block, fn, VarInfo, preventInline, isInlinePrevented, varInlinePrevented, findBinding, findBindingFromCurrent, findConstant, addRead, markThisSensitive, identOf, change, withValue, defined}
 use Rattle.def_tree.specs.Tree.{Core, flat}
 use Rattle.def_tree.specs.Combine
@@ -310,6 +311,6 @@ runs-same zero k t s = refl
 runs-same (suc n) k t s = rw (whole-run t (setChanged false s)) (again-same (suc k) (Walk.runs n (suc k)) (WalkF.runsF n (suc k)) (runs-same n (suc k)) (Walk.run t (setChanged false s)))
 
 -- the list of a tree's nodes goes through the pass as the tree does: with this the port's entry meets the public definition
-pub pass-same : (n : ℕ) (t : Tree) → WalkF.runsF n 0 (record { nodes = flat t []; rest = Walk.start t }) ≡ WalkF.flatOutcome (Walk.corePass n t)
+pub pass-same : (n : ℕ) (t : Tree) → WalkF.runsF n 0 (record { nodes = flat (flagged t) []; rest = Walk.start t }) ≡ WalkF.flatOutcome (Walk.corePass n t)
 unfolding Walk.corePass
-pass-same n t = runs-same n 0 t (Walk.start t)
+pass-same n t = runs-same n 0 (flagged t) (Walk.start t)

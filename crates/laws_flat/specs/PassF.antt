@@ -1,11 +1,14 @@
 -- The pass over a script, a file's bytes, and the entry, with the walks on the list: `pass`, `passFile` and `entry` of the definition
 -- without a tree. Assumes nothing: these are definitions.
 use mathlib.Core.Bool.{Bool, true, false, _&&_, _||_}
+use mathlib.Core.Option.{Option, none, some}
 use mathlib.Core.List.{List, [], _∷_, map}
 use Prim.Native.Nat.{ℕ, zero, suc}
 use lib.Dec.{eqb, leb}
 use lib.ListN.{length}
-use Rattle.def_tree.specs.Tree.{Core}
+use Rattle.def_tree.specs.Tree.{Tree, Core, flat, plant}
+use Rattle.def_pass.specs.Tree.{headT}
+use Rattle.def_pass.specs.Twice.{flagged}
 use Rattle.def_pass.specs.Targets.{aims}
 use Rattle.def_pass.specs.Scope.{vVar, fn, newScope}
 use Rattle.def_pass.specs.Walk.{St, declaring}
@@ -38,8 +41,16 @@ abbrev pub answerF : Script → OutcomeF → Answer
 answerF s (refusedF n) = no! n
 answerF s (resultF k c cs ms) = yes! k c (map (back s) cs) (map (rootOf s) ms)
 
+-- `flagged` of Twice, of the tree that the nodes are
+abbrev pub flaggedO : Option Tree → List Core
+flaggedO none = []
+flaggedO (some t) = flat (flagged t) []
+
+abbrev pub flaggedL : List Core → List Core
+flaggedL cs = flaggedO (headT (plant cs))
+
 unfoldable pub passF : ℕ → Script → Answer
-passF n s = answerF s (runsF n 0 (record { nodes = coreNodes s; rest = startF (length (s .nodes)) (targetsL (coreNodes s)) }))
+passF n s = answerF s (runsF n 0 (record { nodes = flaggedL (coreNodes s); rest = startF (length (s .nodes)) (targetsL (coreNodes s)) }))
 
 abbrev pub passReadF : ℕ → Read → Answer
 passReadF n (bad r) = no! r

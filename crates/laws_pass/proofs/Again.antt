@@ -16,13 +16,14 @@ use Rattle.def_file.specs.Kinds.{allows, rowOf, formOk, countOk, childOf, usesT
 use Rattle.def_file.specs.Script.{Script, isLit, hasId, known, enter, enterAll, idents, isArguments, placeOf, zeroNode, nodeAt}
 use Rattle.def_file.specs.Read.{Place, fieldsOk, nodeOk, below, fills, nodesOk, Read, bad, script, checked, read}
 use Rattle.def_file.specs.Core.{hasText, coreNode, coreFrom, coreNodes, Out, identAt, back}
-use Rattle.def_pass.specs.Tree.{Tree, Forest, node, nil, cons, kind, heights}
+use Rattle.def_pass.specs.Tree.{Tree, Forest, node, nil, cons, kind, heights, kids}
 use Rattle.laws_pass.specs.Readable.{formOf, rowAt, FitsF, Readable}
 use Rattle.laws_pass.proofs.Tests.{is-T, is-true, and-left, and-right, both}
 use Rattle.laws_pass.proofs.Keep.{All, all-append}
 use Rattle.laws_pass.proofs.Keep as Keep
 use Rattle.laws_pass.specs.Again.{rawsOf, outcome, RefillsIn, RefillsOf, ResultFills}
 use Rattle.laws_pass.specs.Readable.{ReadableOut}
+use Rattle.def_pass.specs.Twice.{unflagged, twice}
 use Rattle.def_pass.specs.Walk as Walk
 use Rattle.def_pass.specs.Script.{coreTree, passTree, pass, answer}
 use Rattle.laws_pass.proofs.Readable.{result-readable}
@@ -130,7 +131,7 @@ lit-back k h = lit-kind k h (λ n. (c : Class) (m : ℕ) → T (allows c 22 0) �
 pub record Worded (s : Script) (k f a : ℕ) : Type 0 where
   pub word : T (hasText k) → T (usesText (nodeAt s a .kind))
 
-worded-ident : (s : Script) (f a : ℕ) → Worded s 20 f a → Worded s 21 f a
+worded-ident : (s : Script) (f a : ℕ) → Worded s 20 f a → Worded s 21 (unflagged f) a
 worded-ident s f a h = record { word = λ t. absurd t }
 
 worded-void : (s : Script) → Worded s 30 0 0
@@ -364,7 +365,7 @@ result-fills n bs = go (read bs) (read-ok bs)
     by : (s : Script) → ReadOk s → (w : Whole s) → RefillsIn s (answer s (passTree n (coreTree s)))
     by s o w =
         let nm = subst (λ (x : Option Tree). NamedOut s (passTree n x)) (w .is) (out-named s n) in
-        subst (λ (x : Option Tree). RefillsIn s (answer s (passTree n x))) (sym (w .is)) (out s o (Walk.corePass n (w .tree)) (result-readable n (w .tree) (w .readable)) nm (Keep.pass-ok (Worded s) (worded-ident s) (worded-void s) (worded-zero s) n (w .tree) (first s w)))
+        subst (λ (x : Option Tree). RefillsIn s (answer s (passTree n x))) (sym (w .is)) (out s o (Walk.corePass n (w .tree)) (result-readable n (w .tree) (w .readable)) nm (Keep.pass-ok (Worded s) (worded-ident s) (worded-void s) (worded-zero s) n (w .tree) (Keep.flag-ok (Worded s) (worded-ident s) (worded-void s) (worded-zero s) (λ f g a k. record { word = k .word }) (twice (kids (w .tree))) (w .tree) (first s w))))
 
     go : (r : Read) → ReadsOk r → RefillsOf n r
     go (bad r) o = tt

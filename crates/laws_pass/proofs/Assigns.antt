@@ -1,15 +1,19 @@
 -- Each `=` outside the initialisers stays, with its target. Assumes nothing.
-use mathlib.Core.Path.{_≡_, refl, sym, ap, _∙_, subst}
+use mathlib.Core.Path.{_≡_, refl, sym, ap, ap₂, _∙_, subst}
 use mathlib.Core.Bool.{Bool, true, false, _&&_, _||_}
-use mathlib.Core.Option.{Option}
+use mathlib.Core.Option.{Option, some}
 use mathlib.Core.List.{List, [], _∷_, _++_}
-use Prim.Native.Nat.{ℕ, suc}
+use Prim.Native.Nat.{ℕ, suc, _+_, _%_}
+use native.Mathlib.Omega.{arith}
 use lib.Dec.{T, eqb, eqb→eq}
 use Rattle.def_pass.specs.Tree.{Tree, Forest, node, nil, cons, kind, kids, headT, tailF, isIdent, isCheap}
+use Rattle.def_tree.specs.Base.{pick}
+use Rattle.def_pass.specs.Twice.{twice, flag, flags, flagNamed, flagged}
 use Rattle.def_pass.specs.Walk as Walk
 use Rattle.def_pass.specs.Walk.{St}
-use Rattle.laws_pass.specs.Assigns.{Assign, listed, ownAssign, assigns, assignsF, LastBlock, Here, Outside, OutsideF, KeptOut, AssignsKept}
-use Rattle.laws_pass.proofs.Tests.{or-left, or-right}
+use Rattle.laws_pass.specs.Assigns.{Assign, plain, plains, plainO, listed, ownAssign, assigns, assignsF, LastBlock, Here, Outside, OutsideF, KeptOut, AssignsKept}
+use Rattle.laws_pass.proofs.Tests.{is-T, or-left, or-right}
+use Rattle.laws_pass.proofs.Flags.{inner, by-way}
 use Rattle.laws_pass.proofs.Effects.{GF, QF, VF, LastOther, fixed, Passed, pass-does}
 use Rattle.laws_pass.proofs.TreeLaws.{TreeLaw, TreeEffects, law, effects, started}
 
@@ -76,14 +80,14 @@ module _ (asked : ℕ → Bool) where
   own-none : (k f a : ℕ) (l : Option Tree) → (T (eqb k 33) → ⊥) → ownAssign asked k f a l ≡ []
   own-none k f a l n = go (eqb k 33) n
     where
-      go : (p : Bool) → (T p → ⊥) → listed (p && eqb f 0 && asked a) (a, l) ≡ []
+      go : (p : Bool) → (T p → ⊥) → listed (p && eqb f 0 && asked a) (a, plainO l) ≡ []
       go true n = absurd (n tt)
       go false n = refl
 
   own-same : (k f a : ℕ) (l m : Option Tree) → (T (eqb k 33) → m ≡ l) → ownAssign asked k f a m ≡ ownAssign asked k f a l
   own-same k f a l m e = go (eqb k 33) e
     where
-      go : (p : Bool) → (T p → m ≡ l) → listed (p && eqb f 0 && asked a) (a, m) ≡ listed (p && eqb f 0 && asked a) (a, l)
+      go : (p : Bool) → (T p → m ≡ l) → listed (p && eqb f 0 && asked a) (a, plainO m) ≡ listed (p && eqb f 0 && asked a) (a, plainO l)
       go true e = rw (e tt) refl
       go false e = refl
 
@@ -137,5 +141,85 @@ module _ (asked : ℕ → Bool) where
   out t s (Walk.refused n) h = tt
   out t s (Walk.result k c u ms) h = h .related .0
 
+-- with bindings flagged
+mutual
+  plain-flag : (b : ℕ → Bool) (t : Tree) → plain (flag b t) ≡ plain t
+  plain-flag b (node k f a ts) = ap₂ (λ (g : ℕ) (us : Forest). node k g a us) (go (eqb k 20) (b a)) (by-way (λ us. plains us ≡ plains ts) b k f ts (plain-named b ts) (plain-flags (twice ts) ts) (plain-flags b ts))
+    where
+      go : (p c : Bool) → pick p (pick (p && c) (f + 2) f % 2) (pick (p && c) (f + 2) f) ≡ pick p (f % 2) f
+      go true true = omega arith
+      go true false = refl
+      go false c = refl
+
+  plain-flags : (b : ℕ → Bool) (ts : Forest) → plains (flags b ts) ≡ plains ts
+  plain-flags b nil = refl
+  plain-flags b (cons t ts) = ap₂ cons (plain-flag b t) (plain-flags b ts)
+
+  plain-named : (b : ℕ → Bool) (ts : Forest) → plains (flagNamed b ts) ≡ plains ts
+  plain-named b nil = refl
+  plain-named b (cons t ts) = ap₂ cons (plain-flag b t) (plain-flags (twice ts) ts)
+
+not-both : (k : ℕ) → k ≡ 20 → eqb k 33 ≡ false
+not-both k e = rw e refl
+
+-- the same first target, the same `=` in all and behind the first, and the same last kind
+record Alike (asked : ℕ → Bool) (ts us : Forest) : Type 0 where
+  first : plainO (headT us) ≡ plainO (headT ts)
+  all : assignsF asked us ≡ assignsF asked ts
+  rest : assignsF asked (tailF us) ≡ assignsF asked (tailF ts)
+  last : LastBlock ts → LastBlock us
+
+kind-flag : (b : ℕ → Bool) (t : Tree) → kind (flag b t) ≡ kind t
+kind-flag b (node k f a ts) = refl
+
+last-flags : (b : ℕ → Bool) (ts : Forest) → LastBlock ts → LastBlock (flags b ts)
+last-flags b nil h = tt
+last-flags b (cons t nil) h = subst (λ (k : ℕ). T (eqb k 2)) (sym (kind-flag b t)) h
+last-flags b (cons t (cons u us)) h = last-flags b (cons u us) h
+
+last-named : (b : ℕ → Bool) (ts : Forest) → LastBlock ts → LastBlock (flagNamed b ts)
+last-named b nil h = tt
+last-named b (cons t nil) h = subst (λ (k : ℕ). T (eqb k 2)) (sym (kind-flag b t)) h
+last-named b (cons t (cons u us)) h = last-flags (twice (cons u us)) (cons u us) h
+
+module _ (asked : ℕ → Bool) where
+  mutual
+    flag-assigns : (b : ℕ → Bool) (t : Tree) → assigns asked (flag b t) ≡ assigns asked t
+    flag-assigns b (node k f a ts) = (let w = by-way (Alike asked ts) b k f ts (named-alike b ts) (flags-alike (twice ts) ts) (flags-alike b ts) in ap₂ _++_ (go (eqb k 20) refl (b a) (w .first)) (w .all))
+      where
+        go : (p : Bool) → eqb k 20 ≡ p → (c : Bool) → {l m : Option Tree} → m ≡ l → listed (eqb k 33 && eqb (pick (p && c) (f + 2) f) 0 && asked a) (a, m) ≡ listed (eqb k 33 && eqb f 0 && asked a) (a, l)
+        go true e c q = rw (not-both k (eqb→eq k 20 (is-T _ e))) refl
+        go false e c q = ap (λ (x : Option Tree). listed (eqb k 33 && eqb f 0 && asked a) (a, x)) q
+
+    flags-alike : (b : ℕ → Bool) (ts : Forest) → Alike asked ts (flags b ts)
+    flags-alike b nil = record { first = refl; all = refl; rest = refl; last = λ h. h }
+    flags-alike b (cons t ts) = (let w = flags-alike b ts in record { first = ap some (plain-flag b t); all = ap₂ _++_ (flag-assigns b t) (w .all); rest = w .all; last = last-flags b (cons t ts) })
+
+    named-alike : (b : ℕ → Bool) (ts : Forest) → Alike asked ts (flagNamed b ts)
+    named-alike b nil = record { first = refl; all = refl; rest = refl; last = λ h. h }
+    named-alike b (cons t ts) = (let w = flags-alike (twice ts) ts in record { first = ap some (plain-flag b t); all = ap₂ _++_ (flag-assigns b t) (w .all); rest = w .all; last = last-named b (cons t ts) })
+
+  inner-alike : (b : ℕ → Bool) (k f : ℕ) (ts : Forest) → Alike asked ts (inner b k f ts)
+  inner-alike b k f ts = by-way (Alike asked ts) b k f ts (named-alike b ts) (flags-alike (twice ts) ts) (flags-alike b ts)
+
+  mutual
+    flag-outside : (b : ℕ → Bool) (t : Tree) → Outside asked t → Outside asked (flag b t)
+    flag-outside b (node k f a ts) o = (let w = inner-alike b k f ts in (
+      record { inits = λ x. w .rest ∙ o .0 .inits x; leaves = λ x. w .all ∙ o .0 .leaves x; ends = λ x. w .last (o .0 .ends x) },
+      by-way (OutsideF asked) b k f ts (named-outside b ts (o .1)) (flags-outside (twice ts) ts (o .1)) (flags-outside b ts (o .1)),
+    ))
+
+    flags-outside : (b : ℕ → Bool) (ts : Forest) → OutsideF asked ts → OutsideF asked (flags b ts)
+    flags-outside b nil o = tt
+    flags-outside b (cons t ts) o = (flag-outside b t (o .0), flags-outside b ts (o .1))
+
+    named-outside : (b : ℕ → Bool) (ts : Forest) → OutsideF asked ts → OutsideF asked (flagNamed b ts)
+    named-outside b nil o = tt
+    named-outside b (cons t ts) o = (flag-outside b t (o .0), flags-outside (twice ts) ts (o .1))
+
+from-flagged : (asked : ℕ → Bool) (t : Tree) (o : Walk.Outcome) → KeptOut asked (flagged t) o → KeptOut asked t o
+from-flagged asked t (Walk.refused n) h = tt
+from-flagged asked t (Walk.result k c u ms) h = h ∙ flag-assigns asked (twice (kids t)) t
+
 pub assigns-kept : AssignsKept
-assigns-kept asked n t o = out asked t (Walk.start t) (Walk.corePass n t) (pass-does (law (keeps asked)) (effects (keeps asked) (kept asked)) n t o (started (keeps asked) t))
+assigns-kept asked n t o = from-flagged asked t (Walk.corePass n t) (out asked (flagged t) (Walk.start t) (Walk.corePass n t) (pass-does (law (keeps asked)) (effects (keeps asked) (kept asked)) n t (flag-outside asked (twice (kids t)) t o) (started (keeps asked) t)))

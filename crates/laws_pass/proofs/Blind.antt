@@ -1,13 +1,15 @@
 -- What the pass asks of a tree is the same after its origins are relabelled (`OriginBlind` of specs/Relabel). Assumes nothing.
-use mathlib.Core.Path.{_≡_, refl, ap, ap₂, _∙_, subst}
+use mathlib.Core.Path.{_≡_, refl, ap, ap₂, _∙_, subst, fun-ext}
 use mathlib.Core.Bool.{Bool, true, false, _&&_, _||_}
 use mathlib.Core.Option.{Option, none, some}
-use mathlib.Core.List.{List, _∷_}
+use mathlib.Core.List.{List, [], _∷_, _++_}
 use Prim.Native.Nat.{ℕ, suc, _+_, max}
-use lib.Dec.{T, eqb, eqb→eq}
+use lib.Dec.{T, eqb, ltb, eqb→eq}
+use lib.ListN.{length}
 use Rattle.def_tree.specs.Base.{pick}
 use Rattle.def_pass.specs.Tree.{Tree, Forest, node, nil, cons, kind, form, num, kids, count, counts, countO, height, heights, hasThis, hasThisF, identList, identListF, headT, tailF, voidZero}
 use Rattle.def_pass.specs.Targets.{aims, aimedAt, firstIs, targets, targetsF}
+use Rattle.def_pass.specs.Twice.{unflagged, isFunction, isNamed, binds, noLiteral, declarators, vars, varsF, params, anyOf, twice, flag, flags, flagNamed, flagged}
 use Rattle.def_pass.specs.Walk.{asIdent, isBind, butLast}
 use Rattle.def_pass.specs.Relabel.{hasOrigin, relabel, relabelF}
 use Rattle.laws_pass.proofs.Tests.{is-T, or-left}
@@ -54,7 +56,7 @@ module _ (r : ℕ → ℕ) where
     pub ident : asIdent (relabel r t) ≡ relabel r (asIdent t)
 
   pub bound : (t : Tree) → T (isBind t) → Bound t
-  bound (node k f a ts) h = (let e = same-num k a (or-left (eqb k 20) (eqb k 21) h) in record { number = e; ident = ap (λ n. node 21 f n (relabelF r ts)) e })
+  bound (node k f a ts) h = (let e = same-num k a (or-left (eqb k 20) (eqb k 21) h) in record { number = e; ident = ap (λ n. node 21 (unflagged f) n (relabelF r ts)) e })
 
   pub ident-num : (t : Tree) → T (eqb (kind t) 21) → num (relabel r t) ≡ num t
   ident-num (node k f a ts) h = same-num k a (go (eqb k 20) (eqb k 21) h)
@@ -145,6 +147,60 @@ module _ (r : ℕ → ℕ) where
     same-targetsF : (i : ℕ) (ts : Forest) → targetsF (relabelF r ts) i ≡ targetsF ts i
     same-targetsF i nil = refl
     same-targetsF i (cons t ts) = ap₂ _||_ (same-targets i t) (same-targetsF i ts)
+
+  -- what is declared more than once, and the bindings flagged
+  same-binds : (i : ℕ) (v : Option Tree) → binds i (onO v) ≡ binds i v
+  same-binds i none = refl
+  same-binds i (some (node k f a ts)) = go (eqb k 20) refl
+    where
+      go : (b : Bool) → eqb k 20 ≡ b → (b && eqb (pick (hasOrigin k) (r a) a) i) ≡ (b && eqb a i)
+      go true e = ap (λ n. eqb n i) (same-num k a (or-left (eqb k 20) (eqb k 21) (is-T (eqb k 20) e)))
+      go false e = refl
+
+  same-noLiteral : (v : Option Tree) → noLiteral (onO v) ≡ noLiteral v
+  same-noLiteral none = refl
+  same-noLiteral (some (node k f a ts)) = refl
+
+  same-declarators : (i : ℕ) (ts : Forest) → declarators i (relabelF r ts) ≡ declarators i ts
+  same-declarators i nil = refl
+  same-declarators i (cons (node k f a ts) us) = elim-same (λ (bs : List Bool). bs) (binds i (headT ts)) (binds i (headT (relabelF r ts))) (noLiteral (headT (tailF ts)) ∷ declarators i us) (declarators i us) (noLiteral (headT (tailF (relabelF r ts))) ∷ declarators i (relabelF r us)) (declarators i (relabelF r us))
+      (ap (binds i) (same-head ts) ∙ same-binds i (headT ts)) (ap₂ {C = List Bool} (λ b bs. b ∷ bs) (ap noLiteral (ap headT (same-tail ts) ∙ same-head (tailF ts)) ∙ same-noLiteral (headT (tailF ts))) (same-declarators i us)) (same-declarators i us)
+
+  mutual
+    same-vars : (i : ℕ) (t : Tree) → vars i (relabel r t) ≡ vars i t
+    same-vars i (node k f a ts) = ap₂ {C = List Bool} (λ (x y : List Bool). elim (isFunction k) [ true ↦ [] | false ↦ pick (eqb k 5 && eqb f 0) x [] ++ y ]) (same-declarators i ts) (same-varsF i ts)
+
+    same-varsF : (i : ℕ) (ts : Forest) → varsF i (relabelF r ts) ≡ varsF i ts
+    same-varsF i nil = refl
+    same-varsF i (cons t ts) = ap₂ (λ (x y : List Bool). x ++ y) (same-vars i t) (same-varsF i ts)
+
+  same-params : (i : ℕ) (ts : Forest) → params i (relabelF r ts) ≡ params i ts
+  same-params i nil = refl
+  same-params i (cons t ts) = ap₂ {C = List Bool} (λ (b : Bool) (x : List Bool). elim b [ true ↦ false ∷ x | false ↦ x ]) (same-binds i (some t)) (same-params i ts)
+
+  same-twice : (ts : Forest) → twice (relabelF r ts) ≡ twice ts
+  same-twice ts = fun-ext (λ i. ap₂ (λ (x y : List Bool). ltb 1 (length (x ++ y)) && anyOf (x ++ y)) (same-params i ts) (same-varsF i ts))
+
+  mutual
+    same-flag : (b : ℕ → Bool) (t : Tree) → flag b (relabel r t) ≡ relabel r (flag b t)
+    same-flag b (node k f a ts) = ap₂ (λ (g : ℕ) (us : Forest). node k g (pick (hasOrigin k) (r a) a) us) (go (eqb k 20) refl)
+        (elim-same (relabelF r) (isFunction k) (isFunction k) (elim (isNamed k f) [ true ↦ flagNamed b ts | false ↦ flags (twice ts) ts ]) (flags b ts) (elim (isNamed k f) [ true ↦ flagNamed b (relabelF r ts) | false ↦ flags (twice (relabelF r ts)) (relabelF r ts) ]) (flags b (relabelF r ts)) refl
+        (elim-same (relabelF r) (isNamed k f) (isNamed k f) (flagNamed b ts) (flags (twice ts) ts) (flagNamed b (relabelF r ts)) (flags (twice (relabelF r ts)) (relabelF r ts)) refl (same-flagNamed b ts) (ap (λ c. flags c (relabelF r ts)) (same-twice ts) ∙ same-flags (twice ts) ts)) (same-flags b ts))
+      where
+        go : (c : Bool) → eqb k 20 ≡ c → pick (c && b (pick (hasOrigin k) (r a) a)) (f + 2) f ≡ pick (c && b a) (f + 2) f
+        go true e = ap (λ n. pick (b n) (f + 2) f) (same-num k a (or-left (eqb k 20) (eqb k 21) (is-T (eqb k 20) e)))
+        go false e = refl
+
+    same-flags : (b : ℕ → Bool) (ts : Forest) → flags b (relabelF r ts) ≡ relabelF r (flags b ts)
+    same-flags b nil = refl
+    same-flags b (cons t ts) = ap₂ cons (same-flag b t) (same-flags b ts)
+
+    same-flagNamed : (b : ℕ → Bool) (ts : Forest) → flagNamed b (relabelF r ts) ≡ relabelF r (flagNamed b ts)
+    same-flagNamed b nil = refl
+    same-flagNamed b (cons t ts) = ap₂ cons (same-flag b t) (ap (λ c. flags c (relabelF r ts)) (same-twice ts) ∙ same-flags (twice ts) ts)
+
+  pub same-flagged : (t : Tree) → flagged (relabel r t) ≡ relabel r (flagged t)
+  same-flagged (node k f a ts) = ap (λ c. flag c (relabel r (node k f a ts))) (same-twice ts) ∙ same-flag (twice ts) (node k f a ts)
 
   -- the zero of `void 0` has origin 0, which stays
   pub same-void : r 0 ≡ 0 → relabel r voidZero ≡ voidZero

@@ -389,10 +389,10 @@ module _ (r : ℕ → ℕ) where
       pick-same on (not (Scope.isParam k) && not (Scope.paramO al) && bar) (not (Scope.isParam k) && not (Scope.paramO al) && bar) (Scope.preventInlineO io (Scope.preventInline i y)) y
       (Scope.preventInlineO io (Scope.preventInline i y′)) y′ refl (ap (λ z. Scope.preventInlineO io (Scope.preventInline i z)) ey ∙ ap (Scope.preventInlineO io) (prevent-same i y) ∙ preventO-same io (Scope.preventInline i y)) ey
 
-  pub declare-same : (i : ℕ) (v : Init) (u : Bool) (k : VarType) (st : Stack) → Scope.declare i (onI v) u k (on st) ≡ on (Scope.declare i v u k st)
+  pub declare-same : (again : Bool) (i : ℕ) (v : Init) (u : Bool) (k : VarType) (st : Stack) → Scope.declare again i (onI v) u k (on st) ≡ on (Scope.declare again i v u k st)
   unfolding Scope.declare declareBy
-  declare-same i v u k [] = refl
-  declare-same i v u k (s ∷ st) = go ∙ declareBy-same i v u k al p old loop bar io s st
+  declare-same again i v u k [] = refl
+  declare-same again i v u k (s ∷ st) = go ∙ declareBy-same i v u k al p old loop bar io s st
     where
       e : Option Tree
       e = Scope.initOf v
@@ -416,10 +416,10 @@ module _ (r : ℕ → ℕ) where
       al = Scope.aliasFrom target
 
       p : Bool
-      p = Scope.shouldPreventInlineBecauseOfScope i (s ∷ st) || Scope.preventedO e (s ∷ st)
+      p = again || Scope.shouldPreventInlineBecauseOfScope i (s ∷ st) || Scope.preventedO e (s ∷ st)
 
       p′ : Bool
-      p′ = Scope.shouldPreventInlineBecauseOfScope i (on (s ∷ st)) || Scope.preventedO e′ (on (s ∷ st))
+      p′ = again || Scope.shouldPreventInlineBecauseOfScope i (on (s ∷ st)) || Scope.preventedO e′ (on (s ∷ st))
 
       idx : ℕ
       idx = Scope.placeOr (length (s .bindings)) (Scope.idxVal 0 i (s .bindings))
@@ -446,7 +446,7 @@ module _ (r : ℕ → ℕ) where
       al-is = ap Scope.aliasFrom target-is ∙ alias-same target
 
       p-is : p′ ≡ p
-      p-is = ap₂ _||_ (shouldPrevent-same i (s ∷ st)) (ap (λ w. Scope.preventedO w (on (s ∷ st))) (initOf-same v) ∙ preventedO-same e (s ∷ st))
+      p-is = ap₂ (λ a b. again || a || b) (shouldPrevent-same i (s ∷ st)) (ap (λ w. Scope.preventedO w (on (s ∷ st))) (initOf-same v) ∙ preventedO-same e (s ∷ st))
 
       idx-is : idx′ ≡ idx
       idx-is = ap₂ Scope.placeOr (length-map (s .bindings) onB) (idx-same 0 i (s .bindings)) ∙ placeOr-same (length (s .bindings)) (Scope.idxVal 0 i (s .bindings))
@@ -458,7 +458,7 @@ module _ (r : ℕ → ℕ) where
           → declareBy i (onI v) u k al₁ p₁ old₁ loop₁ bar₁ io₁ (onS s) (on st) ≡ declareBy i (onI v) u k al p (onOB old) loop bar io (onS s) (on st)
       all al₁ p₁ old₁ loop₁ bar₁ io₁ q₁ q₂ q₃ q₄ q₅ q₆ = cc
 
-      go : Scope.declare i (onI v) u k (on (s ∷ st)) ≡ declareBy i (onI v) u k al p (onOB old) loop bar io (onS s) (on st)
+      go : Scope.declare again i (onI v) u k (on (s ∷ st)) ≡ declareBy i (onI v) u k al p (onOB old) loop bar io (onS s) (on st)
       go = all (Scope.aliasFrom target′) p′ (Scope.findIn i (map onB (s .bindings))) (Scope.inLoop (on (s ∷ st))) (Scope.barred target′ idx′ (s .inlineBarriers)) io′ al-is p-is (in-same i (s .bindings)) (inLoop-same (s ∷ st)) bar-is io-is
 
   -- the end of a scope

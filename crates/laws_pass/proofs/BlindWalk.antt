@@ -10,12 +10,13 @@ use Rattle.def_tree.specs.Base.{pick}
 use Rattle.def_tree.specs.Combine.{Res, stop, done, Nothing, andThen, _>>=_, _>>_, ret, refuse, iff, within, each, split, eachBut, onKids}
 use Rattle.def_pass.specs.Tree.{Tree, Forest, node, nil, cons, kind, form, num, headT, tailF, isIdent, isCheap, hasThis, count, height, identList, identListF, voidZero}
 use Rattle.def_pass.specs.Relabel.{relabel, relabelF, relabelOut, OriginBlind}
+use Rattle.def_pass.specs.Twice.{isTwice, isArgs, flagged}
 use Rattle.def_pass.specs.Scope as Scope
 use Rattle.def_pass.specs.Scope.{VarInfo, Stack, Init}
 use Rattle.def_pass.specs.Walk as Walk
 use Rattle.def_pass.specs.Walk.{St, M, Walks, get, when, modify, mark, grow, inScope, visitMutStmts, plain}
 use Rattle.laws_pass.proofs.Tests.{is-T, and-left}
-use Rattle.laws_pass.proofs.Blind.{pick-same, elim-same, onO, Bound, bound, ident-num, same-kind, same-form, same-head, same-tail, same-butLast, same-count, same-targets, same-height, same-this, same-idents, same-identsF, same-void}
+use Rattle.laws_pass.proofs.Blind.{pick-same, elim-same, onO, Bound, bound, ident-num, same-kind, same-form, same-head, same-tail, same-butLast, same-count, same-targets, same-flagged, same-height, same-this, same-idents, same-identsF, same-void}
 use Rattle.laws_pass.proofs.BlindScope.{onB, onOB, onI, on, find-same, here-same, const-same, change-same, prevent-same, addRead-same, addWrite-same, sensitive-same, barrier-same, addConst-same, identOf-same, prevented-same, preventedO-same, varPrevented-same, sameThis-same, declare-same, close-same, recorded-same, live-same}
 
 module _ (r : ℕ → ℕ) where
@@ -193,7 +194,7 @@ module _ (r : ℕ → ℕ) where
   -- identifiers that are written
   pub write-eq : (force : Bool) (t u : Tree) → num u ≡ num t → form u ≡ form t → Eq keep (Walk.write force t) (Walk.write force u)
   unfolding Walk.write
-  write-eq force t u p q = grow-eq (Scope.addWrite (num t) (eqb (form t) 1) force) (Scope.addWrite (num u) (eqb (form u) 1) force) (λ st. ap₂ (λ (i f : ℕ). Scope.addWrite i (eqb f 1) force (on r st)) p q ∙ addWrite-same r (num t) (eqb (form t) 1) force st)
+  write-eq force t u p q = grow-eq (Scope.addWrite (num t) (isArgs (form t)) force) (Scope.addWrite (num u) (isArgs (form u)) force) (λ st. ap₂ (λ (i f : ℕ). Scope.addWrite i (isArgs f) force (on r st)) p q ∙ addWrite-same r (num t) (isArgs (form t)) force st)
 
   writes-eq : (force : Bool) (ts : List Tree) → Eq keep (Walk.writes force ts) (Walk.writes force ts)
   unfolding Walk.writes
@@ -214,12 +215,12 @@ module _ (r : ℕ → ℕ) where
   noValue-same (Scope.recorded t) = refl
   noValue-same (Scope.seen t) = refl
 
-  pub declareM-eq : (name name′ : Tree) → num name′ ≡ num name → (v v′ : Init) → v′ ≡ onI r v → (c : Bool) (k : Scope.VarType) → Eq keep (Walk.declareM name v c k) (Walk.declareM name′ v′ c k)
+  pub declareM-eq : (name name′ : Tree) → num name′ ≡ num name → form name′ ≡ form name → (v v′ : Init) → v′ ≡ onI r v → (c : Bool) (k : Scope.VarType) → Eq keep (Walk.declareM name v c k) (Walk.declareM name′ v′ c k)
   unfolding Walk.declareM
-  declareM-eq name name′ p v v′ q c k = subst (λ (x : Init). Eq keep (Walk.declareM name v c k) (Walk.declareM name′ x c k)) (sym q) (bind (λ s. grow (Scope.declare (num name′) (onI r v) (Scope.isVar (s .varDeclKind) && not c && Walk.noValue (onI r v) && s .inlining) k)) get-eq λ s.
+  declareM-eq name name′ p g v v′ q c k = subst (λ (x : Init). Eq keep (Walk.declareM name v c k) (Walk.declareM name′ x c k)) (sym q) (bind (λ s. grow (Scope.declare (isTwice (form name′)) (num name′) (onI r v) (Scope.isVar (s .varDeclKind) && not c && Walk.noValue (onI r v) && s .inlining) k)) get-eq λ s.
       let u = Scope.isVar (s .varDeclKind) && not c && Walk.noValue v && s .inlining in
       let u′ = Scope.isVar (s .varDeclKind) && not c && Walk.noValue (onI r v) && s .inlining in
-      grow-eq (Scope.declare (num name) v u k) (Scope.declare (num name′) (onI r v) u′ k) (λ st. ap₂ (λ (i : ℕ) (b : Bool). Scope.declare i (onI r v) b k (on r st)) p (ap (λ (b : Bool). Scope.isVar (s .varDeclKind) && not c && b && s .inlining) (noValue-same v)) ∙ declare-same r (num name) v u k st))
+      grow-eq (Scope.declare (isTwice (form name)) (num name) v u k) (Scope.declare (isTwice (form name′)) (num name′) (onI r v) u′ k) (λ st. ap (λ (f : ℕ). Scope.declare (isTwice f) (num name′) (onI r v) u′ k (on r st)) g ∙ ap₂ (λ (i : ℕ) (b : Bool). Scope.declare (isTwice (form name)) i (onI r v) b k (on r st)) p (ap (λ (b : Bool). Scope.isVar (s .varDeclKind) && not c && b && s .inlining) (noValue-same v)) ∙ declare-same r (isTwice (form name)) (num name) v u k st))
 
   -- the declarator
 
@@ -237,7 +238,7 @@ module _ (r : ℕ → ℕ) where
 
   module _ (name : Tree) (B : Bound r name) where
     declared-eq : (v v′ : Init) → v′ ≡ onI r v → (c : Bool) (k : Scope.VarType) → Eq keep (Walk.declareM name v c k) (Walk.declareM (rel name) v′ c k)
-    declared-eq v v′ q c k = declareM-eq name (rel name) (B .number) v v′ q c k
+    declared-eq v v′ q c k = declareM-eq name (rel name) (B .number) (same-form r name) v v′ q c k
 
     analysis-eq : (v : Option Tree) → Eq keep (Walk.declrAnalysis name v) (Walk.declrAnalysis (rel name) (onO r v))
     unfolding Walk.declrAnalysis
@@ -300,7 +301,7 @@ module _ (r : ℕ → ℕ) where
   unfolding Walk.declareName
   declareName-eq none = ret-eq tt
   declareName-eq (some (node k f a ts)) = (let t = node k f a ts in bind (λ s. when (eqb k 20 && not (s .inlining)) (Walk.declareM (rel t) Scope.noInit true Scope.vVar)) get-eq λ s.
-      when-by (eqb k 20 && not (s .inlining)) λ b. declareM-eq t (rel t) (bound r t (and-left (eqb k 20) (not (s .inlining)) b) .number) Scope.noInit Scope.noInit refl true Scope.vVar)
+      when-by (eqb k 20 && not (s .inlining)) λ b. declareM-eq t (rel t) (bound r t (and-left (eqb k 20) (not (s .inlining)) b) .number) refl Scope.noInit Scope.noInit refl true Scope.vVar)
 
   writeName-eq : (v : Option Tree) → Eq keep (Walk.writeName v) (Walk.writeName (onO r v))
   unfolding Walk.writeName
@@ -504,8 +505,8 @@ module _ (r : ℕ → ℕ) where
         t = node k f a ts
 
         by : (m : Walk.PatMode) → Bound r t → Eq keep (Walk.patBy m t) (Walk.patBy m (rel t))
-        by Walk.asParam B = declareM-eq t (rel t) (B .number) (Scope.recorded (Walk.asIdent t)) (Scope.recorded (Walk.asIdent (rel t))) (ap Scope.recorded (B .ident)) false Scope.param
-        by Walk.asCatch B = declareM-eq t (rel t) (B .number) (Scope.recorded (Walk.asIdent t)) (Scope.recorded (Walk.asIdent (rel t))) (ap Scope.recorded (B .ident)) false Scope.vVar
+        by Walk.asParam B = declareM-eq t (rel t) (B .number) (same-form r t) (Scope.recorded (Walk.asIdent t)) (Scope.recorded (Walk.asIdent (rel t))) (ap Scope.recorded (B .ident)) false Scope.param
+        by Walk.asCatch B = declareM-eq t (rel t) (B .number) (same-form r t) (Scope.recorded (Walk.asIdent t)) (Scope.recorded (Walk.asIdent (rel t))) (ap Scope.recorded (B .ident)) false Scope.vVar
         by Walk.declaring B = ret-eq tt
         by Walk.assigning B = byLook-eq (Scope.findBindingFromCurrent (num t)) (Scope.findBindingFromCurrent (num (rel t))) (λ st. ap (λ (i : ℕ). Scope.findBindingFromCurrent i (on r st)) (B .number) ∙ here-same r (num t) st)
             (Walk.write false t) (Walk.write false (rel t)) (λ c. ret tt) (λ c. ret tt) (write-eq false t (rel t) (B .number) refl) (λ c. ret-eq tt)
@@ -718,4 +719,4 @@ module _ (r : ℕ → ℕ) where
 -- relabelling the origins and then passing is passing and then relabelling
 pub origin-blind : OriginBlind
 unfolding Walk.corePass
-origin-blind r r0 n t = ap (Walk.runs n 0 (relabel r t)) (start-is r t) ∙ runs-same r r0 n 0 t (Walk.start t)
+origin-blind r r0 n t = ap₂ (Walk.runs n 0) (same-flagged r t) (start-is r t) ∙ runs-same r r0 n 0 (flagged t) (Walk.start t)

@@ -10,6 +10,7 @@ use Rattle.def_tree.specs.Base.{pick, orElse}
 use Rattle.def_tree.specs.Combine.{Res, stop, done, Nothing, andThen, _>>=_, _>>_, ret, iff, each, split, onKids}
 use Rattle.def_pass.specs.Tree as Tree′
 use Rattle.def_pass.specs.Tree.{Tree, Forest, node, nil, cons, kind, form, num, kids, headT, tailF}
+use Rattle.def_pass.specs.Twice.{isArgs}
 use Rattle.def_pass.specs.Scope as Scope
 use Rattle.def_pass.specs.Scope.{VarInfo, Stack}
 use Rattle.def_pass.specs.Walk as Walk
@@ -206,7 +207,7 @@ post-last l (cons r rs) s = go (Scope.isInlinePrevented r (s .stack)) refl (eqb 
         → Post k l (some r) (iff c (Walk.when k (Walk.mark (Scope.preventInline (num l)))) (Walk.when k (Walk.write false l >> Walk.storeO l (some r))) s)
     go true e true = λ h. inl (held-stays (num l) r (s .stack) e)
     go true e false = λ h. absurd h
-    go false e true = grown l r (Scope.addWrite (num l) (eqb (form l) 1) false) s (Walk.storeValue l r) (post-store l r (Walk.setStack (Scope.addWrite (num l) (eqb (form l) 1) false (s .stack)) s)) (here-write (num l) (eqb (form l) 1) false (s .stack))
+    go false e true = grown l r (Scope.addWrite (num l) (isArgs (form l)) false) s (Walk.storeValue l r) (post-store l r (Walk.setStack (Scope.addWrite (num l) (isArgs (form l)) false (s .stack)) s)) (here-write (num l) (isArgs (form l)) false (s .stack))
     go false e false = λ h. absurd h
 
 no-first : (u v w : Bool) → u ≡ false → (u && v && w) ≡ false

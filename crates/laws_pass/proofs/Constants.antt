@@ -103,14 +103,14 @@ same-preventO : (i : Option ℕ) (st : Stack) → consts (Scope.preventInlineO i
 same-preventO none st = refl
 same-preventO (some i) st = same-prevent i st
 
-same-declare : (i : ℕ) (v : Scope.Init) (u : Bool) (k : Scope.VarType) (st : Stack) → consts (Scope.declare i v u k st) ≡ consts st
+same-declare : (again : Bool) (i : ℕ) (v : Scope.Init) (u : Bool) (k : Scope.VarType) (st : Stack) → consts (Scope.declare again i v u k st) ≡ consts st
 unfolding Scope.declare
-same-declare i v u k [] = refl
-same-declare i v u k (s ∷ st) =
+same-declare again i v u k [] = refl
+same-declare again i v u k (s ∷ st) =
     let e = Scope.initOf v in
     let target = Scope.idxValO (Scope.identOf e) (s .bindings) in
     let al = Scope.aliasFrom target in
-    let p = Scope.shouldPreventInlineBecauseOfScope i (s ∷ st) || Scope.preventedO e (s ∷ st) in
+    let p = again || Scope.shouldPreventInlineBecauseOfScope i (s ∷ st) || Scope.preventedO e (s ∷ st) in
     let idx = Scope.placeOr (length (s .bindings)) (Scope.idxVal 0 i (s .bindings)) in
     let old = Scope.findIn i (s .bindings) in
     let new = pick (Scope.isSome old) (Scope.changeIn i (Scope.redeclare p u (Scope.kept v (Scope.valueO old))) (s .bindings)) (s .bindings ++ (Scope.fresh i k al p u (Scope.kept v none) ∷ [])) in
@@ -187,7 +187,7 @@ stays = record {
   recount = λ t e s o h. (o, refl);
   leave = λ n e s o. (o, refl);
   write = λ i g force n s o. (kept (Scope.addWrite i g force) (same-write i g force) s o, refl);
-  declare = λ i v u k n s o. (kept (Scope.declare i v u k) (same-declare i v u k) s o, refl);
+  declare = λ again i v u k n s o. (kept (Scope.declare again i v u k) (same-declare again i v u k) s o, refl);
   const = λ i v n s o. (free-add (s .targeted) i v (s .stack) o, refl);
   prevent = λ i n s o. (kept (Scope.preventInline i) (same-prevent i) s o, refl);
   read = λ i g n s o. (kept (Scope.addRead i g) (same-read i g) s o, refl);
@@ -211,7 +211,7 @@ stepped {tg} (reads i a) st h = subst (All (FreeC tg)) (sym (same-read i a st)) 
 stepped {tg} (writes i a b) st h = subst (All (FreeC tg)) (sym (same-write i a b st)) h
 stepped {tg} (senses i) st h = subst (All (FreeC tg)) (sym (same-sensitive i st)) h
 stepped {tg} bars st h = subst (All (FreeC tg)) (sym (same-barrier st)) h
-stepped {tg} (declares i v u k) st h = subst (All (FreeC tg)) (sym (same-declare i v u k st)) h
+stepped {tg} (declares again i v u k) st h = subst (All (FreeC tg)) (sym (same-declare again i v u k st)) h
 stepped {tg} (stores i v) st h = subst (All (FreeC tg)) (sym (same-change i (Scope.withValue v) st)) h
 stepped {tg} (begins i v) st h = subst (All (FreeC tg)) (sym (same-change i (λ b. Scope.defined (Scope.withValue v b)) st)) h
 stepped {tg} (fixes i v) st h = free-add tg i v st h

@@ -11,6 +11,7 @@ use lib.ListN.{length, getD}
 use Rattle.def_tree.specs.Base.{pick}
 use Rattle.def_tree.specs.Combine.{Res, stop, done, Nothing, andThen, _>>=_, _>>_, ret, refuse, iff, each, split, eachBut, onKids}
 use Rattle.def_pass.specs.Tree.{Tree, Forest, node, nil, cons, kind, form, num, kids, headT, tailF, isIdent, isCheap, hasThis, count, counts, height, identList, identListF, voidZero}
+use Rattle.def_pass.specs.Twice.{isTwice, isArgs, flagged}
 use Rattle.def_pass.specs.Scope as Scope
 use Rattle.def_pass.specs.Walk as Walk
 use Rattle.def_pass.specs.Walk.{St, M, Walks, when, modify, mark, grow, inScope, visitMutStmts, plain}
@@ -171,7 +172,7 @@ module _ (L : Law) where
     pub leave : (n : ℕ) (e : Tree) (s : St) → L .Inv s → L .Inv (Walk.setNodes (s .nodes - count e) s) × L .Move (count e + n) s n (Walk.setNodes (s .nodes - count e) s)
     -- changes of the scopes
     pub write : (i : ℕ) (args force : Bool) → L .Id i → On (Scope.addWrite i args force)
-    pub declare : (i : ℕ) (v : Scope.Init) (u : Bool) (k : Scope.VarType) → L .Id i → VI v → On (Scope.declare i v u k)
+    pub declare : (again : Bool) (i : ℕ) (v : Scope.Init) (u : Bool) (k : Scope.VarType) → L .Id i → VI v → On (Scope.declare again i v u k)
     pub const : (i : ℕ) (v : Option Tree) → L .Id i → VO v → (n : ℕ) (s : St) → L .Inv s → Moves n s (Walk.setStack (Scope.addConst (s .targeted) i v (s .stack)) s)
     pub prevent : (i : ℕ) → On (Scope.preventInline i)
     pub read : (i : ℕ) (args : Bool) → L .Id i → On (Scope.addRead i args)
@@ -476,7 +477,7 @@ module _ (L : Law) where
 
     write-ok : {n : ℕ} (force : Bool) (t : Tree) → IdT t → Pres (at n) n Any (Walk.write force t)
     unfolding Walk.write
-    write-ok force t o = grow-ok (Scope.addWrite (num t) (eqb (form t) 1) force) (E .write (num t) (eqb (form t) 1) force o)
+    write-ok force t o = grow-ok (Scope.addWrite (num t) (isArgs (form t)) force) (E .write (num t) (isArgs (form t)) force o)
 
     writes-ok : {n : ℕ} (force : Bool) (ts : List Tree) → All IdT ts → Pres (at n) n Any (Walk.writes force ts)
     unfolding Walk.writes
@@ -496,8 +497,8 @@ module _ (L : Law) where
 
     declareM-ok : {n : ℕ} (name : Tree) (v : Scope.Init) (c : Bool) (k : Scope.VarType) → IdT name → VI v → Pres (at n) n Any (Walk.declareM name v c k)
     unfolding Walk.declareM
-    declareM-ok name v c k g w = byState-ok (λ s. grow (Scope.declare (num name) v (Scope.isVar (s .varDeclKind) && not c && Walk.noValue v && s .inlining) k)) λ s o.
-        (let u = Scope.isVar (s .varDeclKind) && not c && Walk.noValue v && s .inlining in grow-ok (Scope.declare (num name) v u k) (E .declare (num name) v u k g w))
+    declareM-ok name v c k g w = byState-ok (λ s. grow (Scope.declare (isTwice (form name)) (num name) v (Scope.isVar (s .varDeclKind) && not c && Walk.noValue v && s .inlining) k)) λ s o.
+        (let u = Scope.isVar (s .varDeclKind) && not c && Walk.noValue v && s .inlining in grow-ok (Scope.declare (isTwice (form name)) (num name) v u k) (E .declare (isTwice (form name)) (num name) v u k g w))
 
     leave-ok : {n : ℕ} (e : Tree) → Pres (at n) (count e + n) Any (Walk.leave e)
     leave-ok {n} e = record { from = λ s o. (let h = E .leave n e s o in (h .0, h .1, tt)) }
@@ -982,6 +983,6 @@ module _ (L : Law) where
         go s₁ m (stop x) o ih = o
         go s₁ m (done s₂ u) o ih = both u s₂ (E .s-trans (count t) (count t) (count u) s s₁ s₂ m (o .1)) (o .2) (o .0) (s₂ .changed) ih
 
-    pub pass-does : (n : ℕ) (t : Tree) → L .Good 1 t → L .Inv (Walk.start t) → Passed t (Walk.start t) (Walk.corePass n t)
+    pub pass-does : (n : ℕ) (t : Tree) → L .Good 1 (flagged t) → L .Inv (Walk.start t) → Passed (flagged t) (Walk.start t) (Walk.corePass n t)
     unfolding Walk.corePass
-    pass-does n t o h = runs-do n 0 t (Walk.start t) o h
+    pass-does n t o h = runs-do n 0 (flagged t) (Walk.start t) o h

@@ -23,7 +23,7 @@ use Rattle.def_file.specs.Core.{coreNode, coreFrom, coreNodes}
 use Rattle.def_pass.specs.Script.{coreTree, passTree, pass, answer}
 use Rattle.def_pass.specs.Walk as Walk
 use Rattle.laws_pass.specs.Readable.{formOf, rowAt, Fits, FitsF, Readable, ReadableOut}
-use Rattle.laws_pass.specs.Assigns.{Assign, listed, ownAssign, assigns, assignsF, Outside, OutsideF, KeptOut}
+use Rattle.laws_pass.specs.Assigns.{Assign, plainO, listed, ownAssign, assigns, assignsF, Outside, OutsideF, KeptOut}
 use Rattle.laws_pass.specs.FromFile.{NoInit, NoInitF, Stands, StandsIn, TreesIn, TreesOf, FileTrees}
 use Rattle.laws_pass.proofs.Readable.{body-ok, result-readable}
 use Rattle.laws_pass.proofs.Assigns.{assigns-kept, at-kind, none-left, none-right}
@@ -308,7 +308,7 @@ module _ (o : ℕ) (l : Option Tree) where
   abbrev asked : ℕ → Bool
   asked = λ a. eqb a o
 
-  own-one : (k f a : ℕ) (ts : Forest) → T (eqb k 33 && eqb f 0) → a ≡ o → headT ts ≡ l → ownAssign asked k f a (headT ts) ≡ (o, l) ∷ []
+  own-one : (k f a : ℕ) (ts : Forest) → T (eqb k 33 && eqb f 0) → a ≡ o → headT ts ≡ l → ownAssign asked k f a (headT ts) ≡ (o, plainO l) ∷ []
   own-one k f a ts h e d = rw (is-true (eqb k 33 && eqb f 0 && eqb a o) (both (eqb k 33 && eqb f 0) (eqb a o) h (subst (λ (m : ℕ). T (eqb a m)) e (eqb-refl a))), e, d) refl
 
   mutual
@@ -323,11 +323,11 @@ module _ (o : ℕ) (l : Option Tree) where
     some-in false (cons t ts) (inr h) = (let e = some-in false ts h in omega (arith, e, sizes asked t ts))
 
   record One (t : Tree) : Type 0 where
-    is : assigns asked t ≡ (o, l) ∷ []
+    is : assigns asked t ≡ (o, plainO l) ∷ []
     inits : NoInit asked t
 
   record OneIn (d : Bool) (ts : Forest) : Type 0 where
-    is : assignsF asked ts ≡ (o, l) ∷ []
+    is : assignsF asked ts ≡ (o, plainO l) ∷ []
     inits : NoInitF asked ts
     tail : T d → assignsF asked (tailF ts) ≡ []
 
@@ -390,7 +390,7 @@ module _ (o : ℕ) where
       let us = takeF (c .arity) ts in
       let e₁ = sizes (λ a. eqb a o) (node (c .kind) (c .form) (c .num) us) (dropF (c .arity) ts) in
       let e₂ = node-size (λ a. eqb a o) (c .kind) (c .form) (c .num) us in
-      let e₃ = own-size (eqb (c .kind) 33 && eqb (c .form) 0 && eqb (c .num) o) (c .num, headT us) in
+      let e₃ = own-size (eqb (c .kind) 33 && eqb (c .form) 0 && eqb (c .num) o) (c .num, plainO (headT us)) in
       omega (arith, e₁, e₂, e₃, shared (c .arity) ts, planted-size cs)
 
   -- a node hits at its own number alone

@@ -4,7 +4,7 @@ use mathlib.Core.Path.{_≡_, refl, sym, _∙_, subst}
 use mathlib.Core.Bool.{Bool, true, false, _&&_, not, _||_}
 use mathlib.Core.Option.{Option, none, some}
 use mathlib.Core.List.{List, [], _∷_, _++_, map}
-use Prim.Native.Nat.{ℕ, suc}
+use Prim.Native.Nat.{ℕ, suc, _+_}
 use lib.Dec.{T, eqb, eqb→eq}
 use Rattle.laws_pass.proofs.Tests.{is-T, pick-ok, pick-known, elim-ok}
 use Rattle.laws_pass.proofs.Effects.{Law, Effects, GF, VF, VO, VB, VI, Passed, pass-does}
@@ -12,6 +12,7 @@ use Rattle.laws_pass.proofs.Single.{Single, ids, has-mem, ids-append, i
 use lib.ListN.{length}
 use Rattle.def_tree.specs.Base.{pick, orElse}
 use Rattle.def_pass.specs.Tree.{Tree, Forest, node, nil, cons, kind, num, kids, isIdent}
+use Rattle.def_pass.specs.Twice.{unflagged, isFunction, isNamed, twice, flag, flags, flagNamed, flagged}
 use Rattle.def_pass.specs.Scope as Scope
 use Rattle.def_pass.specs.Walk as Walk
 use Rattle.def_pass.specs.Walk.{St}
@@ -28,7 +29,7 @@ pub all-append : {A : Type 0} (P : A → Type 0) (xs : List A) (y : A) → All P
 all-append P [] y t h = (h, tt)
 all-append P (x ∷ xs) y t h = (t .0, all-append P xs y (t .1) h)
 
-module _ (N : ℕ → ℕ → ℕ → Type 0) (to-ident : (f a : ℕ) → N 20 f a → N 21 f a) (n-void : N 30 0 0) (n-zero : N 22 0 0) where
+module _ (N : ℕ → ℕ → ℕ → Type 0) (to-ident : (f a : ℕ) → N 20 f a → N 21 (unflagged f) a) (n-void : N 30 0 0) (n-zero : N 22 0 0) where
   abbrev mutual
     pub OkT : Tree → Type 0
     OkT (node k f a ts) = N k f a × OkF ts
@@ -199,14 +200,14 @@ module _ (N : ℕ → ℕ → ℕ → Type 0) (to-ident : (f a : ℕ) → N 20 f
   ok-preventO none st h = h
   ok-preventO (some i) st h = ok-prevent i st h
 
-  pub ok-declare : (i : ℕ) (v : Scope.Init) (u : Bool) (k : Scope.VarType) → OkId i → OkInit v → (st : Scope.Stack) → OkSt st → OkSt (Scope.declare i v u k st)
+  pub ok-declare : (again : Bool) (i : ℕ) (v : Scope.Init) (u : Bool) (k : Scope.VarType) → OkId i → OkInit v → (st : Scope.Stack) → OkSt st → OkSt (Scope.declare again i v u k st)
   unfolding Scope.declare
-  ok-declare i v u k g w [] h = tt
-  ok-declare i v u k g w (s ∷ st) h =
+  ok-declare again i v u k g w [] h = tt
+  ok-declare again i v u k g w (s ∷ st) h =
       let e = Scope.initOf v in
       let target = Scope.idxValO (Scope.identOf e) (s .bindings) in
       let al = Scope.aliasFrom target in
-      let p = Scope.shouldPreventInlineBecauseOfScope i (s ∷ st) || Scope.preventedO e (s ∷ st) in
+      let p = again || Scope.shouldPreventInlineBecauseOfScope i (s ∷ st) || Scope.preventedO e (s ∷ st) in
       let idx = Scope.placeOr (length (s .bindings)) (Scope.idxVal 0 i (s .bindings)) in
       let old = Scope.findIn i (s .bindings) in
       let f = Scope.redeclare p u (Scope.kept v (Scope.valueO old)) in
@@ -268,7 +269,7 @@ module _ (N : ℕ → ℕ → ℕ → Type 0) (to-ident : (f a : ℕ) → N 20 f
   id-of (node k f a ts) o h = go (eqb k 20) refl (eqb k 21) refl h
     where
       go : (p : Bool) → eqb k 20 ≡ p → (q : Bool) → eqb k 21 ≡ q → T (p || q) → OkId a
-      go true e q d h = record { flag = f; ok = to-ident f a (subst (λ (m : ℕ). N m f a) (eqb→eq k 20 (is-T _ e)) (o .0)) }
+      go true e q d h = record { flag = unflagged f; ok = to-ident f a (subst (λ (m : ℕ). N m f a) (eqb→eq k 20 (is-T _ e)) (o .0)) }
       go false e true d h = record { flag = f; ok = subst (λ (m : ℕ). N m f a) (eqb→eq k 21 (is-T _ d)) (o .0) }
       go false e false d h = absurd h
 
@@ -317,7 +318,7 @@ module _ (N : ℕ → ℕ → ℕ → Type 0) (to-ident : (f a : ℕ) → N 20 f
     recount = λ t e s o h. (o, tt);
     leave = λ n e s o. (o, tt);
     write = λ i g force k n s o. (ok-addWrite i g force k (s .stack) o, tt);
-    declare = λ i v u k g w n s o. (ok-declare i v u k g (to-init v w) (s .stack) o, tt);
+    declare = λ again i v u k g w n s o. (ok-declare again i v u k g (to-init v w) (s .stack) o, tt);
     const = λ i v g w n s o. (ok-addConst (s .targeted) i v (to-value v w) (s .stack) o, tt);
     prevent = λ i n s o. (ok-prevent i (s .stack) o, tt);
     read = λ i g k n s o. (ok-addRead i g (s .stack) o, tt);
@@ -356,6 +357,31 @@ module _ (N : ℕ → ℕ → ℕ → Type 0) (to-ident : (f a : ℕ) → N 20 f
   out-ok t s (Walk.refused n) e = tt
   out-ok t s (Walk.result k c u ms) e = (e .good, subst (All (λ (m : ℕ × Bool). OkId (m .0))) (sym (e .roots)) (roots-ok (e .last .stack) (e .inv)), subst (λ (xs : List (ℕ × Bool)). Single (map (λ (m : ℕ × Bool). m .0) xs)) (sym (e .roots)) (roots-single (e .last .stack) (e .inv)))
 
+  -- with bindings flagged, where N looks at no binding's form
+  module _ (any-form : (f g a : ℕ) → N 20 f a → N 20 g a) where
+    flag-node : (k f g a : ℕ) (c : Bool) → N k f a → N k (pick (eqb k 20 && c) g f) a
+    flag-node k f g a c h = go (eqb k 20) refl c
+      where
+        go : (p : Bool) → eqb k 20 ≡ p → (c : Bool) → N k (pick (p && c) g f) a
+        go true e true = subst (λ (m : ℕ). N m g a) (sym (eqb→eq k 20 (is-T _ e))) (any-form f g a (subst (λ (m : ℕ). N m f a) (eqb→eq k 20 (is-T _ e)) h))
+        go true e false = h
+        go false e c = h
+
+    mutual
+      pub flag-ok : (b : ℕ → Bool) (t : Tree) → OkT t → OkT (flag b t)
+      flag-ok b (node k f a ts) h = (
+        flag-node k f (f + 2) a (b a) (h .0),
+        elim-ok OkF (isFunction k) (elim (isNamed k f) [ true ↦ flagNamed b ts | false ↦ flags (twice ts) ts ]) (flags b ts) (elim-ok OkF (isNamed k f) (flagNamed b ts) (flags (twice ts) ts) (name-ok b ts (h .1)) (flags-ok (twice ts) ts (h .1))) (flags-ok b ts (h .1)),
+      )
+
+      flags-ok : (b : ℕ → Bool) (ts : Forest) → OkF ts → OkF (flags b ts)
+      flags-ok b nil h = tt
+      flags-ok b (cons t ts) h = (flag-ok b t (h .0), flags-ok b ts (h .1))
+
+      name-ok : (b : ℕ → Bool) (ts : Forest) → OkF ts → OkF (flagNamed b ts)
+      name-ok b nil h = tt
+      name-ok b (cons t ts) h = (flag-ok b t (h .0), flags-ok (twice ts) ts (h .1))
+
   -- the pass keeps N
-  pub pass-ok : (n : ℕ) (t : Tree) → OkT t → OkOut (Walk.corePass n t)
-  pass-ok n t o = out-ok t (Walk.start t) (Walk.corePass n t) (pass-does keeps kept n t o ((tt, tt, tt), tt))
+  pub pass-ok : (n : ℕ) (t : Tree) → OkT (flagged t) → OkOut (Walk.corePass n t)
+  pass-ok n t o = out-ok (flagged t) (Walk.start t) (Walk.corePass n t) (pass-does keeps kept n t o ((tt, tt, tt), tt))

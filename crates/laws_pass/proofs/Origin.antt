@@ -10,7 +10,8 @@ use lib.Dec.{T, eqb, leb}
 use lib.ListN.{length, getD}
 use Rattle.def_tree.specs.Tree.{Core, plant, takeF, dropF, flat, flats}
 use Rattle.def_tree.specs.Base.{pick, toNat}
-use Rattle.def_pass.specs.Tree.{Tree, Forest, node, nil, cons, headT}
+use Rattle.def_pass.specs.Tree.{Tree, Forest, node, nil, cons, kids, headT}
+use Rattle.def_pass.specs.Twice.{unflagged, twice}
 use Rattle.def_pass.specs.Walk.{Outcome, corePass}
 use Rattle.def_file.specs.declared.Raw.{Raw}
 use Rattle.def_file.specs.Script.{Script, isLit, hasId, isArguments, nodeAt, zeroNode, idents, placeOf}
@@ -33,7 +34,7 @@ pub record Named (s : Script) (k f a : ℕ) : Type 0 where
   pub low : T (litKind k) → a ≤ length (s .nodes)
   pub ident : T (idKind k) → a < length (idents s)
 
-pub to-ident : (s : Script) (f a : ℕ) → Named s 20 f a → Named s 21 f a
+pub to-ident : (s : Script) (f a : ℕ) → Named s 20 f a → Named s 21 (unflagged f) a
 to-ident s f a h = record { lit = λ t. absurd t; low = λ t. absurd t; ident = λ t. h .ident tt }
 
 pub void-named : (s : Script) → Named s 30 0 0
@@ -121,4 +122,4 @@ out-named s n = go (coreTree s) (tree-named s)
   where
     go : (o : Option Tree) → NamedO s o → NamedOut s (passTree n o)
     go none h = tt
-    go (some t) h = Keep.pass-ok (Named s) (to-ident s) (void-named s) (zero-named s) n t h
+    go (some t) h = Keep.pass-ok (Named s) (to-ident s) (void-named s) (zero-named s) n t (Keep.flag-ok (Named s) (to-ident s) (void-named s) (zero-named s) (λ f g a k. record { lit = k .lit; low = k .low; ident = k .ident }) (twice (kids t)) t h)

@@ -15,6 +15,7 @@ use Rattle.def_file.specs.declared.kinds.Class.the-variants.{Root, Statement, E
 use Rattle.def_file.specs.Kinds.{isExpr, allows, rows, noRow, rowOf, formOk, countOk, childOf}
 use Rattle.def_file.specs.Kinds as Kinds
 use Rattle.def_pass.specs.Tree.{Tree, Forest, node, nil, cons, kind, kids, isIdent}
+use Rattle.def_pass.specs.Twice.{twice, flagged}
 use Rattle.def_pass.specs.Walk as Walk
 use Rattle.laws_pass.specs.Small.{SmallOut}
 use Rattle.laws_pass.specs.Assigns.{LastBlock}
@@ -23,6 +24,7 @@ use Rattle.laws_pass.proofs.Tests.{is-T, and-left, and-right, both, or-
 use Rattle.laws_pass.proofs.Effects.{GF, QF, VF, Passed, pass-does}
 use Rattle.laws_pass.proofs.TreeLaws.{TreeLaw, TreeEffects, law, effects, started}
 use Rattle.laws_pass.proofs.Small.{stays-small}
+use Rattle.laws_pass.proofs.Flags.{flag-allows, flag-fits}
 use Rattle.laws_pass.proofs.Assigns.{at-kind, no-other}
 
 -- the place of what is updated: an identifier there is no expression among others
@@ -243,9 +245,9 @@ kept = record {
     replaced : (t e : Tree) → T (isIdent t) → T (isExpr (kind e)) → Rel t e
     replaced (node k f a ts) e i x c y z = idents (kind e) (lengthF ts) (lengthF (kids e)) x c y (at-kind (λ m. allows c m (lengthF ts)) k 21 i z)
 
-out : (t : Tree) (o : Walk.Outcome) → Readable t → Passed (law fitting) t (Walk.start t) o → SmallOut o → ReadableOut o
+out : (t : Tree) (o : Walk.Outcome) → Readable t → Passed (law fitting) (flagged t) (Walk.start t) o → SmallOut o → ReadableOut o
 out t (Walk.refused n) r h k = tt
-out t (Walk.result m c u ms) r h k = record { root = h .related Root (λ x. x) (r .root); fits = h .good; small = k }
+out t (Walk.result m c u ms) r h k = record { root = h .related Root (λ x. x) (flag-allows (twice (kids t)) t (λ k m. T (allows Root k m)) (r .root)); fits = h .good; small = k }
 
 pub result-readable : ResultReadable
-result-readable n t r = out t (Walk.corePass n t) r (pass-does (law fitting) (effects fitting kept) n t (r .fits) (started fitting t)) (stays-small n t (r .small))
+result-readable n t r = out t (Walk.corePass n t) r (pass-does (law fitting) (effects fitting kept) n t (flag-fits (twice (kids t)) t (r .fits)) (started fitting t)) (stays-small n t (r .small))

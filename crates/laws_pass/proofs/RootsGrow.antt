@@ -159,14 +159,14 @@ g-write i args force st =
     (g-pick st (not (w .1) || force) st₃ (Scope.preventInline i) (g-prevent i) h₃)
     (pick-ok (Grow st) (Scope.hasConstant i st₂) st₂ (Scope.append b st₂) h₂ (g-trans st st₂ (Scope.append b st₂) h₂ (g-append b st₂)))
 
-g-declare : (i : ℕ) (v : Scope.Init) (u : Bool) (k : Scope.VarType) (st : Stack) → Grow st (Scope.declare i v u k st)
+g-declare : (again : Bool) (i : ℕ) (v : Scope.Init) (u : Bool) (k : Scope.VarType) (st : Stack) → Grow st (Scope.declare again i v u k st)
 unfolding Scope.declare
-g-declare i v u k [] = tt
-g-declare i v u k (s ∷ st) =
+g-declare again i v u k [] = tt
+g-declare again i v u k (s ∷ st) =
     let e = Scope.initOf v in
     let target = Scope.idxValO (Scope.identOf e) (s .bindings) in
     let al = Scope.aliasFrom target in
-    let p = Scope.shouldPreventInlineBecauseOfScope i (s ∷ st) || Scope.preventedO e (s ∷ st) in
+    let p = again || Scope.shouldPreventInlineBecauseOfScope i (s ∷ st) || Scope.preventedO e (s ∷ st) in
     let idx = Scope.placeOr (length (s .bindings)) (Scope.idxVal 0 i (s .bindings)) in
     let old = Scope.findIn i (s .bindings) in
     let f = Scope.redeclare p u (Scope.kept v (Scope.valueO old)) in
@@ -207,7 +207,7 @@ grown = effects grows (record {
   recount = λ t e s o h. (tt, g-refl (s .stack));
   leave = λ n e s o. (tt, g-refl (s .stack));
   write = λ i g force n s o. (tt, g-write i g force (s .stack));
-  declare = λ i v u k n s o. (tt, g-declare i v u k (s .stack));
+  declare = λ again i v u k n s o. (tt, g-declare again i v u k (s .stack));
   const = λ i v n s o. (tt, g-const (s .targeted) i v (s .stack));
   prevent = λ i n s o. (tt, g-prevent i (s .stack));
   read = λ i g n s o. (tt, g-read i g (s .stack));

@@ -4,10 +4,12 @@ use mathlib.Core.Bool.{false}
 use Prim.Native.Nat.{ℕ, suc, _+_, _-_, _≤_}
 use native.Mathlib.Omega.{arith}
 use borrow.Author.Tests.{ltb-false}
-use Rattle.def_pass.specs.Tree.{Tree, Forest, nil, cons, count, height, heights}
+use Rattle.def_pass.specs.Tree.{Tree, Forest, nil, cons, kids, count, height, heights}
+use Rattle.def_pass.specs.Twice.{twice, flagged}
 use Rattle.def_pass.specs.Walk as Walk
 use Rattle.laws_pass.specs.Small.{SmallOut, StaysSmall}
 use Rattle.laws_pass.proofs.Effects.{GF, VF, Passed, pass-does}
+use Rattle.laws_pass.proofs.Flags.{flag-height, flag-count}
 use Rattle.laws_pass.proofs.TreeLaws as trees
 use Rattle.laws_pass.proofs.TreeLaws.{TreeLaw, TreeEffects}
 use Rattle.laws_pass.proofs.StateLaws as states
@@ -28,7 +30,7 @@ counted = record {
   recount = λ t e s o h. (ltb-false 1024 ((s .nodes + count e) - count t) h, λ x. omega arith);
   leave = λ n e s o. (omega (arith, o), λ x. omega (arith, x));
   write = λ i g force n s o. (o, λ x. refl);
-  declare = λ i v u k n s o. (o, λ x. refl);
+  declare = λ again i v u k n s o. (o, λ x. refl);
   const = λ i v n s o. (o, λ x. refl);
   prevent = λ i n s o. (o, λ x. refl);
   read = λ i g n s o. (o, λ x. refl);
@@ -80,11 +82,11 @@ shallow = record {
     under : (p h : ℕ) → suc p + h ≤ 201 → p + (1 + h) ≤ 201
     under p h x = omega (arith, x)
 
-out : (t : Tree) (o : Walk.Outcome) → Passed (states.law nodes) t (Walk.start t) o → Passed (trees.law flat) t (Walk.start t) o → SmallOut o
+out : (t : Tree) (o : Walk.Outcome) → Passed (states.law nodes) (flagged t) (Walk.start t) o → Passed (trees.law flat) (flagged t) (Walk.start t) o → SmallOut o
 out t (Walk.refused n) h k = tt
 out t (Walk.result r c u ms) h k =
-    let e = h .moved (omega arith) in
-    (omega (arith, k .good), omega (arith, e, h .inv))
+    let e = h .moved (omega (arith, flag-count (twice (kids t)) t)) in
+    (omega (arith, k .good), omega (arith, e, h .inv, flag-count (twice (kids t)) t))
 
 pub stays-small : StaysSmall
-stays-small n t h = out t (Walk.corePass n t) (pass-does (states.law nodes) (states.effects nodes counted) n t tt (h .1)) (pass-does (trees.law flat) (trees.effects flat shallow) n t (omega (arith, h .0)) (trees.started flat t))
+stays-small n t h = out t (Walk.corePass n t) (pass-does (states.law nodes) (states.effects nodes counted) n t tt (h .1)) (pass-does (trees.law flat) (trees.effects flat shallow) n t (omega (arith, h .0, flag-height (twice (kids t)) t)) (trees.started flat t))

@@ -31,7 +31,7 @@ module _ (X : StateLaw) where
     pub recount : (t e : Tree) (s : St) → X .Inv s → ltb 1024 ((s .nodes + count e) - count t) ≡ false → X .Inv (Walk.setNodes ((s .nodes + count e) - count t) s) × X .Move (count t) s (count e) (Walk.setNodes ((s .nodes + count e) - count t) s)
     pub leave : (n : ℕ) (e : Tree) (s : St) → X .Inv s → X .Inv (Walk.setNodes (s .nodes - count e) s) × X .Move (count e + n) s n (Walk.setNodes (s .nodes - count e) s)
     pub write : (i : ℕ) (args force : Bool) → On law (Scope.addWrite i args force)
-    pub declare : (i : ℕ) (v : Scope.Init) (u : Bool) (k : Scope.VarType) → On law (Scope.declare i v u k)
+    pub declare : (again : Bool) (i : ℕ) (v : Scope.Init) (u : Bool) (k : Scope.VarType) → On law (Scope.declare again i v u k)
     pub const : (i : ℕ) (v : Option Tree) → (n : ℕ) (s : St) → X .Inv s → Moves law n s (Walk.setStack (Scope.addConst (s .targeted) i v (s .stack)) s)
     pub prevent : (i : ℕ) → On law (Scope.preventInline i)
     pub read : (i : ℕ) (args : Bool) → On law (Scope.addRead i args)
@@ -82,7 +82,7 @@ module _ (X : StateLaw) where
     recount = E .recount;
     leave = E .leave;
     write = λ i g force k. E .write i g force;
-    declare = λ i v u k g w. E .declare i v u k;
+    declare = λ again i v u k g w. E .declare again i v u k;
     const = λ i v g w. E .const i v;
     prevent = E .prevent;
     read = λ i g k. E .read i g;

@@ -144,14 +144,14 @@ module _ (V? : Option Tree → Type 0) (nothing : V? none) where
   of-value none h = nothing
   of-value (some b) h = h
 
-  pub v-declare : (i : ℕ) (v : Scope.Init) (u : Bool) (k : Scope.VarType) → Kept v → (st : Stack) → HeldSt st → HeldSt (Scope.declare i v u k st)
+  pub v-declare : (again : Bool) (i : ℕ) (v : Scope.Init) (u : Bool) (k : Scope.VarType) → Kept v → (st : Stack) → HeldSt st → HeldSt (Scope.declare again i v u k st)
   unfolding Scope.declare
-  v-declare i v u k w [] h = tt
-  v-declare i v u k w (s ∷ st) h =
+  v-declare again i v u k w [] h = tt
+  v-declare again i v u k w (s ∷ st) h =
       let e = Scope.initOf v in
       let target = Scope.idxValO (Scope.identOf e) (s .bindings) in
       let al = Scope.aliasFrom target in
-      let p = Scope.shouldPreventInlineBecauseOfScope i (s ∷ st) || Scope.preventedO e (s ∷ st) in
+      let p = again || Scope.shouldPreventInlineBecauseOfScope i (s ∷ st) || Scope.preventedO e (s ∷ st) in
       let idx = Scope.placeOr (length (s .bindings)) (Scope.idxVal 0 i (s .bindings)) in
       let old = Scope.findIn i (s .bindings) in
       let f = Scope.redeclare p u (Scope.kept v (Scope.valueO old)) in
@@ -257,7 +257,7 @@ module _ (X : TreeLaw) where
         recount = λ t e s o h. (o, tt);
         leave = λ n e s o. (o, tt);
         write = λ i g force k n s o. (v-write V? tt i g force (s .stack) o, tt);
-        declare = λ i v u k g w n s o. (v-declare V? tt i v u k (kept-I v w) (s .stack) o, tt);
+        declare = λ again i v u k g w n s o. (v-declare V? tt again i v u k (kept-I v w) (s .stack) o, tt);
         const = λ i v g w n s o. (v-addConst V? tt (s .targeted) i v (back-O v w) (s .stack) o, tt);
         prevent = λ i n s o. (v-prevent V? tt i (s .stack) o, tt);
         read = λ i g k n s o. (v-read V? tt i g (s .stack) o, tt);

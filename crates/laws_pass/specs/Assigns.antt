@@ -2,12 +2,26 @@
 -- kind 33 is its origin. Assumes nothing: these are definitions.
 use mathlib.Core.Path.{_≡_}
 use mathlib.Core.Bool.{Bool, true, false, _&&_, _||_}
-use mathlib.Core.Option.{Option}
+use mathlib.Core.Option.{Option, none, some}
 use mathlib.Core.List.{List, [], _∷_, _++_}
-use Prim.Native.Nat.{ℕ}
+use Prim.Native.Nat.{ℕ, _%_}
 use lib.Dec.{T, eqb}
+use Rattle.def_tree.specs.Base.{pick}
 use Rattle.def_pass.specs.Tree.{Tree, Forest, node, nil, cons, kind, headT, tailF}
 use Rattle.def_pass.specs.Walk.{corePass, Outcome, refused, result}
+
+-- a target without the flags of its bindings (request 3): of a binding's form only whether its name is `arguments`
+abbrev mutual
+  pub plain : Tree → Tree
+  plain (node k f a ts) = node k (pick (eqb k 20) (f % 2) f) a (plains ts)
+
+  pub plains : Forest → Forest
+  plains nil = nil
+  plains (cons t ts) = cons (plain t) (plains ts)
+
+abbrev pub plainO : Option Tree → Option Tree
+plainO none = none
+plainO (some t) = some (plain t)
 
 -- an `=`: its origin and its target
 abbrev pub Assign : Type 0
@@ -19,7 +33,7 @@ listed false x = []
 
 -- of a node: is it an `=` whose origin is asked for
 abbrev pub ownAssign : (ℕ → Bool) → ℕ → ℕ → ℕ → Option Tree → List Assign
-ownAssign asked k f a l = listed (eqb k 33 && eqb f 0 && asked a) (a, l)
+ownAssign asked k f a l = listed (eqb k 33 && eqb f 0 && asked a) (a, plainO l)
 
 -- those of a tree, in order
 abbrev mutual

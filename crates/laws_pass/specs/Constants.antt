@@ -19,7 +19,7 @@ pub data Step (tg : ℕ → Bool) : (Stack → Stack) → Type 0 where
   writes : (i : ℕ) (args force : Bool) → Step tg (addWrite i args force)
   senses : (i : Option ℕ) → Step tg (markThisSensitive i)
   bars : Step tg storeInlineBarrier
-  declares : (i : ℕ) (v : Init) (u : Bool) (k : VarType) → Step tg (declare i v u k)
+  declares : (again : Bool) (i : ℕ) (v : Init) (u : Bool) (k : VarType) → Step tg (declare again i v u k)
   stores : (i : ℕ) (v : Option Tree) → Step tg (change i (withValue v))
   begins : (i : ℕ) (v : Option Tree) → Step tg (change i (λ b. defined (withValue v b)))
   fixes : (i : ℕ) (v : Option Tree) → Step tg (addConst tg i v)

@@ -12,7 +12,7 @@ use Rattle.def_file.specs.Read.{Read, bad, script, read}
 use Rattle.def_pass.specs.Tree.{Tree, Forest, node, nil, cons, headT, tailF}
 use Rattle.def_pass.specs.Script.{Out, Answer, no!, yes!, coreTree, back, passRead}
 use Rattle.laws_pass.specs.Readable.{Readable}
-use Rattle.laws_pass.specs.Assigns.{Assign, assigns, assignsF}
+use Rattle.laws_pass.specs.Assigns.{Assign, plainO, assigns, assignsF}
 
 -- no `=` that is asked for stands in an initialiser
 abbrev mutual
@@ -47,7 +47,7 @@ pub record Trees (s : Script) (xs : List Out) : Type 0 where
   pub readable : Readable before
   pub again : Readable after
   pub assigned : (asked : ℕ → Bool) → NoInit asked before → assigns asked after ≡ assigns asked before
-  pub once : (o : ℕ) (l : Option Tree) → Stands o l before → ofOrigin o after ≡ (o, l) ∷ []
+  pub once : (o : ℕ) (l : Option Tree) → Stands o l before → ofOrigin o after ≡ (o, plainO l) ∷ []
 
 abbrev pub TreesIn : Script → Answer → Type 0
 TreesIn s (no! n) = Unit {0}

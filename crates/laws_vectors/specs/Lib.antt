@@ -9,5 +9,7 @@ pub mod Part1
 pub mod Part2
 pub mod Part3
 pub mod Part4
+pub mod Part5
+pub mod Part6
 pub mod Play
 pub mod Vector

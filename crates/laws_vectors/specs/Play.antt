@@ -63,7 +63,7 @@ abbrev pub steps : List (ℕ → ℕ → ℕ → M Nothing)
 steps =
     (λ x v m. ret tt)
     ∷ (λ x v m. opening (getD (cond ∷ loop ∷ block ∷ fn false ∷ []) m (fn true)))
-    ∷ (λ x v m. grow (declare x (initOf v m) (odd (m / 4)) (getD (param ∷ vVar ∷ vLet ∷ []) (m % 4) vConst)))
+    ∷ (λ x v m. grow (declare (odd (m / 16)) x (initOf v m) (odd (m / 4)) (getD (param ∷ vVar ∷ vLet ∷ []) (m % 4) vConst)))
     ∷ (λ x v m. grow (addWrite x (odd m) (odd (m / 2))))
     ∷ (λ x v m. grow (change x (withValue (valueO v))))
     ∷ (λ x v m. grow (change x (λ c. defined (withValue (valueO v) c))))

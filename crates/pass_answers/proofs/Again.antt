@@ -17,7 +17,8 @@ use Rattle.def_file.specs.Core.{hasText, coreNode, coreFrom, coreNodes, Out, id
 use Rattle.laws_roundtrip.specs.Fits.{Narrow, Fits}
 use Rattle.laws_roundtrip.proofs.Header.{passed}
 use Rattle.laws_roundtrip.proofs.Round.{fits-read, again}
-use Rattle.def_pass.specs.Tree.{Tree, Forest, node, nil, cons, count, counts}
+use Rattle.def_pass.specs.Tree.{Tree, Forest, node, nil, cons, count, counts, kids}
+use Rattle.def_pass.specs.Twice.{unflagged, twice}
 use Rattle.def_pass.specs.Walk as Walk
 use Rattle.def_pass.specs.Script.{coreTree, passTree, pass, answer}
 use Rattle.laws_pass.specs.Again.{rawsOf, outcome, RefillsIn, RefillsOf}
@@ -38,18 +39,25 @@ all-getD : (P : Raw → Type 0) (xs : List Raw) → ((k : ℕ) → P (getD xs k 
 all-getD P [] h = tt
 all-getD P (x ∷ xs) h = (h 0, all-getD P xs (λ k. h (suc k)))
 
--- kind and form in a byte
+-- the kind, and the form of what is no identifier, in a byte
 abbrev Byte : ℕ → ℕ → ℕ → Type 0
-Byte k f a = (k < 256) × (f < 256)
+Byte k f a = (k < 256) × ((eqb k 20 || eqb k 21) ≡ false → f < 256)
 
-byte-ident : (f a : ℕ) → Byte 20 f a → Byte 21 f a
-byte-ident f a h = (omega arith, h .1)
+differ : true ≡ false → ⊥
+differ q = let y : _≡_ {A = ℕ} 0 1 = cc in omega arith
+
+byte-ident : (f a : ℕ) → Byte 20 f a → Byte 21 (unflagged f) a
+byte-ident f a h = (omega arith, λ e. absurd (differ e))
 
 byte-void : Byte 30 0 0
-byte-void = (omega arith, omega arith)
+byte-void = (omega arith, λ e. omega arith)
 
 byte-zero : Byte 22 0 0
-byte-zero = (omega arith, omega arith)
+byte-zero = (omega arith, λ e. omega arith)
+
+-- flagged or not
+byte-form : (f g a : ℕ) → Byte 20 f a → Byte 20 g a
+byte-form f g a h = (h .0, λ e. absurd (differ e))
 
 abbrev ByteT : Tree → Type 0
 ByteT t = Keep.OkT Byte byte-ident byte-void byte-zero t
@@ -83,9 +91,9 @@ core-byte s n x h = go (isLit x) (hasId x)
     flag false = omega arith
 
     go : (q r : Bool) → ByteC (pick q (record { kind = 22; form = 0; arity = 0; num = n }) (pick r (record { kind = x .kind; form = toNat (isArguments s x); arity = x .arity; num = placeOf x (idents s) }) (record { kind = x .kind; form = x .form; arity = x .arity; num = n })))
-    go true r = (omega arith, omega arith)
-    go false true = (h .kind, flag (isArguments s x))
-    go false false = (h .kind, h .form)
+    go true r = (omega arith, λ e. omega arith)
+    go false true = (h .kind, λ e. flag (isArguments s x))
+    go false false = (h .kind, λ e. h .form)
 
 cores-byte : (s : Script) (n : ℕ) (xs : List Raw) → All Narrow xs → All ByteC (coreFrom s n xs)
 cores-byte s n [] h = tt
@@ -94,7 +102,7 @@ cores-byte s n (x ∷ xs) h = (core-byte s n x (h .0), cores-byte s (suc n) xs (
 -- the nodes of a tree
 record Slim (c : Core) : Type 0 where
   kind : c .kind < 256
-  form : c .form < 256
+  form : (eqb (c .kind) 20 || eqb (c .kind) 21) ≡ false → c .form < 256
   arity : c .arity < 65536
 
 short : (ts : Forest) → lengthF ts ≤ counts ts
@@ -150,7 +158,7 @@ module _ (s : Script) (ok : All Narrow (s .nodes)) where
 
   back-narrow : (c : Core) → Slim c → Narrow (back s c .raw)
   unfolding back
-  back-narrow c h = go (leb 22 (c .kind) && leb (c .kind) 25) (eqb (c .kind) 20 || eqb (c .kind) 21)
+  back-narrow c h = go (leb 22 (c .kind) && leb (c .kind) 25) (eqb (c .kind) 20 || eqb (c .kind) 21) refl
     where
       idRaw : Raw
       idRaw = record { kind = c .kind; form = 0; arity = c .arity; text = identAt s (c .num) .text; bits = identAt s (c .num) .bits }
@@ -162,10 +170,10 @@ module _ (s : Script) (ok : All Narrow (s .nodes)) where
       word true = at-narrow (c .num) .text
       word false = omega arith
 
-      go : (u v : Bool) → Narrow (pick {A = Out} u (record { raw = nodeAt s (c .num); origin = c .num }) (pick {A = Out} v (record { raw = idRaw; origin = c .num }) (record { raw = plainRaw; origin = c .num })) .raw)
-      go true v = at-narrow (c .num)
-      go false true = record { kind = h .kind; form = omega arith; arity = h .arity; text = ident-narrow (c .num) .text; bits = ident-narrow (c .num) .bits }
-      go false false = record { kind = h .kind; form = h .form; arity = h .arity; text = word (hasText (c .kind)); bits = omega arith }
+      go : (u v : Bool) → (eqb (c .kind) 20 || eqb (c .kind) 21) ≡ v → Narrow (pick {A = Out} u (record { raw = nodeAt s (c .num); origin = c .num }) (pick {A = Out} v (record { raw = idRaw; origin = c .num }) (record { raw = plainRaw; origin = c .num })) .raw)
+      go true v e = at-narrow (c .num)
+      go false true e = record { kind = h .kind; form = omega arith; arity = h .arity; text = ident-narrow (c .num) .text; bits = ident-narrow (c .num) .bits }
+      go false false e = record { kind = h .kind; form = h .form e; arity = h .arity; text = word (hasText (c .kind)); bits = omega arith }
 
   backs-narrow : (cs : List Core) → All Slim cs → All Narrow (rawsOf s cs)
   backs-narrow [] h = tt
@@ -209,7 +217,7 @@ reads-again n bs y = go (read bs) refl (read-ok bs) (result-fills n bs)
     tree-byte s f w = subst ByteF (w .alone) (plant-byte (coreNodes s) (nodes-byte s f)) .0
 
     by : (s : Script) → Fits s → (w : Whole s) → RefillsIn s (answer s (passTree n (coreTree s))) → AgainIn s (answer s (passTree n (coreTree s)))
-    by s f w e = subst (λ (x : Option Tree). AgainIn s (answer s (passTree n x))) (sym (w .is)) (out s f (Walk.corePass n (w .tree)) (result-readable n (w .tree) (w .readable)) (Keep.pass-ok Byte byte-ident byte-void byte-zero n (w .tree) (tree-byte s f w)) (subst (λ (x : Option Tree). RefillsIn s (answer s (passTree n x))) (w .is) e))
+    by s f w e = subst (λ (x : Option Tree). AgainIn s (answer s (passTree n x))) (sym (w .is)) (out s f (Walk.corePass n (w .tree)) (result-readable n (w .tree) (w .readable)) (Keep.pass-ok Byte byte-ident byte-void byte-zero n (w .tree) (Keep.flag-ok Byte byte-ident byte-void byte-zero byte-form (twice (kids (w .tree))) (w .tree) (tree-byte s f w))) (subst (λ (x : Option Tree). RefillsIn s (answer s (passTree n x))) (w .is) e))
 
     go : (r : Read) → read bs ≡ r → ReadsOk r → RefillsOf n r → AgainOf n r
     go (bad r) q o e = tt

@@ -22,6 +22,7 @@ use Rattle.pass_answers.specs.declared.RootBinding.{RootBinding}
 use Rattle.pass_answers.specs.Entry.{numbers}
 use Rattle.pass_answers.specs.Rows.{EntryRow, ListingRow, NthRow, Rows, Result, Listed, Given, InlineZero, RootsZero, RootZero}
 use Rattle.def_pass.specs.Walk as Walk
+use Rattle.def_pass.specs.Twice.{flagged}
 use Rattle.laws_pass.proofs.Refusals.{Low, runs-low}
 
 -- runs
@@ -36,7 +37,7 @@ r-runs (Walk.result k c t ms) h = tt
 r-tree-pass : (n : ℕ) (o : Option Tree) → Ends (passTree n o)
 unfolding Walk.corePass
 r-tree-pass n none = (omega arith, omega arith)
-r-tree-pass n (some t) = r-runs (Walk.runs n 0 t (Walk.start t)) (runs-low n 0 t (Walk.start t))
+r-tree-pass n (some t) = r-runs (Walk.runs n 0 (flagged t) (Walk.start t)) (runs-low n 0 (flagged t) (Walk.start t))
 
 -- a script's answer
 abbrev Answers : Answer → Type 0

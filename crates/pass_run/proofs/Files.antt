@@ -8,13 +8,14 @@ use native.Mathlib.Omega.{arith}
 use borrow.Author.Tests.{le-leb, eq-eqb}
 use lib.Dec.{T, eqb, leb}
 use lib.ListN.{length, getD, take, drop}
-use Rattle.def_tree.specs.Tree.{Forest, Core, flat, firstT}
+use Rattle.def_tree.specs.Base.{toNat}
+use Rattle.def_tree.specs.Tree.{Forest, Core, noCore, flat, firstT}
 use Rattle.def_tree.specs.Combine.{Flat}
 use Rattle.words.specs.Tab.{tab-ext}
 use Rattle.words.specs.Layout.{tree}
 use Rattle.words.specs.Moved.{Cleared}
 use Rattle.def_file.specs.declared.Raw.{Raw}
-use Rattle.def_file.specs.Script.{Script, isLit, hasId, enterAll, idents, placeOf, zeroNode}
+use Rattle.def_file.specs.Script.{Script, isLit, hasId, enterAll, idents, placeOf, zeroNode, isArguments}
 use Rattle.def_file.specs.Core.{coreNode, coreFrom, coreNodes}
 use Rattle.def_file.specs.Read.{Read, bad, script, u32, read}
 use Rattle.laws_roundtrip.proofs.Nodes.{nodes-length}
@@ -30,10 +31,11 @@ use Rattle.file_copy.proofs.Again.{place-enter}
 use Rattle.file_copy.proofs.Ends.{WasRead}
 use Rattle.def_pass.specs.Walk.{St}
 use Rattle.laws_flat.specs.WalkF.{OutcomeF, refusedF, runsF}
-use Rattle.laws_flat.specs.PassF.{startF, targetsL}
+use Rattle.laws_flat.specs.PassF.{startF, targetsL, flaggedL}
 use Rattle.laws_flat.proofs.File.{planted-ok}
 use Rattle.words_scopes.specs.State.{Named, Names}
 use Rattle.words_nodes.specs.Nodes.{One}
+use Rattle.words_twice.specs.Twice.{Plain}
 use Rattle.words_state.specs.State.{abs}
 use Rattle.pass_run.specs.declared.Ran.{Ran}
 use Rattle.pass_run.specs.declared.Ran.the-variants as Ran
@@ -66,6 +68,28 @@ names-from s m [] h j = λ e. omega arith
 names-from s m (x ∷ xs) h zero = core-named s m x (h 0 (omega arith))
 names-from s m (x ∷ xs) h (suc j) = names-from s (suc m) xs (λ k l. h (suc k) (omega arith)) j
 
+-- the core of a binding has form 0 or 1
+core-low : (s : Script) (m : ℕ) (x : Raw) → coreNode s m x .kind ≡ 20 → coreNode s m x .form < 30
+core-low s m x = go (isLit x) (hasId x) refl refl
+  where
+    small : (b : Bool) → toNat b < 30
+    small true = omega arith
+    small false = omega arith
+
+    go : (p q : Bool) → isLit x ≡ p → hasId x ≡ q → coreNode s m x .kind ≡ 20 → coreNode s m x .form < 30
+    go true q a b = rw (core-lit s m x a) (λ e. omega (arith, e))
+    go false true a b = rw (core-id s m x a b) (λ e. small (isArguments s x))
+    go false false a b = rw (core-plain s m x a b) (λ e. absurd (no-id (x .kind) b (inl e)))
+
+low-from : (s : Script) (m : ℕ) (xs : List Raw) (j : ℕ) → getD (coreFrom s m xs) j noCore .kind ≡ 20 → getD (coreFrom s m xs) j noCore .form < 30
+low-from s m [] j = λ e. omega arith
+low-from s m (x ∷ xs) zero = core-low s m x
+low-from s m (x ∷ xs) (suc j) = low-from s (suc m) xs j
+
+core-room : (s : Script) → Plain (coreNodes s) 0
+unfolding coreNodes
+core-room s = record { low = λ j l. low-from s 1 (s .nodes) j }
+
 -- a script that was read
 module _ (bs : List ℕ) (s : Script) (h : read bs ≡ script s) where
   pub is-found : Found bs s (u32 bs 8) (u32 bs 16) (u32 bs 28)
@@ -90,6 +114,7 @@ loaded {bs} W = record {
   few = omega (arith, W .held .count, node-count bs (W .script) (W .is), is-found bs (W .script) (W .is) .head .few);
   names = rw (W .held .tree) (core-names bs (W .script) (W .is));
   one = rw (W .held .tree) (core-one bs (W .script) (W .is));
+  plain = rw (W .held .tree) (core-room (W .script));
 }
 
 -- the identifiers stay listed
@@ -115,7 +140,7 @@ module _ {w u : List ℕ} {n : ℕ} (L : Listed w n) (e : Same w u) where
 module _ {bs w w₁ u v : List ℕ} {x : Ran} (n : ℕ) (W : WasRead bs w w₁) (S : Started w₁ u) (R : RunsIs u v x (runsF n 0 (abs u))) where
   begins : abs u ≡ begin (W .script)
   begins =
-      ap₂ {C = Flat St} (λ (xs : List Core) (s : St). record { nodes = xs; rest = s }) (S .nodes ∙ W .held .tree) (S .is ∙ ap₂ (λ (n : ℕ) (xs : List Core). startF n (targetsL xs)) (W .held .count) (W .held .tree))
+      ap₂ {C = Flat St} (λ (xs : List Core) (s : St). record { nodes = xs; rest = s }) (S .nodes ∙ ap (λ (xs : List Core). flaggedL xs) (W .held .tree)) (S .is ∙ ap₂ (λ (n : ℕ) (xs : List Core). startF n (targetsL xs)) (W .held .count) (W .held .tree))
 
   ends : (r : Ran) → x ≡ r → outcome r v ≡ readRuns n (read bs)
   ends r e = ap (λ (y : Ran). outcome y v) (sym e) ∙ R .is ∙ ap (λ (st : Flat St). runsF n 0 st) begins ∙ ap (readRuns n) (sym (W .is))

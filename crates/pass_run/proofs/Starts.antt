@@ -2,17 +2,18 @@
 use mathlib.Core.Path.{_≡_, refl, sym, ap, ap₂, _∙_}
 use mathlib.Core.Bool.{true, false}
 use mathlib.Core.List.{List, [], _∷_}
-use Prim.Native.Nat.{ℕ}
+use Prim.Native.Nat.{ℕ, _≤_, _<_}
 use native.Mathlib.Omega.{arith}
 use lib.ListN.{length, getD}
 use lib.Dec.{leb}
 use Rattle.words.specs.Tab.{sum}
-use Rattle.words.specs.Layout.{yes, tree}
+use Rattle.words.specs.Layout.{yes, Agree, tree, beyond}
 use Rattle.words.specs.Moved.{Put5, Zeroed}
-use Rattle.words.proofs.Nodes.{tree-same, beyond-same}
+use Rattle.words.proofs.Nodes.{tree-length, tree-same, beyond-same}
 use Rattle.def_tree.specs.Tree.{Core}
 use Rattle.def_pass.specs.Scope.{Stack, fn, newScope}
-use Rattle.laws_flat.specs.PassF.{startF, targetsL}
+use Rattle.def_pass.specs.Walk.{St, setNodes}
+use Rattle.laws_flat.specs.PassF.{startF, targetsL, flaggedL}
 use Rattle.words_scopes.specs.State.{Good, Becomes, heads, headsAt, stack, varTypeOf, targeted}
 use Rattle.words_scopes.proofs.Index.{beside-none}
 use Rattle.words_scopes.proofs.Words.{targeted-same}
@@ -23,9 +24,11 @@ use Rattle.scope_values.specs.declared.Step.the-variants.{Done, Refused}
 use Rattle.scope_values.specs.Steps.{Limited}
 use Rattle.scope_child.specs.declared.ScopeKind.{ScopeKind}
 use Rattle.scope_child.specs.Kinds.{kindOf}
-use Rattle.words_nodes.specs.Nodes.{Planted}
+use Rattle.words_nodes.specs.Nodes.{Planted, Replants}
 use Rattle.words_state.specs.State.{modeOf, rest, Ok}
-use Rattle.words_state.proofs.Fields.{st-eq, becomes-rest, becomes-ok, count-kept}
+use Rattle.words_state.proofs.Fields.{st-eq, becomes-rest, becomes-ok, count-kept, replants-rest}
+use Rattle.words_twice.specs.Twice.{Plain}
+use Rattle.words_twice.proofs.Steps.{flagged-long}
 use Rattle.pass_run.specs.Start.{Loaded, Fields, Started}
 
 pub fields : {w u v y z : List ℕ} → Zeroed w u 1 3 → Put5 u v 5 0 0 1 1 3 → Zeroed v y 10 2 → Zeroed y z 7568 256 → Fields w z
@@ -47,6 +50,16 @@ fields {w} {u} {v} {y} {z} a b c d = record {
   mid = λ j l h. d .low j h ∙ c .high j (omega arith) ∙ b .high j (omega arith) ∙ a .high j (omega arith);
   high = λ j l. d .high j (omega arith) ∙ c .high j (omega arith) ∙ b .high j (omega arith) ∙ a .high j (omega arith);
 }
+
+-- what holds before the flags: the tree as it was read
+pub record Opened (w u : List ℕ) : Type 0 where
+  pub planted : Planted u
+  pub size : length u ≡ length w
+  pub nodes : tree u ≡ tree w
+  pub is : rest u ≡ startF (getD w 0 0) (targetsL (tree w))
+  pub idents : getD u 4 0 ≡ getD w 4 0
+  pub high : Agree 15504 16016 w u
+  pub rest : beyond u ≡ beyond w
 
 -- no scope is open, and the words are good
 module _ {w u : List ℕ} (l : Loaded w) (f : Fields w u) where
@@ -91,7 +104,7 @@ module _ {w u : List ℕ} (l : Loaded w) (f : Fields w u) where
     unfolding rest
     field e q = becomes-rest planted (count-kept b) b ∙ st-eq e (ap yes (f .changed)) (ap yes (f .inlining)) (ap yes (f .isFirstRun)) (ap varTypeOf (f .varDeclKind)) (ap modeOf (f .patMode)) (ap yes (f .inTest)) (f .conds) (f .nodes) (targeted-same w u (λ j p h. f .high j (omega arith)) ∙ q)
 
-    begun : st ≡ newScope (fn false) ∷ [] → targeted w ≡ targetsL (tree w) → Started w v
+    begun : st ≡ newScope (fn false) ∷ [] → targeted w ≡ targetsL (tree w) → Opened w v
     begun e q = record {
       planted = ok .planted;
       size = size ∙ f .size;
@@ -103,9 +116,9 @@ module _ {w u : List ℕ} (l : Loaded w) (f : Fields w u) where
     }
 
   -- the root is opened: one scope passes no limit
-  pub started : {v : List ℕ} (k : ScopeKind) (s : Step) → kindOf k ≡ fn false → length v ≡ length u → Limited 8 (leb 32 (length (stack u))) u v (newScope (kindOf k) ∷ stack u) s → targeted w ≡ targetsL (tree w) → Started w v
-  started {v} k Done e z h q = begun (h .0) z (rw (e, no-scope) refl) q
-  started {v} k (Refused r) e z h q = absurd (no (sym (ap (λ (st : Stack). leb 32 (length st)) no-scope) ∙ h .1))
+  pub opened : {v : List ℕ} (k : ScopeKind) (s : Step) → kindOf k ≡ fn false → length v ≡ length u → Limited 8 (leb 32 (length (stack u))) u v (newScope (kindOf k) ∷ stack u) s → targeted w ≡ targetsL (tree w) → Opened w v
+  opened {v} k Done e z h q = begun (h .0) z (rw (e, no-scope) refl) q
+  opened {v} k (Refused r) e z h q = absurd (no (sym (ap (λ (st : Stack). leb 32 (length st)) no-scope) ∙ h .1))
     where
       no : false ≡ true → ⊥
       no q = let y : _≡_ {A = ℕ} 0 1 = cc in omega arith
@@ -119,12 +132,12 @@ module _ {w u : List ℕ} (l : Loaded w) (t : Targeted w u) where
   marked-tree = beside-tree (as-script l) (t .beside)
 
   pub marked-loaded : Loaded u
-  marked-loaded = record { long = rw (t .beside .size) (l .long); few = rw (t .beside .low 0 (omega arith)) (l .few); names = rw marked-tree (l .names); one = rw marked-tree (l .one) }
+  marked-loaded = record { long = rw (t .beside .size) (l .long); few = rw (t .beside .low 0 (omega arith)) (l .few); names = rw marked-tree (l .names); one = rw marked-tree (l .one); plain = rw marked-tree (l .plain) }
 
   pub marked-is : targeted u ≡ targetsL (tree u)
   marked-is = t .is ∙ ap (λ (xs : List Core). targetsL xs) (sym marked-tree)
 
-  pub from-marked : {v : List ℕ} → Started u v → Started w v
+  pub from-marked : {v : List ℕ} → Opened u v → Opened w v
   from-marked s = record {
     planted = s .planted;
     size = s .size ∙ t .beside .size;
@@ -133,4 +146,23 @@ module _ {w u : List ℕ} (l : Loaded w) (t : Targeted w u) where
     idents = s .idents ∙ t .beside .low 4 (omega arith);
     high = λ j p h. s .high j p h ∙ t .beside .low j h;
     rest = s .rest ∙ beyond-same w u (t .beside .size) (λ j p. t .beside .high j (omega arith));
+  }
+
+-- the flags last
+module _ {w u : List ℕ} (o : Opened w u) where
+  pub opened-plain : Loaded w → Plain (tree u) 0
+  opened-plain l = rw (o .nodes) (l .plain)
+
+  as-many : length (flaggedL (tree u)) ≡ getD w 0 0
+  as-many = flagged-long (o .planted) ∙ sym (tree-length u) ∙ ap length (o .nodes) ∙ tree-length w
+
+  pub started : {v : List ℕ} → Replants u v (flaggedL (tree u)) → Started w v
+  started {v} r = record {
+    planted = r .planted;
+    size = r .apart .size ∙ o .size;
+    nodes = r .is ∙ ap (λ (xs : List Core). flaggedL xs) (o .nodes);
+    is = replants-rest r ∙ ap₂ {C = St} (λ (n : ℕ) (s : St). setNodes n s) as-many (o .is);
+    idents = r .apart .low 4 (omega arith) (omega arith) ∙ o .idents;
+    high = λ j p h. r .apart .high j (omega arith) ∙ o .high j p h;
+    rest = r .rest ∙ o .rest;
   }

@@ -12,7 +12,7 @@ use Rattle.file_read.specs.Idents.{idsOf, Listed}
 use Rattle.file_read.specs.Load.{Kept}
 use Rattle.def_pass.specs.Walk.{St}
 use Rattle.laws_flat.specs.WalkF.{OutcomeF, refusedF, runsF}
-use Rattle.laws_flat.specs.PassF.{startF, targetsL}
+use Rattle.laws_flat.specs.PassF.{startF, targetsL, flaggedL}
 use Rattle.words_nodes.specs.Nodes.{Planted}
 use Rattle.pass_run.specs.declared.Ran.{Ran}
 use Rattle.pass_run.specs.declared.Ran.the-variants.{Done, Refused}
@@ -20,7 +20,7 @@ use Rattle.pass_run.specs.Run.{outcome}
 
 -- a script before its first run
 abbrev pub begin : Script → Flat St
-begin s = record { nodes = coreNodes s; rest = startF (length (s .nodes)) (targetsL (coreNodes s)) }
+begin s = record { nodes = flaggedL (coreNodes s); rest = startF (length (s .nodes)) (targetsL (coreNodes s)) }
 
 -- rows 2 to 7, then the runs
 abbrev pub readRuns : ℕ → Read → OutcomeF

@@ -1,4 +1,5 @@
-// inlining: the visitor before its first run, over a script that was read. What the script targets is worked out here, once (request 8).
+// inlining: the visitor before its first run, over a script that was read. What the script targets (request 8)
+// and what it declares twice (request 3) is worked out here, once.
 ghost use Prim.Native.Nat.{_≤_};
 ghost use lib.ListN.{length};
 ghost use Rattle.pass_run.specs.Start.{Loaded, Fields, Started};
@@ -9,6 +10,7 @@ use words::layout;
 use words::put5;
 use words::wipe;
 use words_targets::mark_targets;
+use words_twice::flag_twice;
 
 // No scope, an empty index, and the visitor's fields: not changed, Analysis, the first run, var, declaring, no test, no right side.
 fn set_fields(w: &mut [u32])
@@ -21,7 +23,7 @@ fn set_fields(w: &mut [u32])
     wipe(w, layout::INDEX, 256);
 }
 
-// The targets, the fields, and an empty root scope.
+// The targets, the fields, an empty root scope, and the flags.
 pub fn start(w: &mut [u32])
     requires { ⌜ Loaded (now w) ⌝ }
     ensures { λ _. ⌜ Started (now (w .entry)) (now (w .exit)) ⌝ }
@@ -30,4 +32,5 @@ pub fn start(w: &mut [u32])
     set_fields(w);
     let root = Scope::new(ScopeKind::DEFAULT);
     open_scope(w, root);
+    flag_twice(w);
 }

@@ -3,6 +3,7 @@ use mathlib.Core.Path.{_≡_, refl, sym, ap, _∙_}
 use mathlib.Core.List.{List}
 use mathlib.Core.Bool.{Bool, true, false, _&&_, not}
 use Prim.Native.Nat.{ℕ}
+use lib.Dec.{ltb}
 use lib.ListN.{getD}
 use Rattle.def_tree.specs.Tree.{Tree}
 use Rattle.def_pass.specs.Scope.{VarType, isVar, declare}
@@ -56,6 +57,6 @@ no-value-is NoInit t = refl
 no-value-is Recorded t = refl
 no-value-is Seen t = refl
 
-pub declare-m-is : (x : ℕ) (v : Init) (t : Tree) (c u : Bool) (k : VarType) (s : St) → u ≡ (isVar (s .varDeclKind) && not c && hasNone v && s .inlining) → declareM (named x) (initFrom v t) c k s ≡ grow (declare x (initFrom v t) u k) s
+pub declare-m-is : (f x : ℕ) (v : Init) (t : Tree) (c u : Bool) (k : VarType) (s : St) → u ≡ (isVar (s .varDeclKind) && not c && hasNone v && s .inlining) → declareM (named f x) (initFrom v t) c k s ≡ grow (declare (ltb 1 f) x (initFrom v t) u k) s
 unfolding declareM
-declare-m-is x v t c u k s e = ap (λ (b : Bool). grow (declare x (initFrom v t) b k) s) (ap (λ (n : Bool). isVar (s .varDeclKind) && not c && n && s .inlining) (no-value-is v t) ∙ sym e)
+declare-m-is f x v t c u k s e = ap (λ (b : Bool). grow (declare (ltb 1 f) x (initFrom v t) b k) s) (ap (λ (n : Bool). isVar (s .varDeclKind) && not c && n && s .inlining) (no-value-is v t) ∙ sym e)

@@ -10,9 +10,9 @@ use Rattle.words_state.specs.State.{Ok}
 use Rattle.scope_values.specs.declared.Step.{Step}
 use Rattle.scope_values.specs.declared.Step.the-variants.{Done, Refused}
 
--- the name of a declarator: only its number is looked at
-abbrev pub named : ℕ → Tree
-named x = node 20 0 x nil
+-- the name of a declarator: only its form, whether it is flagged (request 3), and its number are looked at
+abbrev pub named : ℕ → ℕ → Tree
+named f x = node 20 f x nil
 
 -- an answer
 abbrev pub doneOf : Step → St → Res St Nothing

@@ -93,13 +93,21 @@ fn sited(w: &[u32], v: Init, i: usize) -> Init
     Init::NoInit
 }
 
-// declare, with its is_undefined given: the init is nothing, or the tree at i.
-pub fn declare(w: &mut [u32], x: u8, v: Init, i: usize, undefined: bool, kind: VarType) -> Step
+// declare, with its is_undefined given: the init is nothing, or the tree at i; `again`: the binding is flagged (request 3).
+pub fn declare(
+    w: &mut [u32],
+    again: bool,
+    x: u8,
+    v: Init,
+    i: usize,
+    undefined: bool,
+    kind: VarType,
+) -> Step
     requires { ⌜ Planted (now w) ⌝ }
-    ensures { λ r. ⌜ Grown (now (w .entry)) (now (w .exit)) (declare x (initO v (treeO (tree (now (w .entry))) i)) undefined (typeOf kind) (stack (now (w .entry)))) r ⌝ }
+    ensures { λ r. ⌜ Grown (now (w .entry)) (now (w .exit)) (declare again x (initO v (treeO (tree (now (w .entry))) i)) undefined (typeOf kind) (stack (now (w .entry)))) r ⌝ }
 {
     let e = sited(w, v, i);
-    scope_declare::declare(w, x, e, i, undefined, kind)
+    scope_declare::declare(w, again, x, e, i, undefined, kind)
 }
 
 // declare's is_undefined.
@@ -119,14 +127,22 @@ fn undefined_now(w: &[u32], v: Init, is_change: bool) -> bool
     false
 }
 
-// Inlining::declare.
-pub fn declare_m(w: &mut [u32], x: u8, v: Init, i: usize, is_change: bool, kind: VarType) -> Step
+// Inlining::declare, of a name with its form.
+pub fn declare_m(
+    w: &mut [u32],
+    f: u32,
+    x: u8,
+    v: Init,
+    i: usize,
+    is_change: bool,
+    kind: VarType,
+) -> Step
     requires { ⌜ Planted (now w) ⌝ }
-    ensures { λ r. ⌜ Moves (now (w .entry)) (now (w .exit)) (declareM (named x) (initO v (treeO (tree (now (w .entry))) i)) «is_change» (typeOf kind) (rest (now (w .entry)))) (doneOf r (rest (now (w .exit)))) ⌝ }
+    ensures { λ r. ⌜ Moves (now (w .entry)) (now (w .exit)) (declareM (named f x) (initO v (treeO (tree (now (w .entry))) i)) «is_change» (typeOf kind) (rest (now (w .entry)))) (doneOf r (rest (now (w .exit)))) ⌝ }
 {
     let e = sited(w, v, i);
     let undefined = undefined_now(w, e, is_change);
-    scope_declare::declare(w, x, e, i, undefined, kind)
+    scope_declare::declare(w, 1 < f, x, e, i, undefined, kind)
 }
 
 // constants.insert: x is a constant of the current scope, without a value if that is an identifier that the script as read targets (request 8).

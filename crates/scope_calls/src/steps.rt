@@ -72,16 +72,17 @@ fn init_of(v: u8, m: u8) -> Init {
     Init::Recorded
 }
 
-// m: the type, and from bit 2 on whether it is undefined, and whether its value is only seen.
+// m: the type, and from bit 2 on whether it is undefined, whether its value is only seen, and whether it is flagged.
 fn declares(w: &mut [u32], x: u8, v: u8, m: u8) -> u32
     requires { ⌜ Planted (now w) ⌝ }
     ensures { λ _. ⌜ Planted (now (w .exit)) ⌝ }
 {
     let kind = var_kind((m % 4) as u32);
     let undefined = m / 4 % 2 == 1;
+    let again = m / 16 % 2 == 1;
     let n = init_of(v, m);
     let i = node_of(v);
-    let r = declare(w, x, n, i, undefined, kind);
+    let r = declare(w, again, x, n, i, undefined, kind);
     number(r)
 }
 

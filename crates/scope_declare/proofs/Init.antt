@@ -107,17 +107,17 @@ plain-with : (x z : ℕ) (f : Option Tree → Option Tree) (p u : Bool) (k : Var
 plain-with x z f p u k l true st = refl
 plain-with x z f p u k l false st = refl
 
-module _ (x : ℕ) (v : def.Init) (undefined : Bool) (k : VarType) where
-  pub declare-plain : (z : ℕ) (st : Stack) → identOf (initOf v) ≡ none → declare x v undefined k st ≡ declareWith x (kept v) (some z) (shouldPreventInlineBecauseOfScope x st || preventedO (initOf v) st) undefined k none (inLoop st) false st
+module _ (again : Bool) (x : ℕ) (v : def.Init) (undefined : Bool) (k : VarType) where
+  pub declare-plain : (z : ℕ) (st : Stack) → identOf (initOf v) ≡ none → declare again x v undefined k st ≡ declareWith x (kept v) (some z) (again || shouldPreventInlineBecauseOfScope x st || preventedO (initOf v) st) undefined k none (inLoop st) false st
   unfolding declare
-  declare-plain z [] e = sym (empty-with x (kept v) (some z) (preventedO (initOf v) []) undefined k none false false)
-  declare-plain z (s ∷ st) e = declare-is x v undefined k s st ∙ rw e (plain-with x z (kept v) (shouldPreventInlineBecauseOfScope x (s ∷ st) || preventedO (initOf v) (s ∷ st)) undefined k (inLoop (s ∷ st)) (not (isParam k) && true) (s ∷ st))
+  declare-plain z [] e = sym (empty-with x (kept v) (some z) (again || false || preventedO (initOf v) []) undefined k none false false)
+  declare-plain z (s ∷ st) e = declare-is again x v undefined k s st ∙ rw e (plain-with x z (kept v) (again || shouldPreventInlineBecauseOfScope x (s ∷ st) || preventedO (initOf v) (s ∷ st)) undefined k (inLoop (s ∷ st)) (not (isParam k) && true) (s ∷ st))
 
   pub declare-ident : (y : ℕ) (st : Stack) → identOf (initOf v) ≡ some y
-      → declare x v undefined k st ≡ declareWith x (kept v) (some y) (shouldPreventInlineBecauseOfScope x st || preventedO (initOf v) st) undefined k (aliasFrom (idxHere y st)) (inLoop st) (worksWith k (aliasFrom (idxHere y st)) && barredHere x y st) st
+      → declare again x v undefined k st ≡ declareWith x (kept v) (some y) (again || shouldPreventInlineBecauseOfScope x st || preventedO (initOf v) st) undefined k (aliasFrom (idxHere y st)) (inLoop st) (worksWith k (aliasFrom (idxHere y st)) && barredHere x y st) st
   unfolding declare
-  declare-ident y [] e = sym (empty-with x (kept v) (some y) (preventedO (initOf v) []) undefined k none false (worksWith k none && false))
-  declare-ident y (s ∷ st) e = declare-is x v undefined k s st ∙ rw e refl
+  declare-ident y [] e = sym (empty-with x (kept v) (some y) (again || false || preventedO (initOf v) []) undefined k none false (worksWith k none && false))
+  declare-ident y (s ∷ st) e = declare-is again x v undefined k s st ∙ rw e refl
 
 declared-no : (k : VarDeclKind) → isParam (declKindOf k) ≡ false
 declared-no Var = refl
@@ -194,31 +194,35 @@ same-with : {p p′ l l′ b b′ : Bool} {al al′ : Option VarType} (x : ℕ) 
     → declareWith x f e p u k al l b st ≡ declareWith x f e p′ u k al′ l′ b′ st
 same-with x f e u k st a c d g = rw (a, c, d, g) refl
 
+or-assoc : (a b c : Bool) → (a || b || c) ≡ (a || (b || c))
+or-assoc true b c = refl
+or-assoc false b c = refl
+
 -- `declare` without an init
-pub bare-is : (x : ℕ) (undefined : Bool) (k : VarType) (st : Stack) (p l : Bool) → p ≡ shouldPreventInlineBecauseOfScope x st → l ≡ inLoop st → declareWith x (kept def.noInit) (some x) p undefined k none l false st ≡ declare x def.noInit undefined k st
-bare-is x undefined k st p l ep el =
-    same-with {b = false} {al = none} x (kept def.noInit) (some x) undefined k st (ep ∙ sym (or-false (shouldPreventInlineBecauseOfScope x st))) refl el refl ∙ sym (declare-plain x def.noInit undefined k x st refl)
+pub bare-is : (again : Bool) (x : ℕ) (undefined : Bool) (k : VarType) (st : Stack) (p l : Bool) → p ≡ (again || shouldPreventInlineBecauseOfScope x st) → l ≡ inLoop st → declareWith x (kept def.noInit) (some x) p undefined k none l false st ≡ declare again x def.noInit undefined k st
+bare-is again x undefined k st p l ep el =
+    same-with {b = false} {al = none} x (kept def.noInit) (some x) undefined k st (ep ∙ sym (or-false (again || shouldPreventInlineBecauseOfScope x st))) refl el refl ∙ sym (declare-plain again x def.noInit undefined k x st refl)
 
 -- and with the tree at i
-module _ {w : List ℕ} (g : Planted w) {i : ℕ} (h : i < getD w 0 0) (v : Init) (o : Valued v) (x m : ℕ) (em : m ≡ count (treeFrom (tree w) i)) (undefined : Bool) (k : VarType) (p l : Bool)
-    (ep : p ≡ (shouldPreventInlineBecauseOfScope x (stack w) || isInlinePrevented (treeFrom (tree w) i) (stack w))) (el : l ≡ inLoop (stack w)) where
+module _ {w : List ℕ} (g : Planted w) {i : ℕ} (h : i < getD w 0 0) (v : Init) (o : Valued v) (again : Bool) (x m : ℕ) (em : m ≡ count (treeFrom (tree w) i)) (undefined : Bool) (k : VarType) (p l : Bool)
+    (ep : p ≡ (again || (shouldPreventInlineBecauseOfScope x (stack w) || isInlinePrevented (treeFrom (tree w) i) (stack w)))) (el : l ≡ inLoop (stack w)) where
   abbrev t : Tree
   t = treeFrom (tree w) i
 
   init-is : initAt v (run w 16 i m) ≡ initFrom v t
   init-is = ap (λ (n : ℕ). initAt v (run w 16 i n)) em ∙ init-run g h v
 
-  prevented-is : p ≡ (shouldPreventInlineBecauseOfScope x (stack w) || preventedO (initOf (initFrom v t)) (stack w))
-  prevented-is = ep ∙ ap (λ (e : Option Tree). shouldPreventInlineBecauseOfScope x (stack w) || preventedO e (stack w)) (sym (init-value v t o))
+  prevented-is : p ≡ (again || shouldPreventInlineBecauseOfScope x (stack w) || preventedO (initOf (initFrom v t)) (stack w))
+  prevented-is = ep ∙ sym (or-assoc again (shouldPreventInlineBecauseOfScope x (stack w)) (isInlinePrevented t (stack w))) ∙ ap (λ (e : Option Tree). again || shouldPreventInlineBecauseOfScope x (stack w) || preventedO e (stack w)) (sym (init-value v t o))
 
-  pub value-is : isIdent t ≡ false → declareWith x (kept (initAt v (run w 16 i m))) (some x) p undefined k none l false (stack w) ≡ declare x (initFrom v t) undefined k (stack w)
+  pub value-is : isIdent t ≡ false → declareWith x (kept (initAt v (run w 16 i m))) (some x) p undefined k none l false (stack w) ≡ declare again x (initFrom v t) undefined k (stack w)
   value-is e =
       ap (λ (q : def.Init). declareWith x (kept q) (some x) p undefined k none l false (stack w)) init-is ∙ same-with {b = false} {al = none} x (kept (initFrom v t)) (some x) undefined k (stack w) prevented-is refl el refl
-      ∙ sym (declare-plain x (initFrom v t) undefined k x (stack w) (ap identOf (init-value v t o) ∙ ap (λ (b : Bool). pick b (some (num t)) none) e))
+      ∙ sym (declare-plain again x (initFrom v t) undefined k x (stack w) (ap identOf (init-value v t o) ∙ ap (λ (b : Bool). pick b (some (num t)) none) e))
 
   pub ident-is : isIdent t ≡ true → (y : ℕ) → y ≡ num t → (al : Option VarType) → al ≡ aliasFrom (idxHere y (stack w)) → (b : Bool) → b ≡ (worksWith k al && barredHere x y (stack w))
-      → declareWith x (kept (initAt v (run w 16 i m))) (some y) p undefined k al l b (stack w) ≡ declare x (initFrom v t) undefined k (stack w)
+      → declareWith x (kept (initAt v (run w 16 i m))) (some y) p undefined k al l b (stack w) ≡ declare again x (initFrom v t) undefined k (stack w)
   ident-is e y ey al ea b eb =
       ap (λ (q : def.Init). declareWith x (kept q) (some y) p undefined k al l b (stack w)) init-is
       ∙ same-with x (kept (initFrom v t)) (some y) undefined k (stack w) prevented-is ea el (eb ∙ ap (λ (a : Option VarType). worksWith k a && barredHere x y (stack w)) ea)
-      ∙ sym (declare-ident x (initFrom v t) undefined k y (stack w) (ap identOf (init-value v t o) ∙ ap (λ (b : Bool). pick b (some (num t)) none) e ∙ ap some (sym ey)))
+      ∙ sym (declare-ident again x (initFrom v t) undefined k y (stack w) (ap identOf (init-value v t o) ∙ ap (λ (b : Bool). pick b (some (num t)) none) e ∙ ap some (sym ey)))

@@ -97,12 +97,12 @@ pub fn prevented_at(w: &[u32], x: u8, i: usize) -> bool
     is_inline_prevented(w, i)
 }
 
-// declare without an init.
-pub fn declare_bare(w: &mut [u32], x: u8, undefined: bool, kind: VarType) -> Step
+// declare without an init; `again`: the binding is flagged (request 3).
+pub fn declare_bare(w: &mut [u32], again: bool, x: u8, undefined: bool, kind: VarType) -> Step
     requires { ⌜ Planted (now w) ⌝ }
-    ensures { λ r. ⌜ Grown (now (w .entry)) (now (w .exit)) (declare x noInit undefined (typeOf kind) (stack (now (w .entry)))) r ⌝ }
+    ensures { λ r. ⌜ Grown (now (w .entry)) (now (w .exit)) (declare again x noInit undefined (typeOf kind) (stack (now (w .entry)))) r ⌝ }
 {
-    let p = should_prevent_inline_because_of_scope(w, x);
+    let p = again | should_prevent_inline_because_of_scope(w, x);
     let looped = in_loop(w);
     declare_with(
         w,
@@ -123,6 +123,7 @@ pub fn declare_bare(w: &mut [u32], x: u8, undefined: bool, kind: VarType) -> Ste
 // declare with the tree at i as its init, which is no identifier.
 pub fn declare_value(
     w: &mut [u32],
+    again: bool,
     x: u8,
     v: Init,
     i: usize,
@@ -130,10 +131,10 @@ pub fn declare_value(
     kind: VarType,
 ) -> Step
     requires { ⌜ (Planted (now w)) × (i < size (now w)) × (Valued v) × (isIdent (treeFrom (tree (now w)) i) ≡ false) ⌝ }
-    ensures { λ r. ⌜ Grown (now (w .entry)) (now (w .exit)) (declare x (initFrom v (treeFrom (tree (now (w .entry))) i)) undefined (typeOf kind) (stack (now (w .entry)))) r ⌝ }
+    ensures { λ r. ⌜ Grown (now (w .entry)) (now (w .exit)) (declare again x (initFrom v (treeFrom (tree (now (w .entry))) i)) undefined (typeOf kind) (stack (now (w .entry)))) r ⌝ }
 {
     let m = skip(w, i) - i;
-    let p = prevented_at(w, x, i);
+    let p = again | prevented_at(w, x, i);
     let looped = in_loop(w);
     declare_with(
         w,
@@ -199,29 +200,58 @@ fn alias_for(w: &[u32], y: u8) -> Alias
 }
 
 // declare with the identifier at i as its init.
-fn declare_ident(w: &mut [u32], x: u8, v: Init, i: usize, undefined: bool, kind: VarType) -> Step
+fn declare_ident(
+    w: &mut [u32],
+    again: bool,
+    x: u8,
+    v: Init,
+    i: usize,
+    undefined: bool,
+    kind: VarType,
+) -> Step
     requires { ⌜ (Planted (now w)) × (i < size (now w)) × (Valued v) × (isIdent (treeFrom (tree (now w)) i) ≡ true) ⌝ }
-    ensures { λ r. ⌜ Grown (now (w .entry)) (now (w .exit)) (declare x (initFrom v (treeFrom (tree (now (w .entry))) i)) undefined (typeOf kind) (stack (now (w .entry)))) r ⌝ }
+    ensures { λ r. ⌜ Grown (now (w .entry)) (now (w .exit)) (declare again x (initFrom v (treeFrom (tree (now (w .entry))) i)) undefined (typeOf kind) (stack (now (w .entry)))) r ⌝ }
 {
     let m = skip(w, i) - i;
-    let p = prevented_at(w, x, i);
+    let prevented = again | prevented_at(w, x, i);
     let looped = in_loop(w);
     let y = ident_at(w, i);
     let alias = alias_for(w, y);
     let barred = barred_for(w, x, y, kind, alias);
-    declare_with(w, x, v, i, m, p, undefined, kind, alias, looped, barred, y)
+    declare_with(
+        w,
+        x,
+        v,
+        i,
+        m,
+        prevented,
+        undefined,
+        kind,
+        alias,
+        looped,
+        barred,
+        y,
+    )
 }
 
 // declare: the init is nothing, or the tree at i.
-pub fn declare(w: &mut [u32], x: u8, v: Init, i: usize, undefined: bool, kind: VarType) -> Step
+pub fn declare(
+    w: &mut [u32],
+    again: bool,
+    x: u8,
+    v: Init,
+    i: usize,
+    undefined: bool,
+    kind: VarType,
+) -> Step
     requires { ⌜ (Planted (now w)) × (Sited v i (size (now w))) ⌝ }
-    ensures { λ r. ⌜ Grown (now (w .entry)) (now (w .exit)) (declare x (initFrom v (treeFrom (tree (now (w .entry))) i)) undefined (typeOf kind) (stack (now (w .entry)))) r ⌝ }
+    ensures { λ r. ⌜ Grown (now (w .entry)) (now (w .exit)) (declare again x (initFrom v (treeFrom (tree (now (w .entry))) i)) undefined (typeOf kind) (stack (now (w .entry)))) r ⌝ }
 {
     if no_value(v) {
-        return declare_bare(w, x, undefined, kind);
+        return declare_bare(w, again, x, undefined, kind);
     }
     if is_ident(w, i) {
-        return declare_ident(w, x, v, i, undefined, kind);
+        return declare_ident(w, again, x, v, i, undefined, kind);
     }
-    declare_value(w, x, v, i, undefined, kind)
+    declare_value(w, again, x, v, i, undefined, kind)
 }

@@ -190,11 +190,11 @@ pub kept-is : (v : Init) (xs : List Core) → Sized v (length xs) → _≡_ {A =
 kept-is v xs h = λ t old. kept-at v xs h old t
 
 -- `declare` is this, with its look-ups
-pub declare-is : (i : ℕ) (v : def.Init) (undefined : Bool) (k : VarType) (s : Scope) (st : Stack)
-    → declare i v undefined k (s ∷ st) ≡ declareWith i (kept v) (identOf (initOf v)) (shouldPreventInlineBecauseOfScope i (s ∷ st) || preventedO (initOf v) (s ∷ st)) undefined k (aliasFrom (idxValO (identOf (initOf v)) (s .bindings))) (inLoop (s ∷ st))
+pub declare-is : (again : Bool) (i : ℕ) (v : def.Init) (undefined : Bool) (k : VarType) (s : Scope) (st : Stack)
+    → declare again i v undefined k (s ∷ st) ≡ declareWith i (kept v) (identOf (initOf v)) (again || shouldPreventInlineBecauseOfScope i (s ∷ st) || preventedO (initOf v) (s ∷ st)) undefined k (aliasFrom (idxValO (identOf (initOf v)) (s .bindings))) (inLoop (s ∷ st))
     ((not (isParam k) && not (paramO (aliasFrom (idxValO (identOf (initOf v)) (s .bindings))))) && barred (idxValO (identOf (initOf v)) (s .bindings)) (placeOr (length (s .bindings)) (idxVal 0 i (s .bindings))) (s .inlineBarriers)) (s ∷ st)
 unfolding declare
-declare-is i v undefined k s st = refl
+declare-is again i v undefined k s st = refl
 
 -- marks after the first half
 pub marks-after : (i : ℕ) (e : Option ℕ) (x : ℕ) (looped barred : Bool) (st₁ : Stack) → e ≡ some x

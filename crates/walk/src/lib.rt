@@ -238,19 +238,20 @@ fn init(w: &mut [u32], p: usize, d: usize, n: usize, i: usize) -> Next
         return next(name(w, p, d, n, i));
     }
     let x = ident_at(w, i + 1);
+    let f = form_at(w, i + 1);
     let j = skip(w, i + 1);
     if stays(w, x, n - 1, j) {
         return Next::At(skip(w, i));
     }
     if n == 1 {
-        return declr_end(w, x, kind, i, 0, j, j);
+        return declr_end(w, f, x, kind, i, 0, j, j);
     }
     let r = next(full(w, p + 1, d, j));
     let Next::At(_) = r else {
         return r;
     };
     let end = skip(w, i);
-    declr_end(w, x, kind, i, n - 1, j, end)
+    declr_end(w, f, x, kind, i, n - 1, j, end)
 }
 
 // visit_mut_var_declarator.
@@ -271,7 +272,8 @@ fn declr(w: &mut [u32], p: usize, d: usize, i: usize) -> usize
         return coded(init(w, p, d, n, i));
     }
     let x = ident_at(w, i + 1);
-    match over(w, x, n, i + 1) {
+    let f = form_at(w, i + 1);
+    match over(w, f, x, n, i + 1) {
         Told::Stopped(m) => refused(m),
         Told::Answer(gone) => {
             if gone {

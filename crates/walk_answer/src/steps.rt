@@ -72,12 +72,21 @@ pub fn settled(w: &[u32], i: usize) -> bool
     k != 33
 }
 
-// The end of a declarator of x in Inlining, whose declaration is of the given kind.
-pub fn declr_end(w: &mut [u32], x: u8, kind: u32, q: usize, n: usize, i: usize, j: usize) -> Next
+// The end of a declarator of x in Inlining, whose name has the form f and whose declaration is of the given kind.
+pub fn declr_end(
+    w: &mut [u32],
+    f: u32,
+    x: u8,
+    kind: u32,
+    q: usize,
+    n: usize,
+    i: usize,
+    j: usize,
+) -> Next
     requires { ⌜ (Planted (now w)) × (Spot (tree (now w)) q n i j) ⌝ }
-    ensures { λ r. ⌜ Did (now (w .entry)) (now (w .exit)) r (declrAfter q (varTypeOf kind) (named x) n i j (abs (now (w .entry)))) ⌝ }
+    ensures { λ r. ⌜ Did (now (w .entry)) (now (w .exit)) r (declrAfter q (varTypeOf kind) (named f x) n i j (abs (now (w .entry)))) ⌝ }
 {
-    match declr_after(w, x, type_of(kind), q, n, i, j) {
+    match declr_after(w, f, x, type_of(kind), q, n, i, j) {
         After::At(k) => Next::At(k),
         After::Halted(m) => Next::Refused(m),
     }

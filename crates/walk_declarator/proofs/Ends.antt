@@ -30,36 +30,36 @@ use Rattle.walk_declarator.proofs.Parts as parts
 abbrev counted : Tree → Bool → St → Res St Bool
 counted e gone s = done (pick gone (setNodes (s .nodes - count e) s) s) gone
 
-module _ (x : ℕ) (k : VarType) (e : Tree) where
+module _ (f x : ℕ) (k : VarType) (e : Tree) where
   value-counted : (r : Res St Nothing) → andThen r (λ u s. done (setNodes (s .nodes - count e) s) true) ≡ andThen (andThen r (λ u. ret true)) (counted e)
   value-counted (stop n) = refl
   value-counted (done s u) = refl
 
-  wanted-counted : (q : Bool) (s : St) → iff q (declareM (named x) (def.recorded e) false k >> leave e >> ret true) (ret false) s
-      ≡ andThen (iff q (declareM (named x) (def.recorded e) false k >> ret true) (ret false) s) (counted e)
-  wanted-counted true s = value-counted (declareM (named x) (def.recorded e) false k s)
+  wanted-counted : (q : Bool) (s : St) → iff q (declareM (named f x) (def.recorded e) false k >> leave e >> ret true) (ret false) s
+      ≡ andThen (iff q (declareM (named f x) (def.recorded e) false k >> ret true) (ret false) s) (counted e)
+  wanted-counted true s = value-counted (declareM (named f x) (def.recorded e) false k s)
   wanted-counted false s = refl
 
-  marked-counted : (p : Bool) (s : St) → iff p (mark (preventInline x) >> ret false) (iff (wants x e (s .stack)) (declareM (named x) (def.recorded e) false k >> leave e >> ret true) (ret false)) s
-      ≡ andThen (iff p (mark (preventInline x) >> ret false) (takeValue x k e) s) (counted e)
+  marked-counted : (p : Bool) (s : St) → iff p (mark (preventInline x) >> ret false) (iff (wants x e (s .stack)) (declareM (named f x) (def.recorded e) false k >> leave e >> ret true) (ret false)) s
+      ≡ andThen (iff p (mark (preventInline x) >> ret false) (takeValue f x k e) s) (counted e)
   unfolding takeValue
   marked-counted true s = refl
   marked-counted false s = wanted-counted (wants x e (s .stack)) s
 
   ident-counted : (r : Res St Nothing)
-      → andThen r (λ u s. iff (isInlinePrevented e (s .stack)) (mark (preventInline x) >> ret false) (iff (wants x e (s .stack)) (declareM (named x) (def.recorded e) false k >> leave e >> ret true) (ret false)) s)
-      ≡ andThen (andThen r (λ u. takeOrMark x k e)) (counted e)
+      → andThen r (λ u s. iff (isInlinePrevented e (s .stack)) (mark (preventInline x) >> ret false) (iff (wants x e (s .stack)) (declareM (named f x) (def.recorded e) false k >> leave e >> ret true) (ret false)) s)
+      ≡ andThen (andThen r (λ u. takeOrMark f x k e)) (counted e)
   unfolding takeOrMark
   ident-counted (stop n) = refl
   ident-counted (done s u) = marked-counted (isInlinePrevented e (s .stack)) s
 
-  pub takes-some : (es : Forest) (s : St) → takes k (named x) (cons e es) s ≡ andThen (takeInit x k e s) (counted e)
+  pub takes-some : (es : Forest) (s : St) → takes k (named f x) (cons e es) s ≡ andThen (takeInit f x k e s) (counted e)
   unfolding takes takeInit takeIdent
-  takes-some es s = ident-counted (iff (isIdent e) (declareM (named x) (def.recorded e) false k) (ret tt) s)
+  takes-some es s = ident-counted (iff (isIdent e) (declareM (named f x) (def.recorded e) false k) (ret tt) s)
 
-pub takes-none : (x : ℕ) (k : VarType) (s : St) → takes k (named x) nil s ≡ andThen (declareM (named x) def.noInit false k s) (λ u. ret false)
+pub takes-none : (f x : ℕ) (k : VarType) (s : St) → takes k (named f x) nil s ≡ andThen (declareM (named f x) def.noInit false k s) (λ u. ret false)
 unfolding takes
-takes-none x k s = refl
+takes-none f x k s = refl
 
 -- declrAfter, from what `takes` answers
 abbrev after : ℕ → ℕ → ℕ → ℕ → List Core → Res St Bool → Res (Flat St) ℕ
@@ -97,7 +97,7 @@ module _ {w u : List ℕ} (k : VarType) (name : Tree) (q n i j : ℕ) where
   }
 
 -- with the initialiser at i
-module _ {w : List ℕ} (g : Planted w) (x : ℕ) (k : VarType) (q n i j : ℕ) (sp : Spot (tree w) q n i j) (z : 0 < n) where
+module _ {w : List ℕ} (g : Planted w) (f x : ℕ) (k : VarType) (q n i j : ℕ) (sp : Spot (tree w) q n i j) (z : 0 < n) where
   abbrev e : Tree
   e = treeFrom (tree w) i
 
@@ -107,16 +107,16 @@ module _ {w : List ℕ} (g : Planted w) (x : ℕ) (k : VarType) (q n i j : ℕ) 
   pub init-in : i < getD w 0 0
   init-in = omega (arith, places .1, tree-length w)
 
-  takes-here : takes k (named x) (forestFrom (tree w) n i) (rest w) ≡ andThen (takeInit x k e (rest w)) (counted e)
+  takes-here : takes k (named f x) (forestFrom (tree w) n i) (rest w) ≡ andThen (takeInit f x k e (rest w)) (counted e)
   takes-here =
-      ap (λ (ts : Forest). takes k (named x) ts (rest w)) (parts.forest-some (tree w) n i z (parts.some-tree (drop i (tree w)) (omega (arith, length-drop i (tree w), places .1))))
-      ∙ takes-some x k e (takeF (n - 1) (tailF (plant (drop i (tree w))))) (rest w)
+      ap (λ (ts : Forest). takes k (named f x) ts (rest w)) (parts.forest-some (tree w) n i z (parts.some-tree (drop i (tree w)) (omega (arith, length-drop i (tree w), places .1))))
+      ∙ takes-some f x k e (takeF (n - 1) (tailF (plant (drop i (tree w))))) (rest w)
 
-  pub init-stop : {u : List ℕ} {m : ℕ} → Moves w u (takeInit x k e (rest w)) (stop m) → Did w u (declrAfter q k (named x) n i j (abs w)) (stop m)
-  init-stop p = after-stop k (named x) q n i j (acts.moves-by takes-here (acts.moves-stop (counted e) p))
+  pub init-stop : {u : List ℕ} {m : ℕ} → Moves w u (takeInit f x k e (rest w)) (stop m) → Did w u (declrAfter q k (named f x) n i j (abs w)) (stop m)
+  init-stop p = after-stop k (named f x) q n i j (acts.moves-by takes-here (acts.moves-stop (counted e) p))
 
-  pub init-kept : {u : List ℕ} → Moves w u (takeInit x k e (rest w)) (done (rest u) false) → Did w u (declrAfter q k (named x) n i j (abs w)) (done (abs u) j)
-  init-kept p = after-kept k (named x) q n i j sp (acts.moves-by takes-here (acts.moves-then (counted e) p (acts.moves-self (p .ok .planted) false)))
+  pub init-kept : {u : List ℕ} → Moves w u (takeInit f x k e (rest w)) (done (rest u) false) → Did w u (declrAfter q k (named f x) n i j (abs w)) (done (abs u) j)
+  init-kept p = after-kept k (named f x) q n i j sp (acts.moves-by takes-here (acts.moves-then (counted e) p (acts.moves-self (p .ok .planted) false)))
 
   -- the list without the initialiser, of which the words have the new count
   abbrev without : St → Flat St
@@ -132,11 +132,11 @@ module _ {w : List ℕ} (g : Planted w) (x : ℕ) (k : VarType) (q n i j : ℕ) 
       go : (n : ℕ) → getD (tree w) q noCore .arity ≡ suc n → 0 < n → after q n i j (tree w) (done s true) ≡ done (without s) (j - count e)
       go zero a h = absurd (omega arith)
       go (suc m) a h =
-          let f : suc m ≡ nodeAt st q .arity - 1 = omega (arith, a) in
-          ap (λ (b : ℕ). done (setArity q b (record { nodes = take i (tree w) ++ drop (i + count (treeAt st i)) (tree w); rest = s })) (j - count e)) f
+          let d : suc m ≡ nodeAt st q .arity - 1 = omega (arith, a) in
+          ap (λ (b : ℕ). done (setArity q b (record { nodes = take i (tree w) ++ drop (i + count (treeAt st i)) (tree w); rest = s })) (j - count e)) d
           ∙ ap (λ (r : Flat St). done r (j - count e)) (walks.cut-is st q i (places .0) (omega (arith, places .1)))
 
-  pub init-gone : {u v : List ℕ} → Moves w u (takeInit x k e (rest w)) (done (rest u) true) → Replants u v (cutAt (tree u) q i) → Did w v (declrAfter q k (named x) n i j (abs w)) (done (abs v) (j - count e))
+  pub init-gone : {u v : List ℕ} → Moves w u (takeInit f x k e (rest w)) (done (rest u) true) → Replants u v (cutAt (tree u) q i) → Did w v (declrAfter q k (named f x) n i j (abs w)) (done (abs v) (j - count e))
   init-gone {u} {v} p r =
       let b : i + count e ≤ length (tree w) = behind-le (tree w) i (places .1) (tree-whole g) in
       let c : length (cutAt (tree u) q i) ≡ rest u .nodes - count e = ap (λ (l : List Core). length (cutAt l q i)) (p .nodes) ∙ cut-length (tree w) q i b ∙ ap (λ (m : ℕ). m - count e) (ap length (sym (p .nodes)) ∙ sym (rest-nodes u)) in
@@ -144,7 +144,7 @@ module _ {w : List ℕ} (g : Planted w) (x : ℕ) (k : VarType) (q n i j : ℕ) 
       let t : tree v ≡ cutAt (tree w) q i = r .is ∙ ap (λ (l : List Core). cutAt l q i) (p .nodes) in
       record {
         ok = ok-then (p .ok) (replants-ok r);
-        is = after-is q k (named x) n i j w ∙ ap (after q n i j (tree w)) (takes-here ∙ ap (λ r. andThen r (counted e)) (p .is)) ∙ after-cut (setNodes (rest u .nodes - count e) (rest u))
+        is = after-is q k (named f x) n i j w ∙ ap (after q n i j (tree w)) (takes-here ∙ ap (λ r. andThen r (counted e)) (p .is)) ∙ after-cut (setNodes (rest u .nodes - count e) (rest u))
             ∙ sym (rw (s, t) refl);
       }
 
@@ -152,8 +152,8 @@ pub child-at : {w : List ℕ} {q i : ℕ} → Planted w → Child (tree w) q 1 i
 child-at {w} {q} g h = omega (arith, child-lt h (whole-drop q (tree w) (tree-whole g)) .1, tree-length w)
 
 -- without an initialiser
-pub bare-here : (x : ℕ) (k : VarType) (xs : List Core) (i : ℕ) (s : St) → takes k (named x) (forestFrom xs 0 i) s ≡ andThen (declareM (named x) def.noInit false k s) (λ u. ret false)
-bare-here x k xs i s = ap (λ (ts : Forest). takes k (named x) ts s) (parts.forest-none xs 0 i refl) ∙ takes-none x k s
+pub bare-here : (f x : ℕ) (k : VarType) (xs : List Core) (i : ℕ) (s : St) → takes k (named f x) (forestFrom xs 0 i) s ≡ andThen (declareM (named f x) def.noInit false k s) (λ u. ret false)
+bare-here f x k xs i s = ap (λ (ts : Forest). takes k (named f x) ts s) (parts.forest-none xs 0 i refl) ∙ takes-none f x k s
 
 pub did-by : {A : Type 0} {w u : List ℕ} {m m′ r : Res (Flat St) A} → m ≡ m′ → Did w u m′ r → Did w u m r
 did-by e p = record { ok = p .ok; is = e ∙ p .is }

@@ -9,7 +9,7 @@ use lib.ListN.{length, getD, drop, length-drop}
 use lib.Seq.{drop-drop}
 use lib.Dec.{eqb}
 use Rattle.def_tree.specs.Base.{pick}
-use Rattle.def_tree.specs.Tree.{Tree, Forest, Core, node, num, nil, cons, lengthF, count, counts, plant, takeF, dropF, firstT}
+use Rattle.def_tree.specs.Tree.{Tree, Forest, Core, node, form, num, nil, cons, lengthF, count, counts, plant, takeF, dropF, firstT}
 use Rattle.def_tree.proofs.Whole.{Whole, whole-drop}
 use Rattle.def_tree.specs.Combine.{Res, stop, done, Nothing, andThen, ret, iff, _>>_}
 use Rattle.def_pass.specs.Tree.{isIdent, isCheap, hasThis, headT, tailF}
@@ -27,86 +27,88 @@ use Rattle.words_state.specs.State.{rest}
 use Rattle.walk_declarator.specs.Steps.{named, overNone, overConst, overCheap, overOther, wants, takeIdent, takeValue, takeOrMark, takeInit}
 pub use Rattle.scope.proofs.Undefined.{rest-kind, rest-inlining, rest-first}
 
+-- a constant
+module _ (x : ℕ) (s : St) (e : Tree) where
+  pub const-later : s .isFirstRun ≡ false → overConst x e s ≡ done s tt
+  unfolding overConst
+  const-later f = rw f refl
+
+  pub const-first : (v : Option Tree) → pick (isCheap e) (some e) none ≡ v → s .isFirstRun ≡ true → overConst x e s ≡ grow (addConst (s .targeted) x v) s
+  unfolding overConst
+  const-first v h f = rw (f, h) refl
+
 -- declrAnalysis
-module _ (x : ℕ) (s : St) where
-  pub none-const : isConst (s .varDeclKind) ≡ true → overNone x s ≡ done s tt
+module _ (f x : ℕ) (s : St) where
+  pub none-const : isConst (s .varDeclKind) ≡ true → overNone f x s ≡ done s tt
   unfolding overNone
   none-const e = rw e refl
 
-  pub none-declared : (k : VarType) → k ≡ s .varDeclKind → isConst (s .varDeclKind) ≡ false → overNone x s ≡ declareM (named x) def.noInit true k s
+  pub none-declared : (k : VarType) → k ≡ s .varDeclKind → isConst (s .varDeclKind) ≡ false → overNone f x s ≡ declareM (named f x) def.noInit true k s
   unfolding overNone
-  none-declared k f e = rw (f, e) refl
+  none-declared k d e = rw (d, e) refl
 
-  pub none-is : declrAnalysis (named x) none s ≡ andThen (overNone x s) (λ u. ret false)
+  pub none-is : declrAnalysis (named f x) none s ≡ andThen (overNone f x s) (λ u. ret false)
   unfolding declrAnalysis overNone
   none-is = refl
 
   module _ (e : Tree) where
-    pub const-later : s .isFirstRun ≡ false → overConst x e s ≡ done s tt
-    unfolding overConst
-    const-later f = rw f refl
-
-    pub const-first : (v : Option Tree) → pick (isCheap e) (some e) none ≡ v → s .isFirstRun ≡ true → overConst x e s ≡ grow (addConst (s .targeted) x v) s
-    unfolding overConst
-    const-first v h f = rw (f, h) refl
-
-    pub some-const : isConst (s .varDeclKind) ≡ true → declrAnalysis (named x) (some e) s ≡ andThen (overConst x e s) (λ u. ret false)
+    pub some-const : isConst (s .varDeclKind) ≡ true → declrAnalysis (named f x) (some e) s ≡ andThen (overConst x e s) (λ u. ret false)
     unfolding declrAnalysis overConst
     some-const c = rw c refl
 
-    pub some-cheap : (k : VarType) → k ≡ s .varDeclKind → isConst (s .varDeclKind) ≡ false → isCheap e ≡ true → declrAnalysis (named x) (some e) s ≡ andThen (overCheap x k e s) (λ u. ret false)
+    pub some-cheap : (k : VarType) → k ≡ s .varDeclKind → isConst (s .varDeclKind) ≡ false → isCheap e ≡ true → declrAnalysis (named f x) (some e) s ≡ andThen (overCheap f x k e s) (λ u. ret false)
     unfolding declrAnalysis overCheap
-    some-cheap k f c h = rw (f, c, h) (go (declareM (named x) (def.recorded e) false (s .varDeclKind) s))
+    some-cheap k d c h = rw (d, c, h) (go (declareM (named f x) (def.recorded e) false (s .varDeclKind) s))
       where
         go : (r : Res St Nothing) → andThen r (λ a s₁. andThen (when (isInlinePrevented e (s₁ .stack)) (mark (preventInline x)) s₁) (λ u. ret false)) ≡ andThen (andThen r (λ a s₁. when (isInlinePrevented e (s₁ .stack)) (mark (preventInline x)) s₁)) (λ u. ret false)
         go (stop n) = refl
         go (done s₁ a) = refl
 
-    pub some-other : (k : VarType) → k ≡ s .varDeclKind → isConst (s .varDeclKind) ≡ false → isCheap e ≡ false → declrAnalysis (named x) (some e) s ≡ overOther x k e s
+    pub some-other : (k : VarType) → k ≡ s .varDeclKind → isConst (s .varDeclKind) ≡ false → isCheap e ≡ false → declrAnalysis (named f x) (some e) s ≡ overOther f x k e s
     unfolding declrAnalysis overOther
-    some-other k f c h = rw (f, c, h) (ap (λ (g : Nothing → M Bool). andThen (declareM (named x) (def.seen e) false (s .varDeclKind) s) g) (go (hasThis e)))
+    some-other k d c h = rw (d, c, h) (ap (λ (g : Nothing → M Bool). andThen (declareM (named f x) (def.seen e) false (s .varDeclKind) s) g) (go (hasThis e)))
       where
         go : (b : Bool) → _≡_ {A = Nothing → M Bool} (λ a. iff b (mark (preventInline x) >> ret true) (ret false)) (λ a. when b (mark (preventInline x)) >> ret b)
         go true = refl
         go false = refl
 
 -- declared, and then marked
-module _ (x : ℕ) (k : VarType) (e : Tree) (s : St) where
-  pub cheap-then : overCheap x k e s ≡ andThen (declareM (named x) (def.recorded e) false k s) (λ u s₁. when (isInlinePrevented e (s₁ .stack)) (mark (preventInline x)) s₁)
+module _ (f x : ℕ) (k : VarType) (e : Tree) (s : St) where
+  pub cheap-then : overCheap f x k e s ≡ andThen (declareM (named f x) (def.recorded e) false k s) (λ u s₁. when (isInlinePrevented e (s₁ .stack)) (mark (preventInline x)) s₁)
   unfolding overCheap
   cheap-then = refl
 
-  pub other-then : overOther x k e s ≡ andThen (declareM (named x) (def.seen e) false k s) (λ u. when (hasThis e) (mark (preventInline x)) >> ret (hasThis e))
+  pub other-then : overOther f x k e s ≡ andThen (declareM (named f x) (def.seen e) false k s) (λ u. when (hasThis e) (mark (preventInline x)) >> ret (hasThis e))
   unfolding overOther
   other-then = refl
 
 -- takes
-module _ (x : ℕ) (k : VarType) (e : Tree) (s : St) where
-  pub ident-yes : isIdent e ≡ true → takeIdent x k e s ≡ declareM (named x) (def.recorded e) false k s
+module _ (f x : ℕ) (k : VarType) (e : Tree) (s : St) where
+  pub ident-yes : isIdent e ≡ true → takeIdent f x k e s ≡ declareM (named f x) (def.recorded e) false k s
   unfolding takeIdent
   ident-yes h = rw h refl
 
-  pub ident-no : isIdent e ≡ false → takeIdent x k e s ≡ done s tt
+  pub ident-no : isIdent e ≡ false → takeIdent f x k e s ≡ done s tt
   unfolding takeIdent
   ident-no h = rw h refl
 
-  pub value-yes : wants x e (s .stack) ≡ true → takeValue x k e s ≡ andThen (declareM (named x) (def.recorded e) false k s) (λ u. ret true)
+  pub value-yes : wants x e (s .stack) ≡ true → takeValue f x k e s ≡ andThen (declareM (named f x) (def.recorded e) false k s) (λ u. ret true)
   unfolding takeValue
   value-yes h = rw h refl
 
-  pub value-no : wants x e (s .stack) ≡ false → takeValue x k e s ≡ done s false
+  pub value-no : wants x e (s .stack) ≡ false → takeValue f x k e s ≡ done s false
   unfolding takeValue
   value-no h = rw h refl
 
-  pub marked : isInlinePrevented e (s .stack) ≡ true → takeOrMark x k e s ≡ andThen (when true (mark (preventInline x)) s) (λ u. ret false)
+  pub marked : isInlinePrevented e (s .stack) ≡ true → takeOrMark f x k e s ≡ andThen (when true (mark (preventInline x)) s) (λ u. ret false)
   unfolding takeOrMark
   marked h = rw h refl
 
-  pub unmarked : isInlinePrevented e (s .stack) ≡ false → takeOrMark x k e s ≡ takeValue x k e s
+  pub unmarked : isInlinePrevented e (s .stack) ≡ false → takeOrMark f x k e s ≡ takeValue f x k e s
   unfolding takeOrMark
   unmarked h = rw h refl
 
-  pub init-then : takeInit x k e s ≡ andThen (takeIdent x k e s) (λ u. takeOrMark x k e)
+  pub init-then : takeInit f x k e s ≡ andThen (takeIdent f x k e s) (λ u. takeOrMark f x k e)
   unfolding takeInit
   init-then = refl
 
@@ -120,16 +122,16 @@ once-reads none = refl
 once-reads (some b) = refl
 
 module _ (x : ℕ) (st : Stack) where
-  pub stays-marked : (ts : Forest) → markOf (findBinding x st) ≡ true → stays (named x) ts st ≡ true
+  pub stays-marked : (ts : Forest) → markOf (findBinding x st) ≡ true → stays (named 0 x) ts st ≡ true
   unfolding stays
   stays-marked nil h = h
   stays-marked (cons t ts) h = ap (λ (b : Bool). b || not (hasSameThis (findBinding x st) (some t))) h
 
-  pub stays-none : markOf (findBinding x st) ≡ false → stays (named x) nil st ≡ false
+  pub stays-none : markOf (findBinding x st) ≡ false → stays (named 0 x) nil st ≡ false
   unfolding stays
   stays-none h = h
 
-  pub stays-some : (t : Tree) (ts : Forest) → markOf (findBinding x st) ≡ false → stays (named x) (cons t ts) st ≡ not (hasSameThis (findBinding x st) (some t))
+  pub stays-some : (t : Tree) (ts : Forest) → markOf (findBinding x st) ≡ false → stays (named 0 x) (cons t ts) st ≡ not (hasSameThis (findBinding x st) (some t))
   unfolding stays
   stays-some t ts h = ap (λ (b : Bool). b || not (hasSameThis (findBinding x st) (some t))) h
 
@@ -189,9 +191,9 @@ length-tail nil h = absurd (omega arith)
 length-tail (cons t ts) h = omega arith
 
 -- a declarator's trees: the name alone, and the initialiser behind it
-pub over-one : (x n i : ℕ) (xs : List Core) (s : St) → n < 2 → overM (named x) (forestFrom xs n i) s ≡ andThen (overNone x s) (λ u. ret false)
+pub over-one : (f x n i : ℕ) (xs : List Core) (s : St) → n < 2 → overM (named f x) (forestFrom xs n i) s ≡ andThen (overNone f x s) (λ u. ret false)
 unfolding overM forestFrom
-over-one x n i xs s h = ap (λ (o : Option Tree). declrAnalysis (named x) o s) (one-none n (plant (drop i xs)) h) ∙ none-is x s
+over-one f x n i xs s h = ap (λ (o : Option Tree). declrAnalysis (named f x) o s) (one-none n (plant (drop i xs)) h) ∙ none-is f x s
 
 module _ {w : List ℕ} (g : Planted w) (n i e : ℕ) (h : n ≤ lengthF (plant (drop i (tree w)))) (two : 2 ≤ n) (at : e ≡ i + count (treeFrom (tree w) i)) where
   abbrev ts : Forest
@@ -204,26 +206,26 @@ module _ {w : List ℕ} (g : Planted w) (n i e : ℕ) (h : n ≤ lengthF (plant 
   pub second-in : e < getD w 0 0
   second-in = some-trees w e (rw behind (length-tail ts (omega arith)))
 
-  pub over-two : (x : ℕ) (s : St) → overM (named x) (forestFrom (tree w) n i) s ≡ declrAnalysis (named x) (some (treeFrom (tree w) e)) s
+  pub over-two : (f x : ℕ) (s : St) → overM (named f x) (forestFrom (tree w) n i) s ≡ declrAnalysis (named f x) (some (treeFrom (tree w) e)) s
   unfolding overM forestFrom treeFrom
-  over-two x s = ap (λ (o : Option Tree). declrAnalysis (named x) o s) (two-some n ts two h ∙ ap (λ (us : Forest). some (firstT us)) (sym behind))
+  over-two f x s = ap (λ (o : Option Tree). declrAnalysis (named f x) o s) (two-some n ts two h ∙ ap (λ (us : Forest). some (firstT us)) (sym behind))
 
--- of a name only the number is looked at
-declr-name : (name : Tree) (o : Option Tree) → declrAnalysis name o ≡ declrAnalysis (named (num name)) o
+-- of a name only the form and the number are looked at
+declr-name : (name : Tree) (o : Option Tree) → declrAnalysis name o ≡ declrAnalysis (named (form name) (num name)) o
 unfolding declrAnalysis declareM
 declr-name name none = refl
 declr-name name (some e) = refl
 
-pub over-name : (name : Tree) (ts : Forest) → overM name ts ≡ overM (named (num name)) ts
+pub over-name : (name : Tree) (ts : Forest) → overM name ts ≡ overM (named (form name) (num name)) ts
 unfolding overM
 over-name name ts = declr-name name (headT (tailF ts))
 
-pub stays-name : (name : Tree) (ts : Forest) → stays name ts ≡ stays (named (num name)) ts
+pub stays-name : (name : Tree) (ts : Forest) → stays name ts ≡ stays (named 0 (num name)) ts
 unfolding stays
 stays-name (node k f a us) nil = refl
 stays-name (node k f a us) (cons e es) = refl
 
-pub takes-name : (k : VarType) (name : Tree) (ts : Forest) → takes k name ts ≡ takes k (named (num name)) ts
+pub takes-name : (k : VarType) (name : Tree) (ts : Forest) → takes k name ts ≡ takes k (named (form name) (num name)) ts
 unfolding takes declareM
 takes-name k (node l f a us) nil = refl
 takes-name k (node l f a us) (cons e es) = refl

@@ -36,36 +36,36 @@ pub record Did {A : Type 0} (w u : List ℕ) (m r : Res (Flat St) A) : Type 0 wh
   pub ok : Ok w u
   pub is : m ≡ r
 
--- declrAnalysis in its parts
-unfoldable pub overNone : ℕ → M Nothing
-overNone x = λ s. when (not (isConst (s .varDeclKind))) (declareM (named x) def.noInit true (s .varDeclKind)) s
+-- declrAnalysis in its parts, of a name with its form and number
+unfoldable pub overNone : ℕ → ℕ → M Nothing
+overNone f x = λ s. when (not (isConst (s .varDeclKind))) (declareM (named f x) def.noInit true (s .varDeclKind)) s
 
 unfoldable pub overConst : ℕ → Tree → M Nothing
 overConst x e = λ s. when (s .isFirstRun) (insertConst x (pick (isCheap e) (some e) none)) s
 
-unfoldable pub overCheap : ℕ → def.VarType → Tree → M Nothing
-overCheap x k e = declareM (named x) (def.recorded e) false k >> (λ s. when (isInlinePrevented e (s .stack)) (mark (preventInline x)) s)
+unfoldable pub overCheap : ℕ → ℕ → def.VarType → Tree → M Nothing
+overCheap f x k e = declareM (named f x) (def.recorded e) false k >> (λ s. when (isInlinePrevented e (s .stack)) (mark (preventInline x)) s)
 
-unfoldable pub overOther : ℕ → def.VarType → Tree → M Bool
-overOther x k e = declareM (named x) (def.seen e) false k >> when (hasThis e) (mark (preventInline x)) >> ret (hasThis e)
+unfoldable pub overOther : ℕ → ℕ → def.VarType → Tree → M Bool
+overOther f x k e = declareM (named f x) (def.seen e) false k >> when (hasThis e) (mark (preventInline x)) >> ret (hasThis e)
 
 -- takes of an initialiser in its parts, without `leave`
 abbrev pub wants : ℕ → Tree → Stack → Bool
-wants x e st = isCheap e || (not (isInlinePrevented (asIdent (named x)) st) && readOnce? (findBinding x st))
+wants x e st = isCheap e || (not (isInlinePrevented (asIdent (named 0 x)) st) && readOnce? (findBinding x st))
 
-unfoldable pub takeIdent : ℕ → def.VarType → Tree → M Nothing
-takeIdent x k e = when (isIdent e) (declareM (named x) (def.recorded e) false k)
+unfoldable pub takeIdent : ℕ → ℕ → def.VarType → Tree → M Nothing
+takeIdent f x k e = when (isIdent e) (declareM (named f x) (def.recorded e) false k)
 
-unfoldable pub takeValue : ℕ → def.VarType → Tree → M Bool
-takeValue x k e = λ s. iff (wants x e (s .stack)) (declareM (named x) (def.recorded e) false k >> ret true) (ret false) s
+unfoldable pub takeValue : ℕ → ℕ → def.VarType → Tree → M Bool
+takeValue f x k e = λ s. iff (wants x e (s .stack)) (declareM (named f x) (def.recorded e) false k >> ret true) (ret false) s
 
-unfoldable pub takeOrMark : ℕ → def.VarType → Tree → M Bool
+unfoldable pub takeOrMark : ℕ → ℕ → def.VarType → Tree → M Bool
 unfolding takeValue
-takeOrMark x k e = λ s. iff (isInlinePrevented e (s .stack)) (mark (preventInline x) >> ret false) (takeValue x k e) s
+takeOrMark f x k e = λ s. iff (isInlinePrevented e (s .stack)) (mark (preventInline x) >> ret false) (takeValue f x k e) s
 
-unfoldable pub takeInit : ℕ → def.VarType → Tree → M Bool
+unfoldable pub takeInit : ℕ → ℕ → def.VarType → Tree → M Bool
 unfolding takeIdent takeOrMark
-takeInit x k e = takeIdent x k e >> takeOrMark x k e
+takeInit f x k e = takeIdent f x k e >> takeOrMark f x k e
 
 -- where a declarator is: at q, with its name and n trees from i on, which end at j
 pub record Spot (xs : List Core) (q n i j : ℕ) : Type 0 where

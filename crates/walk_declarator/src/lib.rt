@@ -82,16 +82,16 @@ fn prevent_if(w: &mut [u32], test: bool, x: u8)
 }
 
 // A declarator in Analysis, without an initialiser.
-fn over_none(w: &mut [u32], x: u8) -> Step
+fn over_none(w: &mut [u32], f: u32, x: u8) -> Step
     requires { ⌜ Planted (now w) ⌝ }
-    ensures { λ r. ⌜ Moves (now (w .entry)) (now (w .exit)) (overNone x (rest (now (w .entry)))) (doneOf r (rest (now (w .exit)))) ⌝ }
+    ensures { λ r. ⌜ Moves (now (w .entry)) (now (w .exit)) (overNone f x (rest (now (w .entry)))) (doneOf r (rest (now (w .exit)))) ⌝ }
 {
     let k = w[layout::VAR_DECL_KIND];
     if 3 <= k {
         return Step::Done;
     }
     let kind = type_of(k);
-    declare_m(w, x, Init::NoInit, 0, true, kind)
+    declare_m(w, f, x, Init::NoInit, 0, true, kind)
 }
 
 // A constant, recorded in the first run.
@@ -109,11 +109,11 @@ fn over_const(w: &mut [u32], x: u8, e: usize) -> Step
 }
 
 // A literal or an identifier as initialiser.
-fn over_cheap(w: &mut [u32], x: u8, e: usize, kind: VarType) -> Step
+fn over_cheap(w: &mut [u32], f: u32, x: u8, e: usize, kind: VarType) -> Step
     requires { ⌜ (Planted (now w)) × (e < size (now w)) ⌝ }
-    ensures { λ r. ⌜ Moves (now (w .entry)) (now (w .exit)) (overCheap x (typeOf kind) (treeFrom (tree (now (w .entry))) e) (rest (now (w .entry)))) (doneOf r (rest (now (w .exit)))) ⌝ }
+    ensures { λ r. ⌜ Moves (now (w .entry)) (now (w .exit)) (overCheap f x (typeOf kind) (treeFrom (tree (now (w .entry))) e) (rest (now (w .entry)))) (doneOf r (rest (now (w .exit)))) ⌝ }
 {
-    match declare_m(w, x, Init::Recorded, e, false, kind) {
+    match declare_m(w, f, x, Init::Recorded, e, false, kind) {
         Step::Refused(n) => Step::Refused(n),
         Step::Done => {
             let test = is_inline_prevented(w, e);
@@ -124,11 +124,11 @@ fn over_cheap(w: &mut [u32], x: u8, e: usize, kind: VarType) -> Step
 }
 
 // Another initialiser: one with a `this` is not walked again.
-fn over_other(w: &mut [u32], x: u8, e: usize, kind: VarType) -> Told
+fn over_other(w: &mut [u32], f: u32, x: u8, e: usize, kind: VarType) -> Told
     requires { ⌜ (Planted (now w)) × (e < size (now w)) ⌝ }
-    ensures { λ r. ⌜ Moves (now (w .entry)) (now (w .exit)) (overOther x (typeOf kind) (treeFrom (tree (now (w .entry))) e) (rest (now (w .entry)))) (toldOf r (rest (now (w .exit)))) ⌝ }
+    ensures { λ r. ⌜ Moves (now (w .entry)) (now (w .exit)) (overOther f x (typeOf kind) (treeFrom (tree (now (w .entry))) e) (rest (now (w .entry)))) (toldOf r (rest (now (w .exit)))) ⌝ }
 {
-    match declare_m(w, x, Init::Seen, e, false, kind) {
+    match declare_m(w, f, x, Init::Seen, e, false, kind) {
         Step::Refused(n) => Told::Stopped(n),
         Step::Done => {
             let test = has_this(w, e);
@@ -139,9 +139,9 @@ fn over_other(w: &mut [u32], x: u8, e: usize, kind: VarType) -> Told
 }
 
 // A declarator in Analysis, with the initialiser at e.
-fn over_some(w: &mut [u32], x: u8, e: usize) -> Told
+fn over_some(w: &mut [u32], f: u32, x: u8, e: usize) -> Told
     requires { ⌜ (Planted (now w)) × (e < size (now w)) ⌝ }
-    ensures { λ r. ⌜ Moves (now (w .entry)) (now (w .exit)) (declrAnalysis (named x) (some (treeFrom (tree (now (w .entry))) e)) (rest (now (w .entry)))) (toldOf r (rest (now (w .exit)))) ⌝ }
+    ensures { λ r. ⌜ Moves (now (w .entry)) (now (w .exit)) (declrAnalysis (named f x) (some (treeFrom (tree (now (w .entry))) e)) (rest (now (w .entry)))) (toldOf r (rest (now (w .exit)))) ⌝ }
 {
     let k = w[layout::VAR_DECL_KIND];
     if 3 <= k {
@@ -150,29 +150,29 @@ fn over_some(w: &mut [u32], x: u8, e: usize) -> Told
     }
     let kind = type_of(k);
     if is_cheap(w, e) {
-        let r = over_cheap(w, x, e, kind);
+        let r = over_cheap(w, f, x, e, kind);
         return answer(r, false);
     }
-    over_other(w, x, e, kind)
+    over_other(w, f, x, e, kind)
 }
 
-// A declarator of x in Analysis, whose name and initialiser are the n trees from i on: is the name's walk left out.
-pub fn over(w: &mut [u32], x: u8, n: usize, i: usize) -> Told
+// A declarator of x in Analysis, whose name and initialiser are the n trees from i on, the name with the form f: is the name's walk left out.
+pub fn over(w: &mut [u32], f: u32, x: u8, n: usize, i: usize) -> Told
     requires { ⌜ (Planted (now w)) × (n ≤ lengthF (plant (drop i (tree (now w))))) ⌝ }
-    ensures { λ r. ⌜ Moves (now (w .entry)) (now (w .exit)) (overM (named x) (forestFrom (tree (now (w .entry))) n i) (rest (now (w .entry)))) (toldOf r (rest (now (w .exit)))) ⌝ }
+    ensures { λ r. ⌜ Moves (now (w .entry)) (now (w .exit)) (overM (named f x) (forestFrom (tree (now (w .entry))) n i) (rest (now (w .entry)))) (toldOf r (rest (now (w .exit)))) ⌝ }
 {
     if n < 2 {
-        let r = over_none(w, x);
+        let r = over_none(w, f, x);
         return answer(r, false);
     }
     let e = skip(w, i);
-    over_some(w, x, e)
+    over_some(w, f, x, e)
 }
 
 // In Inlining: is the initialiser, the first of the n trees from i on, left as it is.
 pub fn stays(w: &[u32], x: u8, n: usize, i: usize) -> bool
     requires { ⌜ (Planted (now w)) × (n ≤ lengthF (plant (drop i (tree (now w))))) ⌝ }
-    ensures { λ r. ⌜ r ≡ stays (named x) (forestFrom (tree (now (w .entry))) n i) (stack (now (w .entry))) ⌝ }
+    ensures { λ r. ⌜ r ≡ stays (named 0 x) (forestFrom (tree (now (w .entry))) n i) (stack (now (w .entry))) ⌝ }
 {
     if ident_prevented(w, x) {
         return true;
@@ -184,12 +184,12 @@ pub fn stays(w: &[u32], x: u8, n: usize, i: usize) -> bool
 }
 
 // An identifier as initialiser: x is declared again.
-fn take_ident(w: &mut [u32], x: u8, e: usize, kind: VarType) -> Step
+fn take_ident(w: &mut [u32], f: u32, x: u8, e: usize, kind: VarType) -> Step
     requires { ⌜ (Planted (now w)) × (e < size (now w)) ⌝ }
-    ensures { λ r. ⌜ Moves (now (w .entry)) (now (w .exit)) (takeIdent x (typeOf kind) (treeFrom (tree (now (w .entry))) e) (rest (now (w .entry)))) (doneOf r (rest (now (w .exit)))) ⌝ }
+    ensures { λ r. ⌜ Moves (now (w .entry)) (now (w .exit)) (takeIdent f x (typeOf kind) (treeFrom (tree (now (w .entry))) e) (rest (now (w .entry)))) (doneOf r (rest (now (w .exit)))) ⌝ }
 {
     if is_ident(w, e) {
-        return declare_m(w, x, Init::Recorded, e, false, kind);
+        return declare_m(w, f, x, Init::Recorded, e, false, kind);
     }
     Step::Done
 }
@@ -212,37 +212,37 @@ fn wanted(w: &[u32], x: u8, e: usize) -> bool
 }
 
 // x gets its initialiser as its value, if it is wanted.
-fn take_value(w: &mut [u32], x: u8, e: usize, kind: VarType) -> Told
+fn take_value(w: &mut [u32], f: u32, x: u8, e: usize, kind: VarType) -> Told
     requires { ⌜ (Planted (now w)) × (e < size (now w)) ⌝ }
-    ensures { λ r. ⌜ Moves (now (w .entry)) (now (w .exit)) (takeValue x (typeOf kind) (treeFrom (tree (now (w .entry))) e) (rest (now (w .entry)))) (toldOf r (rest (now (w .exit)))) ⌝ }
+    ensures { λ r. ⌜ Moves (now (w .entry)) (now (w .exit)) (takeValue f x (typeOf kind) (treeFrom (tree (now (w .entry))) e) (rest (now (w .entry)))) (toldOf r (rest (now (w .exit)))) ⌝ }
 {
     if wanted(w, x, e) {
-        let r = declare_m(w, x, Init::Recorded, e, false, kind);
+        let r = declare_m(w, f, x, Init::Recorded, e, false, kind);
         return answer(r, true);
     }
     Told::Answer(false)
 }
 
 // A prevented initialiser prevents x.
-fn take_or_mark(w: &mut [u32], x: u8, e: usize, kind: VarType) -> Told
+fn take_or_mark(w: &mut [u32], f: u32, x: u8, e: usize, kind: VarType) -> Told
     requires { ⌜ (Planted (now w)) × (e < size (now w)) ⌝ }
-    ensures { λ r. ⌜ Moves (now (w .entry)) (now (w .exit)) (takeOrMark x (typeOf kind) (treeFrom (tree (now (w .entry))) e) (rest (now (w .entry)))) (toldOf r (rest (now (w .exit)))) ⌝ }
+    ensures { λ r. ⌜ Moves (now (w .entry)) (now (w .exit)) (takeOrMark f x (typeOf kind) (treeFrom (tree (now (w .entry))) e) (rest (now (w .entry)))) (toldOf r (rest (now (w .exit)))) ⌝ }
 {
     if is_inline_prevented(w, e) {
         prevent_if(w, true, x);
         return Told::Answer(false);
     }
-    take_value(w, x, e, kind)
+    take_value(w, f, x, e, kind)
 }
 
 // Is the initialiser at e to be taken out.
-fn take_init(w: &mut [u32], x: u8, e: usize, kind: VarType) -> Told
+fn take_init(w: &mut [u32], f: u32, x: u8, e: usize, kind: VarType) -> Told
     requires { ⌜ (Planted (now w)) × (e < size (now w)) ⌝ }
-    ensures { λ r. ⌜ Moves (now (w .entry)) (now (w .exit)) (takeInit x (typeOf kind) (treeFrom (tree (now (w .entry))) e) (rest (now (w .entry)))) (toldOf r (rest (now (w .exit)))) ⌝ }
+    ensures { λ r. ⌜ Moves (now (w .entry)) (now (w .exit)) (takeInit f x (typeOf kind) (treeFrom (tree (now (w .entry))) e) (rest (now (w .entry)))) (toldOf r (rest (now (w .exit)))) ⌝ }
 {
-    match take_ident(w, x, e, kind) {
+    match take_ident(w, f, x, e, kind) {
         Step::Refused(n) => Told::Stopped(n),
-        Step::Done => take_or_mark(w, x, e, kind),
+        Step::Done => take_or_mark(w, f, x, e, kind),
     }
 }
 
@@ -257,22 +257,31 @@ fn cut_init(w: &mut [u32], q: usize, i: usize, j: usize) -> usize
 }
 
 // The end of a declarator without an initialiser.
-fn after_bare(w: &mut [u32], x: u8, kind: VarType, q: usize, i: usize, j: usize) -> After
+fn after_bare(w: &mut [u32], f: u32, x: u8, kind: VarType, q: usize, i: usize, j: usize) -> After
     requires { ⌜ (Planted (now w)) × (Spot (tree (now w)) q 0 i j) ⌝ }
-    ensures { λ r. ⌜ Did (now (w .entry)) (now (w .exit)) (declrAfter q (typeOf kind) (named x) 0 i j (abs (now (w .entry)))) (afterOf r (abs (now (w .exit)))) ⌝ }
+    ensures { λ r. ⌜ Did (now (w .entry)) (now (w .exit)) (declrAfter q (typeOf kind) (named f x) 0 i j (abs (now (w .entry)))) (afterOf r (abs (now (w .exit)))) ⌝ }
 {
-    match declare_m(w, x, Init::NoInit, 0, false, kind) {
+    match declare_m(w, f, x, Init::NoInit, 0, false, kind) {
         Step::Refused(n) => After::Halted(n),
         Step::Done => After::At(j),
     }
 }
 
 // And with one.
-fn after_init(w: &mut [u32], x: u8, kind: VarType, q: usize, n: usize, i: usize, j: usize) -> After
+fn after_init(
+    w: &mut [u32],
+    f: u32,
+    x: u8,
+    kind: VarType,
+    q: usize,
+    n: usize,
+    i: usize,
+    j: usize,
+) -> After
     requires { ⌜ (Planted (now w)) × (Spot (tree (now w)) q n i j) × (0 < n) ⌝ }
-    ensures { λ r. ⌜ Did (now (w .entry)) (now (w .exit)) (declrAfter q (typeOf kind) (named x) n i j (abs (now (w .entry)))) (afterOf r (abs (now (w .exit)))) ⌝ }
+    ensures { λ r. ⌜ Did (now (w .entry)) (now (w .exit)) (declrAfter q (typeOf kind) (named f x) n i j (abs (now (w .entry)))) (afterOf r (abs (now (w .exit)))) ⌝ }
 {
-    match take_init(w, x, i, kind) {
+    match take_init(w, f, x, i, kind) {
         Told::Stopped(m) => After::Halted(m),
         Told::Answer(gone) => {
             if gone {
@@ -287,6 +296,7 @@ fn after_init(w: &mut [u32], x: u8, kind: VarType, q: usize, n: usize, i: usize,
 // leaves the declarator at q.
 pub fn declr_after(
     w: &mut [u32],
+    f: u32,
     x: u8,
     kind: VarType,
     q: usize,
@@ -295,10 +305,10 @@ pub fn declr_after(
     j: usize,
 ) -> After
     requires { ⌜ (Planted (now w)) × (Spot (tree (now w)) q n i j) ⌝ }
-    ensures { λ r. ⌜ Did (now (w .entry)) (now (w .exit)) (declrAfter q (typeOf kind) (named x) n i j (abs (now (w .entry)))) (afterOf r (abs (now (w .exit)))) ⌝ }
+    ensures { λ r. ⌜ Did (now (w .entry)) (now (w .exit)) (declrAfter q (typeOf kind) (named f x) n i j (abs (now (w .entry)))) (afterOf r (abs (now (w .exit)))) ⌝ }
 {
     if n == 0 {
-        return after_bare(w, x, kind, q, i, j);
+        return after_bare(w, f, x, kind, q, i, j);
     }
-    after_init(w, x, kind, q, n, i, j)
+    after_init(w, f, x, kind, q, n, i, j)
 }

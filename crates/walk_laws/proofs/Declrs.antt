@@ -12,10 +12,10 @@ use lib.Seq.{getD-take, set-getD}
 use lib.Dec.{eqb}
 use borrow.Author.Tests.{eq-eqb, ne-eqb}
 use Rattle.def_tree.specs.Base.{pick}
-use Rattle.def_tree.specs.Tree.{Tree, Forest, Core, noCore, core, count, counts, kind, num}
+use Rattle.def_tree.specs.Tree.{Tree, Forest, Core, noCore, core, count, counts, kind, form, num}
 use Rattle.def_tree.specs.Combine as Split
 use Rattle.def_tree.specs.Combine.{Res, stop, done, M, Nothing, andThen, ret, iff, Flat, nodeAt, reArity, setArity, treeAt, forestAt, Walk, Walks, ReWalks, onRest, actF, skip, skips, many, splitF, reKidsF, same, splitR, cutFirst, carry}
-use Rattle.def_tree.proofs.Whole.{kind-at, num-at, whole-drop}
+use Rattle.def_tree.proofs.Whole.{kind-at, form-at, num-at, whole-drop}
 use Rattle.def_tree.proofs.Sims.{Sim, SimF, sim-skip, sim-skips, sim-split}
 use Rattle.words.specs.Layout.{tree, nodeOf}
 use Rattle.words.proofs.Nodes.{tree-at, tree-length}
@@ -156,7 +156,7 @@ module _ {fn : Forest → M St Forest} (v : WalksF) (p : ℕ) (sim : SimF fn (na
   end-inlining {u} {a} t k e i x = did-to (ap₂ {C = Res (Flat St) ℕ} (λ o b. declrEndF v p q o b k n (q + 1) (abs w)) (sym e) (sym i)) x
 
   -- in Analysis
-  module _ {o : Option Tree} {b : Bool} (t : Tree) (k : VarType) (e : o ≡ some t) (i : b ≡ false) (x : ℕ) (y : x ≡ num t) {u : List ℕ} (r : Told) (m : Moves w u (overM (named x) (forestFrom (tree w) n (q + 1)) (rest w)) (toldOf r (rest u))) where
+  module _ {o : Option Tree} {b : Bool} (t : Tree) (k : VarType) (e : o ≡ some t) (i : b ≡ false) (f : ℕ) (g : f ≡ form t) (x : ℕ) (y : x ≡ num t) {u : List ℕ} (r : Told) (m : Moves w u (overM (named f x) (forestFrom (tree w) n (q + 1)) (rest w)) (toldOf r (rest u))) where
     abbrev rests : Bool → F (ℕ × ℕ)
     rests over = iff over (same skips n (q + 1)) (same (nameLastF v p) n (q + 1))
 
@@ -169,7 +169,8 @@ module _ {fn : Forest → M St Forest} (v : WalksF) (p : ℕ) (sim : SimF fn (na
         ap₂ {C = Res (Flat St) ℕ} (λ o b. declrEndF v p q o b k n (q + 1) (abs w)) e i
         ∙ ap (λ (ts : Forest). looked (overM t ts (rest w))) (forest-at-is (abs w) n (q + 1))
         ∙ ap (λ (f : St → Res St Bool). looked (f (rest w))) (over-name t (forestFrom (tree w) n (q + 1)))
-        ∙ ap (λ (z : ℕ). looked (overM (named z) (forestFrom (tree w) n (q + 1)) (rest w))) (sym y)
+        ∙ ap (λ (z : ℕ). looked (overM (named z (num t)) (forestFrom (tree w) n (q + 1)) (rest w))) (sym g)
+        ∙ ap (λ (z : ℕ). looked (overM (named f z) (forestFrom (tree w) n (q + 1)) (rest w))) (sym y)
         ∙ ap looked (m .is)
 
     pub over-stop : (z : ℕ) → r ≡ Stopped z → Did w u (Refused z) (declrEndF v p q o b k n (q + 1) (abs w))
@@ -259,9 +260,12 @@ module _ {ft : Tree → M St Tree} (v : WalksF) (p : ℕ) (sim : Sim ft (v .full
   pub spot-none : n ≡ 1 → Spot (tree w) q 0 j j
   spot-none z = let m : n - 1 ≡ 0 = omega (arith, z) in subst (λ (k : ℕ). Spot (tree w) q k j j) m (spot (unwalked z) (λ l. absurd (omega (arith, l, m))))
 
-  module _ (k : VarType) (nc : isConst k ≡ false) (x : ℕ) (y : x ≡ nodeOf w (q + 1) .num) where
+  module _ (k : VarType) (nc : isConst k ≡ false) (f : ℕ) (fy : f ≡ nodeOf w (q + 1) .form) (x : ℕ) (y : x ≡ nodeOf w (q + 1) .num) where
     abbrev t : Tree
     t = treeAt (abs w) (q + 1)
+
+    form-is : f ≡ form t
+    form-is = fy ∙ sym (form-at (abs w) (q + 1) (omega (arith, name-in, tree-length w)) ∙ ap (λ c. c .form) (tree-at w (q + 1) name-in))
 
     num-is : x ≡ num t
     num-is = y ∙ sym (num-at (abs w) (q + 1) (omega (arith, name-in, tree-length w)) ∙ ap (λ c. c .num) (tree-at w (q + 1) name-in))
@@ -284,36 +288,36 @@ module _ {ft : Tree → M St Tree} (v : WalksF) (p : ℕ) (sim : Sim ft (v .full
     abbrev by-stays : Bool → Res (Flat St) ℕ
     by-stays b = andThen (iff b (same skips (n - 1) j) (λ st. andThen (W (n - 1) j st) taken) (abs w)) (fin1 q)
 
-    stays-is : (b : Bool) → b ≡ stays (named x) (forestFrom (tree w) (n - 1) j) (stack w) → by-stays b ≡ declrEndF v p q (some t) true k n (q + 1) (abs w)
+    stays-is : (b : Bool) → b ≡ stays (named 0 x) (forestFrom (tree w) (n - 1) j) (stack w) → by-stays b ≡ declrEndF v p q (some t) true k n (q + 1) (abs w)
     unfolding declrInliningF
     stays-is b e = sym (end-is ∙ ap by-stays (
         ap (λ (ts : Forest). stays t ts (rest w .stack)) (forest-at-is (abs w) (n - 1) j)
         ∙ ap (λ (f : Stack → Bool). f (rest w .stack)) (stays-name t (forestFrom (tree w) (n - 1) j))
-        ∙ ap₂ {C = Bool} (λ z s. stays (named z) (forestFrom (tree w) (n - 1) j) s) (sym num-is) (rest-stack w)
+        ∙ ap₂ {C = Bool} (λ z s. stays (named 0 z) (forestFrom (tree w) (n - 1) j) s) (sym num-is) (rest-stack w)
         ∙ sym e))
 
-    pub init-stays : {b : Bool} {e : ℕ} → b ≡ stays (named x) (forestFrom (tree w) (n - 1) j) (stack w) → b ≡ true → e ≡ q + count (treeFrom (tree w) q) → Did w w (At e) (declrEndF v p q (some t) true k n (q + 1) (abs w))
+    pub init-stays : {b : Bool} {e : ℕ} → b ≡ stays (named 0 x) (forestFrom (tree w) (n - 1) j) (stack w) → b ≡ true → e ≡ q + count (treeFrom (tree w) q) → Did w w (At e) (declrEndF v p q (some t) true k n (q + 1) (abs w))
     init-stays {b} {e} g z l =
         let here : Did w w (At (j + counts (forestAt (abs w) (n - 1) j))) (skips (n - 1) j (abs w)) = record { ok = ok-self (h .planted); lands = (refl, refl) } in
         let end = kids-end (sim-split sim-skip sim-skips) h ar (past-name skips here) in
         let all : Did w w (At e) (by-stays true) = record { ok = ok-self (h .planted); lands = (l ∙ sym end, sym (stored w (suc (n - 1)) q (here-node h) (omega (arith, bd .some) ∙ ar))) } in
         did-to (ap by-stays (sym z) ∙ stays-is b g) all
 
-    pub init-stop : {b : Bool} {u : List ℕ} {a : Next} {m : ℕ} → b ≡ stays (named x) (forestFrom (tree w) (n - 1) j) (stack w) → b ≡ false → (n ≡ 1 → ⊥) → a ≡ Refused m → Did w u a (v .full (p + 1) j (abs w)) → Did w u a (declrEndF v p q (some t) true k n (q + 1) (abs w))
+    pub init-stop : {b : Bool} {u : List ℕ} {a : Next} {m : ℕ} → b ≡ stays (named 0 x) (forestFrom (tree w) (n - 1) j) (stack w) → b ≡ false → (n ≡ 1 → ⊥) → a ≡ Refused m → Did w u a (v .full (p + 1) j (abs w)) → Did w u a (declrEndF v p q (some t) true k n (q + 1) (abs w))
     init-stop {b} {u} {a} {m} g z o e r =
         let full : Did w u a (v .full (suc p) j (abs w)) = subst (λ (k : ℕ). Did w u a (v .full k j (abs w))) (add-one p) r in
         let part = split-stop (v .full (suc p)) skips (n - 1) j (λ y. omega (arith, o, bd .some, y)) e full in
         did-to (sym (assoc (W (n - 1) j (abs w)) taken (fin1 q)) ∙ ap by-stays (sym z) ∙ stays-is b g) (did-stop m (λ i st. andThen (taken i st) (fin1 q)) e part)
 
-    pub init-then : {b : Bool} {u s : List ℕ} {a : Next} {e : ℕ} → b ≡ stays (named x) (forestFrom (tree w) (n - 1) j) (stack w) → b ≡ false → Did w u (At e) (W (n - 1) j (abs w)) → Did u s a (declrAfter q k (named x) (n - 1) j e (abs u)) → Did w s a (declrEndF v p q (some t) true k n (q + 1) (abs w))
+    pub init-then : {b : Bool} {u s : List ℕ} {a : Next} {e : ℕ} → b ≡ stays (named 0 x) (forestFrom (tree w) (n - 1) j) (stack w) → b ≡ false → Did w u (At e) (W (n - 1) j (abs w)) → Did u s a (declrAfter q k (named f x) (n - 1) j e (abs u)) → Did w s a (declrEndF v p q (some t) true k n (q + 1) (abs w))
     init-then {b} {u} {s} {a} {e} g z r l =
         let ts = forestAt (abs u) (n - 1) j in
-        let names : declrAfter q k (named x) (n - 1) j e (abs u) ≡ declrAfter q k t (n - 1) j e (abs u) = ap (λ (f : St → Res St Bool). andThen (onRest f (abs u)) (λ gone st. andThen (iff gone (cutFirst (n - 1) j e) (ret (n - 1, e)) st) (fin1 q))) (ap (λ (z : ℕ). takes k (named z) ts) num-is ∙ sym (takes-name k t ts)) in
+        let names : declrAfter q k (named f x) (n - 1) j e (abs u) ≡ declrAfter q k t (n - 1) j e (abs u) = ap (λ (f : St → Res St Bool). andThen (onRest f (abs u)) (λ gone st. andThen (iff gone (cutFirst (n - 1) j e) (ret (n - 1, e)) st) (fin1 q))) (ap (λ (z : ℕ). takes k (named z x) ts) form-is ∙ ap (λ (z : ℕ). takes k (named (form t) z) ts) num-is ∙ sym (takes-name k t ts)) in
         let last : Did u s a (andThen (taken e (abs u)) (fin1 q)) = did-to (names ∙ sym (assoc (actF (takes k t) (n - 1) j (abs u)) (λ gone. iff gone (cutFirst (n - 1) j e) (ret (n - 1, e))) (fin1 q))) l in
         did-to (sym (assoc (W (n - 1) j (abs w)) taken (fin1 q)) ∙ ap by-stays (sym z) ∙ stays-is b g) (did-then e (λ i st. andThen (taken i st) (fin1 q)) refl r last)
 
-    pub init-none : {b : Bool} {s : List ℕ} {a : Next} → b ≡ stays (named x) (forestFrom (tree w) (n - 1) j) (stack w) → b ≡ false → n ≡ 1 → Did w s a (declrAfter q k (named x) 0 j j (abs w)) → Did w s a (declrEndF v p q (some t) true k n (q + 1) (abs w))
-    init-none {b} {s} {a} g z o l = let m : 0 ≡ n - 1 = omega (arith, o) in init-then g z (unwalked o) (subst (λ (m : ℕ). Did w s a (declrAfter q k (named x) m j j (abs w))) m l)
+    pub init-none : {b : Bool} {s : List ℕ} {a : Next} → b ≡ stays (named 0 x) (forestFrom (tree w) (n - 1) j) (stack w) → b ≡ false → n ≡ 1 → Did w s a (declrAfter q k (named f x) 0 j j (abs w)) → Did w s a (declrEndF v p q (some t) true k n (q + 1) (abs w))
+    init-none {b} {s} {a} g z o l = let m : 0 ≡ n - 1 = omega (arith, o) in init-then g z (unwalked o) (subst (λ (m : ℕ). Did w s a (declrAfter q k (named f x) m j j (abs w))) m l)
 
 -- the kind of a declaration, by its word
 pub kind-const : (w : List ℕ) → 3 ≤ getD w 8 0 → isConst (rest w .varDeclKind) ≡ true
@@ -322,8 +326,8 @@ kind-const w l = ap isConst (rest-kind w) ∙ const-yes (getD w 8 0) l
 pub kind-other : (w : List ℕ) → getD w 8 0 < 3 → isConst (rest w .varDeclKind) ≡ false
 kind-other w l = ap isConst (rest-kind w) ∙ const-no (getD w 8 0) l
 
-pub after-kind : {w u : List ℕ} {a : Next} (v : List ℕ) (q x n i j : ℕ) → Did w u a (declrAfter q (varTypeOf (getD v 8 0)) (named x) n i j (abs w)) → Did w u a (declrAfter q (rest v .varDeclKind) (named x) n i j (abs w))
-after-kind {w} {u} {a} v q x n i j d = subst (λ (k : VarType). Did w u a (declrAfter q k (named x) n i j (abs w))) (sym (rest-kind v)) d
+pub after-kind : {w u : List ℕ} {a : Next} (v : List ℕ) (q f x n i j : ℕ) → Did w u a (declrAfter q (varTypeOf (getD v 8 0)) (named f x) n i j (abs w)) → Did w u a (declrAfter q (rest v .varDeclKind) (named f x) n i j (abs w))
+after-kind {w} {u} {a} v q f x n i j d = subst (λ (k : VarType). Did w u a (declrAfter q k (named f x) n i j (abs w))) (sym (rest-kind v)) d
 
 -- the node itself, after a walk of its children and a change of a field
 module _ {f : Forest → M St Forest} {g : Walks St} (s : SimF f g) {w u x : List ℕ} {n q p d j : ℕ} {a : Next} {t : St} where
@@ -352,6 +356,9 @@ module _ {w : List ℕ} {n i p d : ℕ} (h : Here w n i p d) (bd : Bound w n i) 
   pub at-name : Good w × (i < getD w 0 0) × ((nodeOf w i .kind ≡ 20) ⊎ (nodeOf w i .kind ≡ 21))
   at-name = (h .planted .good, bound-in, inl (bd .kind))
 
+  pub name-form : {f : ℕ} → f ≡ nodeOf w i .form → f ≡ form (treeAt (abs w) i)
+  name-form e = e ∙ sym (form-at (abs w) i (omega (arith, bound-in, tree-length w)) ∙ ap (λ c. c .form) (tree-at w i bound-in))
+
   pub name-num : {x : ℕ} → x ≡ nodeOf w i .num → x ≡ num (treeAt (abs w) i)
   name-num e = e ∙ sym (num-at (abs w) i (omega (arith, bound-in, tree-length w)) ∙ ap (λ c. c .num) (tree-at w i bound-in))
 
@@ -375,9 +382,9 @@ module _ {w : List ℕ} {n i p d : ℕ} (h : Here w n i p d) where
   headed-name z e s = (bind-is z true (eq-eqb (nodeOf w i .kind) 20 (sym e ∙ s)), record { some = omega (arith, z); kind = sym e ∙ s })
 
 -- the end of a declarator, as its step answers it
-module _ {w u : List ℕ} {k t : VarType} (q x n i j : ℕ) (r : After) (e : t ≡ k) (d : steps.Did w u (declrAfter q t (named x) n i j (abs w)) (afterOf r (abs u))) where
-  pub after-at : (z : ℕ) → r ≡ after.At z → Did w u (At z) (declrAfter q k (named x) n i j (abs w))
-  after-at z g = did-to (sym (d .is ∙ ap (λ (r : After). afterOf r (abs u)) g) ∙ ap (λ (k : VarType). declrAfter q k (named x) n i j (abs w)) e) (record { ok = d .ok; lands = (refl, refl) })
+module _ {w u : List ℕ} {k t : VarType} (q f x n i j : ℕ) (r : After) (e : t ≡ k) (d : steps.Did w u (declrAfter q t (named f x) n i j (abs w)) (afterOf r (abs u))) where
+  pub after-at : (z : ℕ) → r ≡ after.At z → Did w u (At z) (declrAfter q k (named f x) n i j (abs w))
+  after-at z g = did-to (sym (d .is ∙ ap (λ (r : After). afterOf r (abs u)) g) ∙ ap (λ (k : VarType). declrAfter q k (named f x) n i j (abs w)) e) (record { ok = d .ok; lands = (refl, refl) })
 
-  pub after-halted : (z : ℕ) → r ≡ after.Halted z → Did w u (Refused z) (declrAfter q k (named x) n i j (abs w))
-  after-halted z g = did-to (sym (d .is ∙ ap (λ (r : After). afterOf r (abs u)) g) ∙ ap (λ (k : VarType). declrAfter q k (named x) n i j (abs w)) e) (record { ok = d .ok; lands = refl })
+  pub after-halted : (z : ℕ) → r ≡ after.Halted z → Did w u (Refused z) (declrAfter q k (named f x) n i j (abs w))
+  after-halted z g = did-to (sym (d .is ∙ ap (λ (r : After). afterOf r (abs u)) g) ∙ ap (λ (k : VarType). declrAfter q k (named f x) n i j (abs w)) e) (record { ok = d .ok; lands = refl })

@@ -4,15 +4,17 @@ use mathlib.Core.List.{List}
 use mathlib.Core.Bool.{Bool, true, false, not, _&&_}
 use mathlib.Core.Option.{none, some}
 use mathlib.Core.Logic.{_⊎_, inr}
-use Prim.Native.Nat.{ℕ, zero, suc, _+_, _<_}
+use Prim.Native.Nat.{ℕ, zero, suc, _+_, _-_, _<_}
 use native.Mathlib.Omega.{arith}
 use borrow.Author.Tests.{eq-eqb, ne-eqb}
-use lib.Dec.{eqb}
+use lib.Dec.{eqb, ltb}
 use lib.ListN.{length, getD, set, length-set}
 use lib.Seq.{getD-set-same}
-use Rattle.def_tree.specs.Tree.{Tree, node, kind, num, kids, Core, noCore}
+use Rattle.def_tree.specs.Base.{pick}
+use Rattle.def_tree.specs.Tree.{Tree, node, kind, form, num, kids, Core, noCore}
 use Rattle.def_tree.specs.Combine.{Res, stop, done, Nothing, M, treeAt, act}
 use Rattle.def_pass.specs.Tree.{headT}
+use Rattle.def_pass.specs.Twice.{unflagged}
 use Rattle.def_pass.specs.Scope.{Stack, VarType, param, vVar, isVar, noInit, recorded, declare}
 use Rattle.def_pass.specs.Walk.{St, PatMode, assigning, asParam, asCatch, declaring, grow, when, isBind, asIdent, noValue, declareM, declareName, patBy}
 use Rattle.words.specs.Layout.{tree, nodeOf}
@@ -30,7 +32,7 @@ use Rattle.walk_write.proofs.Steps.{Step, Does, step-act, act-step, ste
 use Rattle.walk_write.proofs.Marks.{kind-here, when-no, when-yes, phase-on, phase-off}
 use Rattle.walk_write.proofs.Shapes.{child-act}
 use Rattle.walk_write.proofs.Turned.{ofKind, turned-tree, turned-rest, turned-back}
-use Rattle.walk_write.proofs.Writing.{num-here}
+use Rattle.walk_write.proofs.Writing.{num-here, form-here}
 
 -- no change, and a value, are never undefined
 changes : (a b : Bool) → (a && not true && noValue noInit && b) ≡ false
@@ -63,67 +65,77 @@ module _ {w : List ℕ} (i : ℕ) where
       unfolding declareName
       declare-off h = child-act i declareName e (when-no (declareM t noInit true vVar) g (test ∙ ap not (phase-on w h)))
 
-      pub declare-on : {u : List ℕ} (x : ℕ) (s : recordsStep.Step) → getD w 6 0 ≡ 0 → x ≡ nodeOf w (i + 1) .num → Grown w u (declare x noInit false vVar (stack w)) s → Act w u (numberOf s) (act (λ t. declareName (headT (kids t))) i (abs w))
+      pub declare-on : {u : List ℕ} (f x : ℕ) (s : recordsStep.Step) → getD w 6 0 ≡ 0 → f ≡ nodeOf w (i + 1) .form → x ≡ nodeOf w (i + 1) .num → Grown w u (declare (ltb 1 f) x noInit false vVar (stack w)) s → Act w u (numberOf s) (act (λ t. declareName (headT (kids t))) i (abs w))
       unfolding declareName declareM
-      declare-on x s z q b =
-          let to : ℕ → Bool → Res St Nothing = λ y p. grow (declare y noInit p vVar) (rest w) in
+      declare-on f x s z r q b =
+          let to : ℕ → ℕ → Bool → Res St Nothing = λ h y p. grow (declare (ltb 1 h) y noInit p vVar) (rest w) in
           child-act i declareName e (when-yes (declareM t noInit true vVar) (test ∙ ap not (phase-off w z))
-          (step-as (ap (λ (y : ℕ). to y false) (q ∙ sym (num-here w (i + 1) l)) ∙ ap (λ (p : Bool). to (num t) p) (sym (changes (isVar (rest w .varDeclKind)) (rest w .inlining)))) (record-step g (declare x noInit false vVar) s b)))
+          (step-as (ap (λ (h : ℕ). to h x false) (r ∙ sym (form-here w (i + 1) l)) ∙ ap (λ (y : ℕ). to (form t) y false) (q ∙ sym (num-here w (i + 1) l)) ∙ ap (λ (p : Bool). to (form t) (num t) p) (sym (changes (isVar (rest w .varDeclKind)) (rest w .inlining)))) (record-step g (declare (ltb 1 f) x noInit false vVar) s b)))
 
--- the binding of a pattern: its node is an identifier while it is recorded
+-- the binding of a pattern: its node is an identifier, without the flag, while it is recorded
 grown-tree : (w u : List ℕ) (st : Stack) (s : recordsStep.Step) → Grown w u st s → tree u ≡ tree w
 grown-tree w u st recordsCase.Done b = b .0 .tree
 grown-tree w u st (recordsCase.Refused n) b = b .2 .tree
 
-as-ident : (t : Tree) → ofKind 21 t ≡ asIdent t
+pub unflagged-less : (f : ℕ) {g n : ℕ} → g ≡ unflagged f → f < n → g < n
+unflagged-less f {g} {n} e h = rw e (go (ltb 1 f))
+  where
+    go : (b : Bool) → pick b (f - 2) f < n
+    go true = omega arith
+    go false = h
+
+as-ident : (t : Tree) → ofKind 21 (unflagged (form t)) t ≡ asIdent t
 as-ident (node k f a ts) = refl
 
-module _ {w : List ℕ} (g : Planted w) (i : ℕ) (l : i < getD w 0 0) (k : nodeOf w i .kind ≡ 20) {w₁ : List ℕ} (a : Replants w w₁ (set (tree w) i (reKind 21 (getD (tree w) i noCore)))) where
+module _ {w : List ℕ} (g : Planted w) (i : ℕ) (l : i < getD w 0 0) (k : nodeOf w i .kind ≡ 20) {b f : ℕ} (eb : b ≡ nodeOf w i .form) (ef : f ≡ unflagged b) {w₁ : List ℕ} (a : Replants w w₁ (set (tree w) i (reKind 21 f (getD (tree w) i noCore)))) where
   inside : i < length (tree w)
   inside = rw tree-length l
 
   abbrev name : Tree
   name = treeAt (abs w) i
 
+  form-is : b ≡ form name
+  form-is = eb ∙ sym (form-here w i l)
+
   value-is : treeFrom (tree w₁) i ≡ asIdent name
   unfolding treeAt treeFrom
-  value-is = ap (λ (xs : List Core). treeFrom xs i) (a .is) ∙ turned-tree (tree w) i 21 inside (tree-whole g) ∙ as-ident name
+  value-is = ap (λ (xs : List Core). treeFrom xs i) (a .is) ∙ turned-tree (tree w) i 21 f inside (tree-whole g) ∙ ap (λ (n : ℕ). ofKind 21 n name) (ef ∙ ap unflagged form-is) ∙ as-ident name
 
   pub turned-in : i < getD w₁ 0 0
   turned-in =
-      let e : length (set (tree w) i (reKind 21 (getD (tree w) i noCore))) ≡ getD w 0 0 = simp length-set (tree-length w) in
+      let e : length (set (tree w) i (reKind 21 f (getD (tree w) i noCore))) ≡ getD w 0 0 = simp length-set (tree-length w) in
       omega (arith, sym (tree-length w₁) ∙ ap length (a .is) ∙ e)
 
-  module _ (w₂ : List ℕ) (x : ℕ) (v : VarType) (s : recordsStep.Step) (q : x ≡ nodeOf w i .num) (b : Grown w₁ w₂ (declare x (recorded (treeFrom (tree w₁) i)) false v (stack w₁)) s) where
+  module _ (w₂ : List ℕ) (x : ℕ) (v : VarType) (s : recordsStep.Step) (q : x ≡ nodeOf w i .num) (r : Grown w₁ w₂ (declare (ltb 1 b) x (recorded (treeFrom (tree w₁) i)) false v (stack w₁)) s) where
     abbrev to : M St Nothing
-    to = grow (declare x (recorded (asIdent name)) false v)
+    to = grow (declare (ltb 1 b) x (recorded (asIdent name)) false v)
 
     declared : Step w₁ w₂ (numberOf s) (to (rest w))
     declared =
-        rw (turned-rest g i l (reKind 21 (getD (tree w) i noCore)) a) at (record-step (a .planted) (declare x (recorded (asIdent name)) false v) s (rw value-is at b))
+        rw (turned-rest g i l (reKind 21 f (getD (tree w) i noCore)) a) at (record-step (a .planted) (declare (ltb 1 b) x (recorded (asIdent name)) false v) s (rw value-is at r))
 
     tree-kept : tree w₂ ≡ tree w₁
-    tree-kept = grown-tree w₁ w₂ (declare x (recorded (treeFrom (tree w₁) i)) false v (stack w₁)) s b
+    tree-kept = grown-tree w₁ w₂ (declare (ltb 1 b) x (recorded (treeFrom (tree w₁) i)) false v (stack w₁)) s r
 
     still-in : i < getD w₂ 0 0
     still-in = omega (arith, turned-in, sym (tree-length w₂) ∙ ap length tree-kept ∙ tree-length w₁)
 
     -- what turning it back asks for
-    pub bound-needs : Planted w₂ × (i < getD w₂ 0 0) × ((nodeOf w₂ i .kind ≡ 20) ⊎ (nodeOf w₂ i .kind ≡ 21)) × (20 < 64)
-    bound-needs =
-        let c : Core = reKind 21 (getD (tree w) i noCore) in
+    pub bound-needs : b < 32 → Planted w₂ × (i < getD w₂ 0 0) × ((nodeOf w₂ i .kind ≡ 20) ⊎ (nodeOf w₂ i .kind ≡ 21)) × (20 < 64) × (b < 32)
+    bound-needs h =
+        let c : Core = reKind 21 f (getD (tree w) i noCore) in
         let e : nodeOf w₂ i ≡ c = sym (tree-at w₂ i still-in) ∙ ap (λ (xs : List Core). getD xs i noCore) (tree-kept ∙ a .is) ∙ getD-set-same (tree w) i c noCore inside in
-        (declared .ok .planted, still-in, inr (ap (λ (d : Core). d .kind) e), omega arith)
+        (declared .ok .planted, still-in, inr (ap (λ (d : Core). d .kind) e), omega arith, h)
 
-    pub bound-act : {w₃ : List ℕ} → Replants w₂ w₃ (set (tree w₂) i (reKind 20 (getD (tree w₂) i noCore))) → Act w w₃ (numberOf s) (act (λ t. declareM t (recorded (asIdent t)) false v) i (abs w))
+    pub bound-act : {w₃ : List ℕ} → Replants w₂ w₃ (set (tree w₂) i (reKind 20 b (getD (tree w₂) i noCore))) → Act w w₃ (numberOf s) (act (λ t. declareM t (recorded (asIdent t)) false v) i (abs w))
     unfolding declareM
     bound-act {w₃} c =
-        let e : tree w₂ ≡ set (tree w) i (reKind 21 (getD (tree w) i noCore)) = tree-kept ∙ a .is in
-        let back : tree w₃ ≡ tree w = c .is ∙ ap (λ (xs : List Core). set xs i (reKind 20 (getD xs i noCore))) e ∙ turned-back (tree w) i inside (ap (λ (c : Core). c .kind) (tree-at w i l) ∙ k) in
-        let same : rest w₃ ≡ rest w₂ = turned-rest (declared .ok .planted) i still-in (reKind 20 (getD (tree w₂) i noCore)) c in
-        let form : ℕ → Bool → Res St Nothing = λ y p. grow (declare y (recorded (asIdent name)) p v) (rest w) in
+        let e : tree w₂ ≡ set (tree w) i (reKind 21 f (getD (tree w) i noCore)) = tree-kept ∙ a .is in
+        let back : tree w₃ ≡ tree w = c .is ∙ ap (λ (xs : List Core). set xs i (reKind 20 b (getD xs i noCore))) e ∙ turned-back (tree w) i f b inside (ap (λ (c : Core). c .kind) (tree-at w i l) ∙ k) (ap (λ (c : Core). c .form) (tree-at w i l) ∙ sym eb) in
+        let same : rest w₃ ≡ rest w₂ = turned-rest (declared .ok .planted) i still-in (reKind 20 b (getD (tree w₂) i noCore)) c in
+        let by : ℕ → ℕ → Bool → Res St Nothing = λ h y p. grow (declare (ltb 1 h) y (recorded (asIdent name)) p v) (rest w) in
         let d : Step w w₃ (numberOf s) (to (rest w)) = record { ok = ok-then (ok-then (replants-ok a) (declared .ok)) (replants-ok c); does = go back same (to (rest w)) (declared .does) } in
-        step-act (declareM name (recorded (asIdent name)) false v) (step-as (ap (λ (y : ℕ). form y false) (q ∙ sym (num-here w i l)) ∙ ap (λ (p : Bool). form (num name) p) (sym (valued (isVar (rest w .varDeclKind)) (rest w .inlining) (asIdent name)))) d)
+        step-act (declareM name (recorded (asIdent name)) false v) (step-as (ap (λ (h : ℕ). by h x false) form-is ∙ ap (λ (y : ℕ). by (form name) y false) (q ∙ sym (num-here w i l)) ∙ ap (λ (p : Bool). by (form name) (num name) p) (sym (valued (isVar (rest w .varDeclKind)) (rest w .inlining) (asIdent name)))) d)
       where
         go : tree w₃ ≡ tree w → rest w₃ ≡ rest w₂ → (r : Res St Nothing) → Does w₁ w₂ (numberOf s) r → Does w w₃ (numberOf s) r
         go p o (stop m) h = h

@@ -3,11 +3,11 @@ use mathlib.Core.Path.{_≡_, refl, sym, ap, _∙_}
 use mathlib.Core.List.{List, []}
 use mathlib.Core.Bool.{Bool, true, false}
 use Prim.Native.Nat.{ℕ, _+_, _-_, _<_}
-use lib.Dec.{eqb}
 use lib.ListN.{getD, length}
 use Rattle.def_tree.specs.Tree.{Tree, node, nil, form, num, Core, noCore, count}
 use Rattle.def_tree.specs.Combine.{Res, done, Nothing, andThen, nodeAt, treeAt, forestAt, act, actF}
 use Rattle.def_tree.proofs.Whole.{form-at, num-at}
+use Rattle.def_pass.specs.Twice.{isArgs}
 use Rattle.def_pass.specs.Scope.{addWrite}
 use Rattle.def_pass.specs.Tree.{identListF}
 use Rattle.def_pass.specs.Walk.{St, grow, write, writes, writeForest}
@@ -45,11 +45,11 @@ module _ (w : List ℕ) (i : ℕ) (l : i < getD w 0 0) where
   pub form-here : form (treeAt (abs w) i) ≡ nodeOf w i .form
   form-here = form-at (abs w) i inside ∙ ap (λ (c : Core). c .form) at-here
 
-  pub ident-act : {u : List ℕ} (x : ℕ) (args force : Bool) (r : recordsStep.Step) → Planted w → x ≡ nodeOf w i .num → args ≡ eqb (nodeOf w i .form) 1 → Grown w u (addWrite x args force (stack w)) r → Act w u (numberOf r) (act (write force) i (abs w))
+  pub ident-act : {u : List ℕ} (x : ℕ) (args force : Bool) (r : recordsStep.Step) → Planted w → x ≡ nodeOf w i .num → args ≡ isArgs (nodeOf w i .form) → Grown w u (addWrite x args force (stack w)) r → Act w u (numberOf r) (act (write force) i (abs w))
   unfolding write
   ident-act x args force r g p q b =
       let t : Tree = treeAt (abs w) i in
-      step-act (write force t) (step-as (ap (λ (a : ℕ). grow (addWrite a args force) (rest w)) (p ∙ sym num-here) ∙ ap (λ (b : Bool). grow (addWrite (num t) b force) (rest w)) (q ∙ ap (λ (k : ℕ). eqb k 1) (sym form-here))) (record-step g (addWrite x args force) r b))
+      step-act (write force t) (step-as (ap (λ (a : ℕ). grow (addWrite a args force) (rest w)) (p ∙ sym num-here) ∙ ap (λ (b : Bool). grow (addWrite (num t) b force) (rest w)) (q ∙ ap isArgs (sym form-here))) (record-step g (addWrite x args force) r b))
 
 -- n trees from i on: what is left to write are the names of the trees still open
 pub record Writing (w₀ w : List ℕ) (force : Bool) (n i more at : ℕ) : Type 0 where

@@ -19,6 +19,6 @@ numberOf (Refused n) = n
 abbrev pub cheapAt : List ℕ → ℕ → Option Tree
 cheapAt w j = pick (isCheap (treeAt (abs w) j)) (some (treeAt (abs w) j)) none
 
--- a node with another kind
-abbrev pub reKind : ℕ → Core → Core
-reKind k c = core k (c .form) (c .arity) (c .num)
+-- a node with another kind and form
+abbrev pub reKind : ℕ → ℕ → Core → Core
+reKind k f c = core k f (c .arity) (c .num)

@@ -15,6 +15,7 @@ ghost use Rattle.words_nodes.specs.Nodes.{Planted, Replants, size};
 ghost use Rattle.words_state.specs.State.{abs, Act};
 ghost use Rattle.walk_write.specs.Answers.{reKind};
 use super::number;
+use super::unflagged;
 use super::write_unbound;
 use scope::Init;
 use scope::VarDeclKind;
@@ -43,8 +44,10 @@ pub fn declare_name(w: &mut [u32], i: usize) -> u32
         return 0;
     }
     let x = ident_at(w, i + 1);
+    let f = form_at(w, i + 1);
     let s = declare(
         w,
+        1 < f,
         x,
         Init::NoInit,
         0,
@@ -54,26 +57,27 @@ pub fn declare_name(w: &mut [u32], i: usize) -> u32
     number(s)
 }
 
-// The name at i becomes a binding or an identifier.
-fn turn(w: &mut [u32], i: usize, k: u32)
-    requires { ⌜ (Planted (now w)) × (i < size (now w)) × ((nodeOf (now w) i .kind ≡ 20) ⊎ (nodeOf (now w) i .kind ≡ 21)) × (k < 64) ⌝ }
-    ensures { λ _. ⌜ Replants (now (w .entry)) (now (w .exit)) (set (tree (now (w .entry))) i (reKind k (getD (tree (now (w .entry))) i noCore))) ⌝ }
+// The name at i becomes a binding or an identifier, with another form.
+fn turn(w: &mut [u32], i: usize, k: u32, f: u32)
+    requires { ⌜ (Planted (now w)) × (i < size (now w)) × ((nodeOf (now w) i .kind ≡ 20) ⊎ (nodeOf (now w) i .kind ≡ 21)) × (k < 64) × (f < 32) ⌝ }
+    ensures { λ _. ⌜ Replants (now (w .entry)) (now (w .exit)) (set (tree (now (w .entry))) i (reKind k f (getD (tree (now (w .entry))) i noCore))) ⌝ }
 {
-    let f = form_at(w, i);
     let a = arity_at(w, i);
     let n = num_at(w, i);
     put_node(w, i, k, f, a, n);
 }
 
-// The binding at i is declared with its own identifier as its value: while it is recorded, the node is one.
+// The binding at i is declared with its own identifier as its value: while it is recorded, the node is one, without the flag.
 fn declare_bound(w: &mut [u32], i: usize, kind: VarType) -> u32
     requires { ⌜ (Planted (now w)) × (i < size (now w)) × (nodeOf (now w) i .kind ≡ 20) ⌝ }
     ensures { λ r. ⌜ Act (now (w .entry)) (now (w .exit)) r (act (λ t. declareM t (recorded (asIdent t)) false (typeOf kind)) i (abs (now (w .entry)))) ⌝ }
 {
     let x = ident_at(w, i);
-    turn(w, i, 21);
-    let s = declare(w, x, Init::Recorded, i, false, kind);
-    turn(w, i, 20);
+    let f = form_at(w, i);
+    let g = unflagged(f);
+    turn(w, i, 21, g);
+    let s = declare(w, 1 < f, x, Init::Recorded, i, false, kind);
+    turn(w, i, 20, f);
     number(s)
 }
 

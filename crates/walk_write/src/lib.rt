@@ -9,6 +9,7 @@ ghost use Prim.Native.Nat.{_<_, _≤_};
 ghost use Rattle.def_tree.specs.Tree.{kids, lengthF, plant};
 ghost use Rattle.def_tree.specs.Combine.{onRest, act, actF};
 ghost use Rattle.def_pass.specs.Tree.{headT};
+ghost use Rattle.def_pass.specs.Twice.{unflagged};
 ghost use Rattle.def_pass.specs.Scope.{preventInline, markThisSensitive, identOf};
 ghost use Rattle.def_pass.specs.Walk.{when, mark, write, writeTree, writeForest, writeName, butLast, assigning, patBy, storeInlineBarrierM};
 ghost use Rattle.words.specs.Layout.{tree, nodeOf, yes};
@@ -55,6 +56,16 @@ fn is_name(w: &[u32], i: usize) -> bool
     k == 21
 }
 
+// The form of a name without the flag of request 3.
+pub fn unflagged(f: u32) -> u32
+    ensures { λ r. ⌜ r ≡ unflagged f ⌝ }
+{
+    if 1 < f {
+        return f - 2;
+    }
+    f
+}
+
 // The name at node i is written, forced or not.
 pub fn write_ident(w: &mut [u32], i: usize, force: bool) -> u32
     requires { ⌜ (Planted (now w)) × (i < size (now w)) × ((nodeOf (now w) i .kind ≡ 20) ⊎ (nodeOf (now w) i .kind ≡ 21)) ⌝ }
@@ -62,7 +73,8 @@ pub fn write_ident(w: &mut [u32], i: usize, force: bool) -> u32
 {
     let x = ident_at(w, i);
     let f = form_at(w, i);
-    let s = add_write(w, x, f == 1, force);
+    let g = unflagged(f);
+    let s = add_write(w, x, g == 1, force);
     number(s)
 }
 

@@ -1,3 +1,4 @@
+use lib.Dec.{ltb}
 use Rattle.scope.proofs.Undefined as undefined
 use Rattle.scope.proofs.Moves as moves
 use Rattle.words.specs.Layout.{tree}
@@ -39,7 +40,7 @@ returns c =
     let e = at-sited .sited .result in
     let t = treeFrom (tree w) (at-entry .args .i) in
     let k = typeOf (at-entry .args .kind) in
-    let m = moves.moves-by (undefined.declare-m-is (at-entry .args .x) e t (at-entry .args .is-change) (at-undefined-now .undefined-now .result) k (rest w) (at-undefined-now .undefined-now .ensures)) (moves.grown-moves (declare (at-entry .args .x) (initFrom e t) (at-undefined-now .undefined-now .result) k) (at-entry .pre) (at-declare .declare .kept .0) (at-declare .declare .result) (at-declare .declare .ensures)) in
+    let m = moves.moves-by (undefined.declare-m-is (at-entry .args .f) (at-entry .args .x) e t (at-entry .args .is-change) (at-undefined-now .undefined-now .result) k (rest w) (at-undefined-now .undefined-now .ensures)) (moves.grown-moves (declare (ltb 1 (at-entry .args .f)) (at-entry .args .x) (initFrom e t) (at-undefined-now .undefined-now .result) k) (at-entry .pre) (at-declare .declare .kept .0) (at-declare .declare .result) (at-declare .declare .ensures)) in
     rw (at-sited .sited .ensures .1) at m
 
 pub declare-m-spec : {M : Type 1} → statement M

@@ -1,5 +1,6 @@
 -- declare without an init names no binding. Assumes nothing.
-use mathlib.Core.Path.{refl}
+use mathlib.Core.Path.{refl, ap}
+use mathlib.Core.Bool.{Bool, _||_}
 use native.Mathlib.Omega.{arith}
 use Rattle.scope_declare.proofs.Init as init
 use Rattle.words_scopes.specs.State.{stack}
@@ -29,7 +30,7 @@ returns c =
     let at-in-loop = at-declare-with .before .before in
     let at-should-prevent-inline-because-of-scope = at-in-loop .before .before in
     let at-entry = at-should-prevent-inline-because-of-scope .before .before .before in
-    rw (init.bare-is (at-entry .args .x) (at-entry .args .undefined) (typeOf (at-entry .args .kind)) (stack (at-entry .args .w .now)) (at-should-prevent-inline-because-of-scope .should-prevent-inline-because-of-scope .result) (at-in-loop .in-loop .result) (at-should-prevent-inline-because-of-scope .should-prevent-inline-because-of-scope .ensures) (at-in-loop .in-loop .ensures)) at (at-declare-with .declare-with .ensures)
+    rw (init.bare-is (at-entry .args .again) (at-entry .args .x) (at-entry .args .undefined) (typeOf (at-entry .args .kind)) (stack (at-entry .args .w .now)) (at-entry .args .again || at-should-prevent-inline-because-of-scope .should-prevent-inline-because-of-scope .result) (at-in-loop .in-loop .result) (ap (λ (b : Bool). at-entry .args .again || b) (at-should-prevent-inline-because-of-scope .should-prevent-inline-because-of-scope .ensures)) (at-in-loop .in-loop .ensures)) at (at-declare-with .declare-with .ensures)
 
 pub declare-bare-spec : {M : Type 1} → statement M
 declare-bare-spec =

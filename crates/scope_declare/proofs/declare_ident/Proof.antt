@@ -1,5 +1,6 @@
 -- An init that is an identifier may name a binding of the scope. Assumes nothing.
-use mathlib.Core.Path.{_≡_, sym, _∙_}
+use mathlib.Core.Path.{_≡_, sym, ap, _∙_}
+use mathlib.Core.Bool.{Bool, _||_}
 use Prim.Native.Nat.{_-_}
 use native.Mathlib.Omega.{arith}
 use borrow.Author.Tests.{eqb-true}
@@ -58,7 +59,7 @@ returns c =
     let at-skip = at-prevented-at .before .before in
     let at-entry = at-skip .before .before .before in
     let em : at-skip .skip .result - at-entry .args .i ≡ count (treeFrom (tree (at-entry .args .w .now)) (at-entry .args .i)) = omega (arith, at-skip .skip .ensures .0) in
-    rw (init.ident-is (at-entry .pre .0) (at-entry .pre .1) (at-entry .args .v) (at-entry .pre .2) (at-entry .args .x) (at-skip .skip .result - at-entry .args .i) em (at-entry .args .undefined) (typeOf (at-entry .args .kind)) (at-prevented-at .prevented-at .result) (at-in-loop .in-loop .result) (at-prevented-at .prevented-at .ensures) (at-in-loop .in-loop .ensures) (at-entry .pre .3) (at-ident-at .ident-at .result) (at-ident-at .ident-at .ensures ∙ sym (init.from-num (at-entry .args .w .now) (at-entry .args .i) (at-entry .pre .1))) (aliasOf (at-alias-for .alias-for .result)) (at-alias-for .alias-for .ensures) (at-barred-for .barred-for .result) (at-barred-for .barred-for .ensures)) at (at-declare-with .declare-with .ensures)
+    rw (init.ident-is (at-entry .pre .0) (at-entry .pre .1) (at-entry .args .v) (at-entry .pre .2) (at-entry .args .again) (at-entry .args .x) (at-skip .skip .result - at-entry .args .i) em (at-entry .args .undefined) (typeOf (at-entry .args .kind)) (at-entry .args .again || at-prevented-at .prevented-at .result) (at-in-loop .in-loop .result) (ap (λ (b : Bool). at-entry .args .again || b) (at-prevented-at .prevented-at .ensures)) (at-in-loop .in-loop .ensures) (at-entry .pre .3) (at-ident-at .ident-at .result) (at-ident-at .ident-at .ensures ∙ sym (init.from-num (at-entry .args .w .now) (at-entry .args .i) (at-entry .pre .1))) (aliasOf (at-alias-for .alias-for .result)) (at-alias-for .alias-for .ensures) (at-barred-for .barred-for .result) (at-barred-for .barred-for .ensures)) at (at-declare-with .declare-with .ensures)
 
 pub declare-ident-spec : {M : Type 1} → statement M
 declare-ident-spec =

@@ -1,5 +1,6 @@
 -- An init that is no identifier names no binding. Assumes nothing.
-use mathlib.Core.Path.{_≡_}
+use mathlib.Core.Path.{_≡_, ap}
+use mathlib.Core.Bool.{Bool, _||_}
 use Prim.Native.Nat.{_-_}
 use native.Mathlib.Omega.{arith}
 use Rattle.scope_declare.proofs.Init as init
@@ -42,7 +43,7 @@ returns c =
     let at-skip = at-prevented-at .before .before in
     let at-entry = at-skip .before .before .before in
     let em : at-skip .skip .result - at-entry .args .i ≡ count (treeFrom (tree (at-entry .args .w .now)) (at-entry .args .i)) = omega (arith, at-skip .skip .ensures .0) in
-    rw (init.value-is (at-entry .pre .0) (at-entry .pre .1) (at-entry .args .v) (at-entry .pre .2) (at-entry .args .x) (at-skip .skip .result - at-entry .args .i) em (at-entry .args .undefined) (typeOf (at-entry .args .kind)) (at-prevented-at .prevented-at .result) (at-in-loop .in-loop .result) (at-prevented-at .prevented-at .ensures) (at-in-loop .in-loop .ensures) (at-entry .pre .3)) at (at-declare-with .declare-with .ensures)
+    rw (init.value-is (at-entry .pre .0) (at-entry .pre .1) (at-entry .args .v) (at-entry .pre .2) (at-entry .args .again) (at-entry .args .x) (at-skip .skip .result - at-entry .args .i) em (at-entry .args .undefined) (typeOf (at-entry .args .kind)) (at-entry .args .again || at-prevented-at .prevented-at .result) (at-in-loop .in-loop .result) (ap (λ (b : Bool). at-entry .args .again || b) (at-prevented-at .prevented-at .ensures)) (at-in-loop .in-loop .ensures) (at-entry .pre .3)) at (at-declare-with .declare-with .ensures)
 
 pub declare-value-spec : {M : Type 1} → statement M
 declare-value-spec =

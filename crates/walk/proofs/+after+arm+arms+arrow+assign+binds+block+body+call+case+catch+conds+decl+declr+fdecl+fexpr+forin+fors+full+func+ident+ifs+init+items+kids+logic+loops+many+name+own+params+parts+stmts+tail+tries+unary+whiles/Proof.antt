@@ -131,7 +131,7 @@ use Rattle.walk.proofs.+after+arm+arms+arrow+assign+binds+block+body+ca
 use Rattle.walk.proofs.+after+arm+arms+arrow+assign+binds+block+body+call+case+catch+conds+decl+declr+fdecl+fexpr+forin+fors+full+func+ident+ifs+init+items+kids+logic+loops+many+name+own+params+parts+stmts+tail+tries+unary+whiles.Proof.Catch.{catch-calls, catch-slice-read-inl, catch-slice-read-decl, catch-slice-read-mode, catch-slice-read-test, catch-enter-requires, catch-refused-requires, catch-same-length, catch-returns, catch-set-pat-mode-requires, catch-arity-at-requires, catch-cast-n, catch-leave-requires, catch-add-result, catch-same-length-2, catch-returns-2, catch-add-binds, catch-sub-binds, catch-add-binds-2, catch-binds-requires, catch-next-requires, catch-enum-known-j, catch-enum-told, catch-same-length-3, catch-returns-3, catch-add-full, catch-full-requires, catch-next-requires-2, catch-enum-known-end, catch-enum-told-2, catch-same-length-4, catch-returns-4, catch-leave-requires-2, catch-same-length-5, catch-returns-5}
 use Rattle.walk.proofs.+after+arm+arms+arrow+assign+binds+block+body+call+case+catch+conds+decl+declr+fdecl+fexpr+forin+fors+full+func+ident+ifs+init+items+kids+logic+loops+many+name+own+params+parts+stmts+tail+tries+unary+whiles.Proof.Conds.{conds-calls, conds-Inv-loop, conds-μ-loop, conds-loop-holds, conds-slice-read-old, conds-deeper-requires, conds-refused-requires, conds-same-length, conds-returns, conds-arm-requires, conds-next-requires, conds-enum-known-j, conds-enum-told, conds-same-length-2, conds-returns-2, conds-set-conds-requires, conds-add-k, conds-loop-less, conds-loop-again, conds-same-length-3, conds-returns-3}
 use Rattle.walk.proofs.+after+arm+arms+arrow+assign+binds+block+body+call+case+catch+conds+decl+declr+fdecl+fexpr+forin+fors+full+func+ident+ifs+init+items+kids+logic+loops+many+name+own+params+parts+stmts+tail+tries+unary+whiles.Proof.Decl.{decl-calls, decl-form-at-requires, decl-decl-kind-requires, decl-set-var-decl-kind-requires, decl-kids-requires, decl-same-length, decl-returns}
-use Rattle.walk.proofs.+after+arm+arms+arrow+assign+binds+block+body+call+case+catch+conds+decl+declr+fdecl+fexpr+forin+fors+full+func+ident+ifs+init+items+kids+logic+loops+many+name+own+params+parts+stmts+tail+tries+unary+whiles.Proof.Declr.{declr-calls, declr-arity-at-requires, declr-cast-n, declr-add-tail, declr-add-tail-2, declr-tail-requires, declr-next-requires, declr-enum-told, declr-enum-told-2, declr-same-length, declr-returns, declr-set-pat-mode-requires, declr-add-nameless, declr-nameless-requires, declr-name-requires, declr-same-length-2, declr-returns-2, declr-slice-read-if2, declr-init-requires, declr-coded-requires, declr-same-length-3, declr-returns-3, declr-add-ident-at, declr-ident-at-requires, declr-add-over, declr-over-requires, declr-enum-known-m, declr-refused-requires, declr-enum-known-gone, declr-skip-requires, declr-same-length-4, declr-returns-4, declr-name-requires-2, declr-same-length-5, declr-returns-5, declr-same-length-6, declr-returns-6}
+use Rattle.walk.proofs.+after+arm+arms+arrow+assign+binds+block+body+call+case+catch+conds+decl+declr+fdecl+fexpr+forin+fors+full+func+ident+ifs+init+items+kids+logic+loops+many+name+own+params+parts+stmts+tail+tries+unary+whiles.Proof.Declr.{declr-calls, declr-arity-at-requires, declr-cast-n, declr-add-tail, declr-add-tail-2, declr-tail-requires, declr-next-requires, declr-enum-told, declr-enum-told-2, declr-same-length, declr-returns, declr-set-pat-mode-requires, declr-add-nameless, declr-nameless-requires, declr-name-requires, declr-same-length-2, declr-returns-2, declr-slice-read-if2, declr-init-requires, declr-coded-requires, declr-same-length-3, declr-returns-3, declr-add-ident-at, declr-ident-at-requires, declr-add-form-at, declr-form-at-requires, declr-add-over, declr-over-requires, declr-enum-known-m, declr-refused-requires, declr-enum-known-gone, declr-skip-requires, declr-same-length-4, declr-returns-4, declr-name-requires-2, declr-same-length-5, declr-returns-5, declr-same-length-6, declr-returns-6}
 use Rattle.walk.proofs.+after+arm+arms+arrow+assign+binds+block+body+call+case+catch+conds+decl+declr+fdecl+fexpr+forin+fors+full+func+ident+ifs+init+items+kids+logic+loops+many+name+own+params+parts+stmts+tail+tries+unary+whiles.Proof.Fdecl.{fdecl-calls, fdecl-declare-name-requires, fdecl-refused-requires, fdecl-same-length, fdecl-returns, fdecl-arity-at-requires, fdecl-cast-n, fdecl-add-result, fdecl-same-length-2, fdecl-returns-2, fdecl-add-skip, fdecl-skip-requires, fdecl-sub-func, fdecl-func-requires, fdecl-same-length-3, fdecl-returns-3}
 use Rattle.walk.proofs.+after+arm+arms+arrow+assign+binds+block+body+call+case+catch+conds+decl+declr+fdecl+fexpr+forin+fors+full+func+ident+ifs+init+items+kids+logic+loops+many+name+own+params+parts+stmts+tail+tries+unary+whiles.Proof.Fexpr.{fexpr-calls, fexpr-arity-at-requires, fexpr-cast-n, fexpr-form-at-requires, fexpr-add-func, fexpr-func-requires, fexpr-same-length, fexpr-returns, fexpr-write-name-requires, fexpr-refused-requires, fexpr-same-length-2, fexpr-returns-2, fexpr-add-result, fexpr-same-length-3, fexpr-returns-3, fexpr-add-skip, fexpr-skip-requires, fexpr-sub-func, fexpr-func-requires-2, fexpr-same-length-4, fexpr-returns-4}
 use Rattle.walk.proofs.+after+arm+arms+arrow+assign+binds+block+body+call+case+catch+conds+decl+declr+fdecl+fexpr+forin+fors+full+func+ident+ifs+init+items+kids+logic+loops+many+name+own+params+parts+stmts+tail+tries+unary+whiles.Proof.Forin.{forin-calls, forin-set-pat-mode-requires, forin-arity-at-requires, forin-cast-n, forin-add-result, forin-same-length, forin-returns, forin-add-full, forin-add-full-2, forin-full-requires, forin-next-requires, forin-enum-known-j, forin-enum-told, forin-same-length-2, forin-returns-2, forin-add-write-tree, forin-write-tree-requires, forin-refused-requires, forin-same-length-3, forin-returns-3, forin-sub-write-but-last, forin-write-but-last-requires, forin-refused-requires-2, forin-same-length-4, forin-returns-4, forin-add-loops, forin-sub-loops, forin-loops-requires, forin-same-length-5, forin-returns-5}
@@ -140,7 +140,7 @@ use Rattle.walk.proofs.+after+arm+arms+arrow+assign+binds+block+body+ca
 use Rattle.walk.proofs.+after+arm+arms+arrow+assign+binds+block+body+call+case+catch+conds+decl+declr+fdecl+fexpr+forin+fors+full+func+ident+ifs+init+items+kids+logic+loops+many+name+own+params+parts+stmts+tail+tries+unary+whiles.Proof.Func.{func-calls, func-slice-read-inl, func-slice-read-decl, func-slice-read-mode, func-slice-read-test, func-add-enter, func-enter-requires, func-refused-requires, func-same-length, func-returns, func-set-pat-mode-requires, func-add-params, func-params-requires, func-next-requires, func-enum-known-j, func-enum-told, func-same-length-2, func-returns-2, func-leave-requires, func-same-length-3, func-returns-3}
 use Rattle.walk.proofs.+after+arm+arms+arrow+assign+binds+block+body+call+case+catch+conds+decl+declr+fdecl+fexpr+forin+fors+full+func+ident+ifs+init+items+kids+logic+loops+many+name+own+params+parts+stmts+tail+tries+unary+whiles.Proof.Ident.{ident-calls, ident-constant-requires, ident-cast-inline-constant, ident-inline-constant-requires, ident-enum-told, ident-enum-told-2, ident-coded-requires, ident-same-length, ident-returns, ident-full-requires, ident-same-length-2, ident-returns-2, ident-slice-read-if2, ident-ident-analysis-requires, ident-skip-requires, ident-same-length-3, ident-returns-3, ident-fate-requires, ident-enum-told-3, ident-skip-requires-2, ident-enum-told-4, ident-cast-inline-undefined, ident-inline-undefined-requires, ident-coded-requires-2, ident-enum-known-b, ident-cast-inline-value, ident-inline-value-requires, ident-enum-told-5, ident-enum-told-6, ident-coded-requires-3, ident-same-length-4, ident-returns-4, ident-logic-requires, ident-same-length-5, ident-returns-5, ident-same-length-6, ident-returns-6, ident-same-length-7, ident-returns-7}
 use Rattle.walk.proofs.+after+arm+arms+arrow+assign+binds+block+body+call+case+catch+conds+decl+declr+fdecl+fexpr+forin+fors+full+func+ident+ifs+init+items+kids+logic+loops+many+name+own+params+parts+stmts+tail+tries+unary+whiles.Proof.Ifs.{ifs-calls, ifs-arity-at-requires, ifs-cast-n, ifs-add-result, ifs-same-length, ifs-returns, ifs-slice-read-old, ifs-set-in-test-requires, ifs-add-full, ifs-add-full-2, ifs-full-requires, ifs-next-requires, ifs-enum-known-j, ifs-enum-told, ifs-same-length-2, ifs-returns-2, ifs-set-in-test-requires-2, ifs-add-arms, ifs-sub-arms, ifs-arms-requires, ifs-same-length-3, ifs-returns-3}
-use Rattle.walk.proofs.+after+arm+arms+arrow+assign+binds+block+body+call+case+catch+conds+decl+declr+fdecl+fexpr+forin+fors+full+func+ident+ifs+init+items+kids+logic+loops+many+name+own+params+parts+stmts+tail+tries+unary+whiles.Proof.Init.{init-calls, init-slice-read-kind, init-name-requires, init-next-requires, init-same-length, init-returns, init-add-ident-at, init-ident-at-requires, init-add-skip, init-skip-requires, init-sub-stays, init-stays-requires, init-skip-requires-2, init-same-length-2, init-returns-2, init-declr-end-requires, init-same-length-3, init-returns-3, init-add-full, init-full-requires, init-next-requires-2, init-enum-told, init-enum-told-2, init-same-length-4, init-returns-4, init-skip-requires-3, init-sub-declr-end, init-declr-end-requires-2, init-same-length-5, init-returns-5}
+use Rattle.walk.proofs.+after+arm+arms+arrow+assign+binds+block+body+call+case+catch+conds+decl+declr+fdecl+fexpr+forin+fors+full+func+ident+ifs+init+items+kids+logic+loops+many+name+own+params+parts+stmts+tail+tries+unary+whiles.Proof.Init.{init-calls, init-slice-read-kind, init-name-requires, init-next-requires, init-same-length, init-returns, init-add-ident-at, init-ident-at-requires, init-add-form-at, init-form-at-requires, init-add-skip, init-skip-requires, init-sub-stays, init-stays-requires, init-skip-requires-2, init-same-length-2, init-returns-2, init-declr-end-requires, init-same-length-3, init-returns-3, init-add-full, init-full-requires, init-next-requires-2, init-enum-told, init-enum-told-2, init-same-length-4, init-returns-4, init-skip-requires-3, init-sub-declr-end, init-declr-end-requires-2, init-same-length-5, init-returns-5}
 use Rattle.walk.proofs.+after+arm+arms+arrow+assign+binds+block+body+call+case+catch+conds+decl+declr+fdecl+fexpr+forin+fors+full+func+ident+ifs+init+items+kids+logic+loops+many+name+own+params+parts+stmts+tail+tries+unary+whiles.Proof.Items.{items-calls, items-form-at-requires, items-body-requires, items-same-length, items-returns, items-arity-at-requires, items-cast-n, items-add-result, items-same-length-2, items-returns-2, items-add-full, items-add-full-2, items-full-requires, items-next-requires, items-enum-known-j, items-enum-told, items-same-length-3, items-returns-3, items-add-stmts, items-sub-stmts, items-stmts-requires, items-same-length-4, items-returns-4}
 use Rattle.walk.proofs.+after+arm+arms+arrow+assign+binds+block+body+call+case+catch+conds+decl+declr+fdecl+fexpr+forin+fors+full+func+ident+ifs+init+items+kids+logic+loops+many+name+own+params+parts+stmts+tail+tries+unary+whiles.Proof.Kids.{kids-calls, kids-arity-at-requires, kids-cast-n, kids-add-many, kids-add-many-2, kids-many-requires, kids-same-length, kids-returns}
 use Rattle.walk.proofs.+after+arm+arms+arrow+assign+binds+block+body+call+case+catch+conds+decl+declr+fdecl+fexpr+forin+fors+full+func+ident+ifs+init+items+kids+logic+loops+many+name+own+params+parts+stmts+tail+tries+unary+whiles.Proof.Logic.{logic-calls, logic-kind-at-requires, logic-skip-requires, logic-same-length, logic-returns, logic-form-at-requires, logic-skip-requires-2, logic-same-length-2, logic-returns-2, logic-arity-at-requires, logic-cast-n, logic-add-result, logic-same-length-3, logic-returns-3, logic-add-skip, logic-skip-requires-3, logic-add-conds, logic-sub-conds, logic-conds-requires, logic-same-length-4, logic-returns-4}
@@ -508,6 +508,8 @@ pub +after+arm+arms+arrow+assign+binds+block+body+call+case+catch+conds+decl+dec
     (declr-returns-3 t)
     (declr-add-ident-at t)
     (declr-ident-at-requires t)
+    (declr-add-form-at t)
+    (declr-form-at-requires t)
     (declr-add-over t)
     (declr-over-requires t)
     (declr-enum-known-m t)
@@ -743,6 +745,8 @@ pub +after+arm+arms+arrow+assign+binds+block+body+call+case+catch+conds+decl+dec
     (init-returns t)
     (init-add-ident-at t)
     (init-ident-at-requires t)
+    (init-add-form-at t)
+    (init-form-at-requires t)
     (init-add-skip t)
     (init-skip-requires t)
     (init-sub-stays t)

@@ -30,7 +30,7 @@ returns c =
     let at-n = c .before in
     let at-declare-m = at-n .before .before .before .before in
     let at-entry = at-declare-m .before .before .before in
-    ends.after-stop (typeOf (at-entry .args .kind)) (named (at-entry .args .x)) (at-entry .args .q) 0 (at-entry .args .i) (at-entry .args .j) (acts.moves-by (ends.bare-here (at-entry .args .x) (typeOf (at-entry .args .kind)) (tree (at-entry .args .w .now)) (at-entry .args .i) (rest (at-entry .args .w .now))) (acts.moves-stop (λ u. ret false) (rw (at-n .n .given .1) at (rw (given.init-none (treeO (tree (at-entry .args .w .now)) 0)) at (at-declare-m .declare-m .ensures)))))
+    ends.after-stop (typeOf (at-entry .args .kind)) (named (at-entry .args .f) (at-entry .args .x)) (at-entry .args .q) 0 (at-entry .args .i) (at-entry .args .j) (acts.moves-by (ends.bare-here (at-entry .args .f) (at-entry .args .x) (typeOf (at-entry .args .kind)) (tree (at-entry .args .w .now)) (at-entry .args .i) (rest (at-entry .args .w .now))) (acts.moves-stop (λ u. ret false) (rw (at-n .n .given .1) at (rw (given.init-none (treeO (tree (at-entry .args .w .now)) 0)) at (at-declare-m .declare-m .ensures)))))
 
 same-length-2 : tie.Need-same-length-2
 same-length-2 c = search needs
@@ -40,7 +40,7 @@ returns-2 c =
     let at-declare-m = c .before .before .before .before in
     let at-entry = at-declare-m .before .before .before in
     let p = (rw (c .enum-told .given .1) at (rw (given.init-none (treeO (tree (at-entry .args .w .now)) 0)) at (at-declare-m .declare-m .ensures))) in
-    ends.after-kept (typeOf (at-entry .args .kind)) (named (at-entry .args .x)) (at-entry .args .q) 0 (at-entry .args .i) (at-entry .args .j) (at-entry .pre .1) (acts.moves-by (ends.bare-here (at-entry .args .x) (typeOf (at-entry .args .kind)) (tree (at-entry .args .w .now)) (at-entry .args .i) (rest (at-entry .args .w .now))) (acts.moves-then (λ u. ret false) p (acts.moves-self (p .ok .planted) false)))
+    ends.after-kept (typeOf (at-entry .args .kind)) (named (at-entry .args .f) (at-entry .args .x)) (at-entry .args .q) 0 (at-entry .args .i) (at-entry .args .j) (at-entry .pre .1) (acts.moves-by (ends.bare-here (at-entry .args .f) (at-entry .args .x) (typeOf (at-entry .args .kind)) (tree (at-entry .args .w .now)) (at-entry .args .i) (rest (at-entry .args .w .now))) (acts.moves-then (λ u. ret false) p (acts.moves-self (p .ok .planted) false)))
 
 pub after-bare-spec : {M : Type 1} → statement M
 after-bare-spec =

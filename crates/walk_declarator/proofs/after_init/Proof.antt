@@ -14,7 +14,7 @@ use Rattle.walk_declarator.proofs.after_init.Tie as tie
 take-init-requires : tie.Need-take-init-requires
 take-init-requires c κs =
     let at-entry = c .before .before in
-    (at-entry .pre .0, ends.init-in (at-entry .pre .0) (at-entry .args .x) (typeOf (at-entry .args .kind)) (at-entry .args .q) (at-entry .args .n) (at-entry .args .i) (at-entry .args .j) (at-entry .pre .1) (at-entry .pre .2))
+    (at-entry .pre .0, ends.init-in (at-entry .pre .0) (at-entry .args .f) (at-entry .args .x) (typeOf (at-entry .args .kind)) (at-entry .args .q) (at-entry .args .n) (at-entry .args .i) (at-entry .args .j) (at-entry .pre .1) (at-entry .pre .2))
 
 enum-known-m : tie.Need-enum-known-m
 enum-known-m c = search needs
@@ -41,7 +41,7 @@ returns c =
     let at-take-init = at-gone .before .before .before .before in
     let at-entry = at-take-init .before .before .before in
     let p = rw (at-gone .gone .given .1, at-if1 .if1 .taken) at (at-take-init .take-init .ensures) in
-    rw (at-cut-init .cut-init .ensures .1 ∙ ap (λ (l : List Core). at-entry .args .j - count (treeFrom l (at-entry .args .i))) (p .nodes)) (ends.init-gone (at-entry .pre .0) (at-entry .args .x) (typeOf (at-entry .args .kind)) (at-entry .args .q) (at-entry .args .n) (at-entry .args .i) (at-entry .args .j) (at-entry .pre .1) (at-entry .pre .2) p (at-cut-init .cut-init .ensures .0))
+    rw (at-cut-init .cut-init .ensures .1 ∙ ap (λ (l : List Core). at-entry .args .j - count (treeFrom l (at-entry .args .i))) (p .nodes)) (ends.init-gone (at-entry .pre .0) (at-entry .args .f) (at-entry .args .x) (typeOf (at-entry .args .kind)) (at-entry .args .q) (at-entry .args .n) (at-entry .args .i) (at-entry .args .j) (at-entry .pre .1) (at-entry .pre .2) p (at-cut-init .cut-init .ensures .0))
 
 same-length-2 : tie.Need-same-length-2
 same-length-2 c = search needs
@@ -51,7 +51,7 @@ returns-2 c =
     let at-m = c .before in
     let at-take-init = at-m .before .before .before .before in
     let at-entry = at-take-init .before .before .before in
-    ends.init-stop (at-entry .pre .0) (at-entry .args .x) (typeOf (at-entry .args .kind)) (at-entry .args .q) (at-entry .args .n) (at-entry .args .i) (at-entry .args .j) (at-entry .pre .1) (at-entry .pre .2) (rw (at-m .m .given .1) at (at-take-init .take-init .ensures))
+    ends.init-stop (at-entry .pre .0) (at-entry .args .f) (at-entry .args .x) (typeOf (at-entry .args .kind)) (at-entry .args .q) (at-entry .args .n) (at-entry .args .i) (at-entry .args .j) (at-entry .pre .1) (at-entry .pre .2) (rw (at-m .m .given .1) at (at-take-init .take-init .ensures))
 
 same-length-3 : tie.Need-same-length-3
 same-length-3 c = search needs
@@ -61,7 +61,7 @@ returns-3 c =
     let at-gone = c .before .before in
     let at-take-init = at-gone .before .before .before .before in
     let at-entry = at-take-init .before .before .before in
-    ends.init-kept (at-entry .pre .0) (at-entry .args .x) (typeOf (at-entry .args .kind)) (at-entry .args .q) (at-entry .args .n) (at-entry .args .i) (at-entry .args .j) (at-entry .pre .1) (at-entry .pre .2) (rw (at-gone .gone .given .1, c .if1 .left) at (at-take-init .take-init .ensures))
+    ends.init-kept (at-entry .pre .0) (at-entry .args .f) (at-entry .args .x) (typeOf (at-entry .args .kind)) (at-entry .args .q) (at-entry .args .n) (at-entry .args .i) (at-entry .args .j) (at-entry .pre .1) (at-entry .pre .2) (rw (at-gone .gone .given .1, c .if1 .left) at (at-take-init .take-init .ensures))
 
 pub after-init-spec : {M : Type 1} → statement M
 after-init-spec =

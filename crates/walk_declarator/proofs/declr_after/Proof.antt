@@ -21,7 +21,7 @@ returns c =
     let at-after-bare = c .before .before in
     let at-if1 = at-after-bare .before .before in
     let at-entry = at-if1 .before .before in
-    ends.did-by (ap (λ (n : ℕ). declrAfter (at-entry .args .q) (typeOf (at-entry .args .kind)) (named (at-entry .args .x)) n (at-entry .args .i) (at-entry .args .j) (abs (at-entry .args .w .now))) (at-if1 .if1 .taken)) (at-after-bare .after-bare .ensures)
+    ends.did-by (ap (λ (n : ℕ). declrAfter (at-entry .args .q) (typeOf (at-entry .args .kind)) (named (at-entry .args .f) (at-entry .args .x)) n (at-entry .args .i) (at-entry .args .j) (abs (at-entry .args .w .now))) (at-if1 .if1 .taken)) (at-after-bare .after-bare .ensures)
 
 after-init-requires : tie.Need-after-init-requires
 after-init-requires c κs = search needs

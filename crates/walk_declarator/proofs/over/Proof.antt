@@ -27,7 +27,7 @@ returns c =
     let at-over-none = c .before .before .before in
     let at-if1 = at-over-none .before .before in
     let at-entry = at-if1 .before .before in
-    acts.moves-by (parts.over-one (at-entry .args .x) (at-entry .args .n) (at-entry .args .i) (tree (at-entry .args .w .now)) (rest (at-entry .args .w .now)) (at-if1 .if1 .taken)) (acts.moves-answer (at-over-none .over-none .result) false (c .answer .result) (at-over-none .over-none .ensures) (c .answer .ensures))
+    acts.moves-by (parts.over-one (at-entry .args .f) (at-entry .args .x) (at-entry .args .n) (at-entry .args .i) (tree (at-entry .args .w .now)) (rest (at-entry .args .w .now)) (at-if1 .if1 .taken)) (acts.moves-answer (at-over-none .over-none .result) false (c .answer .result) (at-over-none .over-none .ensures) (c .answer .ensures))
 
 skip-requires : tie.Need-skip-requires
 skip-requires c κs =
@@ -53,7 +53,7 @@ returns-2 c =
     let at-skip = at-over-some .before .before in
     let at-if1 = at-skip .before .before in
     let at-entry = at-if1 .before .before in
-    acts.moves-by (parts.over-two (at-entry .pre .0) (at-entry .args .n) (at-entry .args .i) (at-skip .skip .result) (at-entry .pre .1) (omega (arith, at-if1 .if1)) (at-skip .skip .ensures .0) (at-entry .args .x) (rest (at-entry .args .w .now))) (at-over-some .over-some .ensures)
+    acts.moves-by (parts.over-two (at-entry .pre .0) (at-entry .args .n) (at-entry .args .i) (at-skip .skip .result) (at-entry .pre .1) (omega (arith, at-if1 .if1)) (at-skip .skip .ensures .0) (at-entry .args .f) (at-entry .args .x) (rest (at-entry .args .w .now))) (at-over-some .over-some .ensures)
 
 pub over-spec : {M : Type 1} → statement M
 over-spec =

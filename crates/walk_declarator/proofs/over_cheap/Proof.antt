@@ -61,7 +61,7 @@ returns c =
     let at-n = c .before in
     let at-declare-m = at-n .before .before .before .before in
     let at-entry = at-declare-m .before .before .before in
-    acts.moves-by (parts.cheap-then (at-entry .args .x) (typeOf (at-entry .args .kind)) (treeFrom (tree (at-entry .args .w .now)) (at-entry .args .e)) (rest (at-entry .args .w .now))) (acts.moves-stop (λ (u : Nothing) (s : St). when (isInlinePrevented (treeFrom (tree (at-entry .args .w .now)) (at-entry .args .e)) (s .stack)) (mark (preventInline (at-entry .args .x))) s) (rw (at-n .n .given .1) at (rw (sym (given.init-in (at-entry .args .w .now) (at-entry .args .e) Recorded (at-entry .pre .1))) at (at-declare-m .declare-m .ensures))))
+    acts.moves-by (parts.cheap-then (at-entry .args .f) (at-entry .args .x) (typeOf (at-entry .args .kind)) (treeFrom (tree (at-entry .args .w .now)) (at-entry .args .e)) (rest (at-entry .args .w .now))) (acts.moves-stop (λ (u : Nothing) (s : St). when (isInlinePrevented (treeFrom (tree (at-entry .args .w .now)) (at-entry .args .e)) (s .stack)) (mark (preventInline (at-entry .args .x))) s) (rw (at-n .n .given .1) at (rw (sym (given.init-in (at-entry .args .w .now) (at-entry .args .e) Recorded (at-entry .pre .1))) at (at-declare-m .declare-m .ensures))))
 
 same-length-2 : tie.Need-same-length-2
 same-length-2 c =
@@ -78,7 +78,7 @@ returns-2 c =
     let at-entry = at-declare-m .before .before .before in
     let p = (rw (at-enum-told .enum-told .given .1) at (rw (sym (given.init-in (at-entry .args .w .now) (at-entry .args .e) Recorded (at-entry .pre .1))) at (at-declare-m .declare-m .ensures))) in
     let e = at-is-inline-prevented .is-inline-prevented .ensures ∙ ap (λ (o : Option Tree). preventedO o (stack (at-declare-m .declare-m .last .0))) (ap (λ (ns : List Core). treeO ns (at-entry .args .e)) (p .nodes) ∙ numbers.tree-in (at-entry .args .w .now) (at-entry .args .e) (at-entry .pre .1)) ∙ ap (λ (st : Stack). isInlinePrevented (treeFrom (tree (at-entry .args .w .now)) (at-entry .args .e)) st) (sym (acts.rest-stack (at-declare-m .declare-m .last .0))) in
-    acts.moves-by (parts.cheap-then (at-entry .args .x) (typeOf (at-entry .args .kind)) (treeFrom (tree (at-entry .args .w .now)) (at-entry .args .e)) (rest (at-entry .args .w .now))) (acts.moves-then (λ (u : Nothing) (s : St). when (isInlinePrevented (treeFrom (tree (at-entry .args .w .now)) (at-entry .args .e)) (s .stack)) (mark (preventInline (at-entry .args .x))) s) p (rw e at (at-prevent-if .prevent-if .ensures)))
+    acts.moves-by (parts.cheap-then (at-entry .args .f) (at-entry .args .x) (typeOf (at-entry .args .kind)) (treeFrom (tree (at-entry .args .w .now)) (at-entry .args .e)) (rest (at-entry .args .w .now))) (acts.moves-then (λ (u : Nothing) (s : St). when (isInlinePrevented (treeFrom (tree (at-entry .args .w .now)) (at-entry .args .e)) (s .stack)) (mark (preventInline (at-entry .args .x))) s) p (rw e at (at-prevent-if .prevent-if .ensures)))
 
 pub over-cheap-spec : {M : Type 1} → statement M
 over-cheap-spec =

@@ -21,7 +21,7 @@ slice-read-k c = search needs
 returns : tie.Need-returns
 returns c =
     let at-entry = c .before .before .before in
-    acts.moves-by (parts.none-const (at-entry .args .x) (rest (at-entry .args .w .now)) (ap isConst (parts.rest-kind (at-entry .args .w .now)) ∙ codes.const-yes (getD (at-entry .args .w .now) 8 0) (omega (arith, c .if1)))) (acts.moves-self (at-entry .pre) tt)
+    acts.moves-by (parts.none-const (at-entry .args .f) (at-entry .args .x) (rest (at-entry .args .w .now)) (ap isConst (parts.rest-kind (at-entry .args .w .now)) ∙ codes.const-yes (getD (at-entry .args .w .now) 8 0) (omega (arith, c .if1)))) (acts.moves-self (at-entry .pre) tt)
 
 type-of-requires : tie.Need-type-of-requires
 type-of-requires c κs = search needs
@@ -38,7 +38,7 @@ returns-2 c =
     let at-type-of = at-declare-m .before .before in
     let at-if1 = at-type-of .before in
     let at-entry = at-if1 .before .before .before in
-    acts.moves-by (parts.none-declared (at-entry .args .x) (rest (at-entry .args .w .now)) (typeOf (at-type-of .type-of .result)) (at-type-of .type-of .ensures ∙ sym (parts.rest-kind (at-entry .args .w .now))) (ap isConst (parts.rest-kind (at-entry .args .w .now)) ∙ codes.const-no (getD (at-entry .args .w .now) 8 0) (omega (arith, at-if1 .if1)))) (rw (given.init-none (treeO (tree (at-entry .args .w .now)) 0)) at (at-declare-m .declare-m .ensures))
+    acts.moves-by (parts.none-declared (at-entry .args .f) (at-entry .args .x) (rest (at-entry .args .w .now)) (typeOf (at-type-of .type-of .result)) (at-type-of .type-of .ensures ∙ sym (parts.rest-kind (at-entry .args .w .now))) (ap isConst (parts.rest-kind (at-entry .args .w .now)) ∙ codes.const-no (getD (at-entry .args .w .now) 8 0) (omega (arith, at-if1 .if1)))) (rw (given.init-none (treeO (tree (at-entry .args .w .now)) 0)) at (at-declare-m .declare-m .ensures))
 
 pub over-none-spec : {M : Type 1} → statement M
 over-none-spec =

@@ -56,7 +56,7 @@ returns c =
     let at-n = c .before in
     let at-declare-m = at-n .before .before .before .before in
     let at-entry = at-declare-m .before .before .before in
-    acts.moves-by (parts.other-then (at-entry .args .x) (typeOf (at-entry .args .kind)) (treeFrom (tree (at-entry .args .w .now)) (at-entry .args .e)) (rest (at-entry .args .w .now))) (acts.moves-stop (λ (u : Nothing). when (hasThis (treeFrom (tree (at-entry .args .w .now)) (at-entry .args .e))) (mark (preventInline (at-entry .args .x))) >> ret (hasThis (treeFrom (tree (at-entry .args .w .now)) (at-entry .args .e)))) (rw (at-n .n .given .1) at (rw (sym (given.init-in (at-entry .args .w .now) (at-entry .args .e) Seen (at-entry .pre .1))) at (at-declare-m .declare-m .ensures))))
+    acts.moves-by (parts.other-then (at-entry .args .f) (at-entry .args .x) (typeOf (at-entry .args .kind)) (treeFrom (tree (at-entry .args .w .now)) (at-entry .args .e)) (rest (at-entry .args .w .now))) (acts.moves-stop (λ (u : Nothing). when (hasThis (treeFrom (tree (at-entry .args .w .now)) (at-entry .args .e))) (mark (preventInline (at-entry .args .x))) >> ret (hasThis (treeFrom (tree (at-entry .args .w .now)) (at-entry .args .e)))) (rw (at-n .n .given .1) at (rw (sym (given.init-in (at-entry .args .w .now) (at-entry .args .e) Seen (at-entry .pre .1))) at (at-declare-m .declare-m .ensures))))
 
 same-length-2 : tie.Need-same-length-2
 same-length-2 c =
@@ -73,7 +73,7 @@ returns-2 c =
     let at-entry = at-declare-m .before .before .before in
     let p = (rw (at-enum-told .enum-told .given .1) at (rw (sym (given.init-in (at-entry .args .w .now) (at-entry .args .e) Seen (at-entry .pre .1))) at (at-declare-m .declare-m .ensures))) in
     let e = at-has-this .has-this .ensures ∙ ap (λ (ns : List Core). hasThis (treeFrom ns (at-entry .args .e))) (p .nodes) in
-    rw (sym e) at (acts.moves-by (parts.other-then (at-entry .args .x) (typeOf (at-entry .args .kind)) (treeFrom (tree (at-entry .args .w .now)) (at-entry .args .e)) (rest (at-entry .args .w .now))) (acts.moves-then (λ (u : Nothing). when (hasThis (treeFrom (tree (at-entry .args .w .now)) (at-entry .args .e))) (mark (preventInline (at-entry .args .x))) >> ret (hasThis (treeFrom (tree (at-entry .args .w .now)) (at-entry .args .e)))) p (acts.moves-then (λ u. ret (hasThis (treeFrom (tree (at-entry .args .w .now)) (at-entry .args .e)))) (rw e at (at-prevent-if .prevent-if .ensures)) (acts.moves-self (at-prevent-if .prevent-if .ensures .ok .planted) (hasThis (treeFrom (tree (at-entry .args .w .now)) (at-entry .args .e)))))))
+    rw (sym e) at (acts.moves-by (parts.other-then (at-entry .args .f) (at-entry .args .x) (typeOf (at-entry .args .kind)) (treeFrom (tree (at-entry .args .w .now)) (at-entry .args .e)) (rest (at-entry .args .w .now))) (acts.moves-then (λ (u : Nothing). when (hasThis (treeFrom (tree (at-entry .args .w .now)) (at-entry .args .e))) (mark (preventInline (at-entry .args .x))) >> ret (hasThis (treeFrom (tree (at-entry .args .w .now)) (at-entry .args .e)))) p (acts.moves-then (λ u. ret (hasThis (treeFrom (tree (at-entry .args .w .now)) (at-entry .args .e)))) (rw e at (at-prevent-if .prevent-if .ensures)) (acts.moves-self (at-prevent-if .prevent-if .ensures .ok .planted) (hasThis (treeFrom (tree (at-entry .args .w .now)) (at-entry .args .e)))))))
 
 pub over-other-spec : {M : Type 1} → statement M
 over-other-spec =

@@ -36,7 +36,7 @@ returns c =
     let at-over-const = c .before .before .before in
     let at-if1 = at-over-const .before .before in
     let at-entry = at-if1 .before .before .before in
-    acts.moves-by (parts.some-const (at-entry .args .x) (rest (at-entry .args .w .now)) (treeFrom (tree (at-entry .args .w .now)) (at-entry .args .e)) (ap isConst (parts.rest-kind (at-entry .args .w .now)) ∙ codes.const-yes (getD (at-entry .args .w .now) 8 0) (omega (arith, at-if1 .if1)))) (acts.moves-answer (at-over-const .over-const .result) false (c .answer .result) (at-over-const .over-const .ensures) (c .answer .ensures))
+    acts.moves-by (parts.some-const (at-entry .args .f) (at-entry .args .x) (rest (at-entry .args .w .now)) (treeFrom (tree (at-entry .args .w .now)) (at-entry .args .e)) (ap isConst (parts.rest-kind (at-entry .args .w .now)) ∙ codes.const-yes (getD (at-entry .args .w .now) 8 0) (omega (arith, at-if1 .if1)))) (acts.moves-answer (at-over-const .over-const .result) false (c .answer .result) (at-over-const .over-const .ensures) (c .answer .ensures))
 
 type-of-requires : tie.Need-type-of-requires
 type-of-requires c κs = search needs
@@ -67,7 +67,7 @@ returns-2 c =
     let at-type-of = at-is-cheap .before .before in
     let at-if1 = at-type-of .before in
     let at-entry = at-if1 .before .before .before in
-    acts.moves-by (parts.some-cheap (at-entry .args .x) (rest (at-entry .args .w .now)) (treeFrom (tree (at-entry .args .w .now)) (at-entry .args .e)) (typeOf (at-type-of .type-of .result)) (at-type-of .type-of .ensures ∙ sym (parts.rest-kind (at-entry .args .w .now))) (ap isConst (parts.rest-kind (at-entry .args .w .now)) ∙ codes.const-no (getD (at-entry .args .w .now) 8 0) (omega (arith, at-if1 .if1))) (sym (at-is-cheap .is-cheap .ensures) ∙ at-if2 .if2 .taken)) (acts.moves-answer (at-over-cheap .over-cheap .result) false (c .answer2 .result) (at-over-cheap .over-cheap .ensures) (c .answer2 .ensures))
+    acts.moves-by (parts.some-cheap (at-entry .args .f) (at-entry .args .x) (rest (at-entry .args .w .now)) (treeFrom (tree (at-entry .args .w .now)) (at-entry .args .e)) (typeOf (at-type-of .type-of .result)) (at-type-of .type-of .ensures ∙ sym (parts.rest-kind (at-entry .args .w .now))) (ap isConst (parts.rest-kind (at-entry .args .w .now)) ∙ codes.const-no (getD (at-entry .args .w .now) 8 0) (omega (arith, at-if1 .if1))) (sym (at-is-cheap .is-cheap .ensures) ∙ at-if2 .if2 .taken)) (acts.moves-answer (at-over-cheap .over-cheap .result) false (c .answer2 .result) (at-over-cheap .over-cheap .ensures) (c .answer2 .ensures))
 
 over-other-requires : tie.Need-over-other-requires
 over-other-requires c κs =
@@ -87,7 +87,7 @@ returns-3 c =
     let at-type-of = at-is-cheap .before .before in
     let at-if1 = at-type-of .before in
     let at-entry = at-if1 .before .before .before in
-    acts.moves-by (parts.some-other (at-entry .args .x) (rest (at-entry .args .w .now)) (treeFrom (tree (at-entry .args .w .now)) (at-entry .args .e)) (typeOf (at-type-of .type-of .result)) (at-type-of .type-of .ensures ∙ sym (parts.rest-kind (at-entry .args .w .now))) (ap isConst (parts.rest-kind (at-entry .args .w .now)) ∙ codes.const-no (getD (at-entry .args .w .now) 8 0) (omega (arith, at-if1 .if1))) (sym (at-is-cheap .is-cheap .ensures) ∙ at-if2 .if2 .left)) (at-over-other .over-other .ensures)
+    acts.moves-by (parts.some-other (at-entry .args .f) (at-entry .args .x) (rest (at-entry .args .w .now)) (treeFrom (tree (at-entry .args .w .now)) (at-entry .args .e)) (typeOf (at-type-of .type-of .result)) (at-type-of .type-of .ensures ∙ sym (parts.rest-kind (at-entry .args .w .now))) (ap isConst (parts.rest-kind (at-entry .args .w .now)) ∙ codes.const-no (getD (at-entry .args .w .now) 8 0) (omega (arith, at-if1 .if1))) (sym (at-is-cheap .is-cheap .ensures) ∙ at-if2 .if2 .left)) (at-over-other .over-other .ensures)
 
 pub over-some-spec : {M : Type 1} → statement M
 over-some-spec =

@@ -34,7 +34,7 @@ returns-2 c =
     let at-if1 = c .before in
     let at-ident-prevented = at-if1 .before in
     let at-entry = at-ident-prevented .before .before in
-    sym (ap (λ (ts : Forest). stays (named (at-entry .args .x)) ts (stack (at-entry .args .w .now))) (parts.forest-none (tree (at-entry .args .w .now)) (at-entry .args .n) (at-entry .args .i) (c .if2 .taken)) ∙ parts.stays-none (at-entry .args .x) (stack (at-entry .args .w .now)) (sym (at-ident-prevented .ident-prevented .ensures) ∙ at-if1 .if1 .left))
+    sym (ap (λ (ts : Forest). stays (named 0 (at-entry .args .x)) ts (stack (at-entry .args .w .now))) (parts.forest-none (tree (at-entry .args .w .now)) (at-entry .args .n) (at-entry .args .i) (c .if2 .taken)) ∙ parts.stays-none (at-entry .args .x) (stack (at-entry .args .w .now)) (sym (at-ident-prevented .ident-prevented .ensures) ∙ at-if1 .if1 .left))
 
 has-same-this-requires : tie.Need-has-same-this-requires
 has-same-this-requires c κs =
@@ -47,7 +47,7 @@ returns-3 c =
     let at-if1 = at-if2 .before in
     let at-ident-prevented = at-if1 .before in
     let at-entry = at-ident-prevented .before .before in
-    ap not (c .has-same-this .ensures ∙ ap (hasSameThis (findBinding (at-entry .args .x) (stack (at-entry .args .w .now)))) (numbers.tree-in (at-entry .args .w .now) (at-entry .args .i) (parts.some-trees (at-entry .args .w .now) (at-entry .args .i) (omega (arith, at-entry .pre .1, at-if2 .if2))))) ∙ sym (ap (λ (ts : Forest). stays (named (at-entry .args .x)) ts (stack (at-entry .args .w .now))) (parts.forest-some (tree (at-entry .args .w .now)) (at-entry .args .n) (at-entry .args .i) (omega (arith, at-entry .pre .1, at-if2 .if2)) (omega (arith, at-entry .pre .1, at-if2 .if2))) ∙ parts.stays-some (at-entry .args .x) (stack (at-entry .args .w .now)) (treeFrom (tree (at-entry .args .w .now)) (at-entry .args .i)) _ (sym (at-ident-prevented .ident-prevented .ensures) ∙ at-if1 .if1 .left))
+    ap not (c .has-same-this .ensures ∙ ap (hasSameThis (findBinding (at-entry .args .x) (stack (at-entry .args .w .now)))) (numbers.tree-in (at-entry .args .w .now) (at-entry .args .i) (parts.some-trees (at-entry .args .w .now) (at-entry .args .i) (omega (arith, at-entry .pre .1, at-if2 .if2))))) ∙ sym (ap (λ (ts : Forest). stays (named 0 (at-entry .args .x)) ts (stack (at-entry .args .w .now))) (parts.forest-some (tree (at-entry .args .w .now)) (at-entry .args .n) (at-entry .args .i) (omega (arith, at-entry .pre .1, at-if2 .if2)) (omega (arith, at-entry .pre .1, at-if2 .if2))) ∙ parts.stays-some (at-entry .args .x) (stack (at-entry .args .w .now)) (treeFrom (tree (at-entry .args .w .now)) (at-entry .args .i)) _ (sym (at-ident-prevented .ident-prevented .ensures) ∙ at-if1 .if1 .left))
 
 pub stays-spec : {M : Type 1} → statement M
 stays-spec =

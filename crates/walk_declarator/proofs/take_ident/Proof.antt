@@ -32,7 +32,7 @@ returns c =
     let at-if1 = at-declare-m .before .before in
     let at-is-ident = at-if1 .before in
     let at-entry = at-is-ident .before .before .before in
-    acts.moves-by (parts.ident-yes (at-entry .args .x) (typeOf (at-entry .args .kind)) (treeFrom (tree (at-entry .args .w .now)) (at-entry .args .e)) (rest (at-entry .args .w .now)) (sym (at-is-ident .is-ident .ensures) ∙ at-if1 .if1 .taken)) (rw (sym (given.init-in (at-entry .args .w .now) (at-entry .args .e) Recorded (at-entry .pre .1))) at (at-declare-m .declare-m .ensures))
+    acts.moves-by (parts.ident-yes (at-entry .args .f) (at-entry .args .x) (typeOf (at-entry .args .kind)) (treeFrom (tree (at-entry .args .w .now)) (at-entry .args .e)) (rest (at-entry .args .w .now)) (sym (at-is-ident .is-ident .ensures) ∙ at-if1 .if1 .taken)) (rw (sym (given.init-in (at-entry .args .w .now) (at-entry .args .e) Recorded (at-entry .pre .1))) at (at-declare-m .declare-m .ensures))
 
 same-length-2 : tie.Need-same-length-2
 same-length-2 c = refl
@@ -41,7 +41,7 @@ returns-2 : tie.Need-returns-2
 returns-2 c =
     let at-is-ident = c .before in
     let at-entry = at-is-ident .before .before .before in
-    acts.moves-by (parts.ident-no (at-entry .args .x) (typeOf (at-entry .args .kind)) (treeFrom (tree (at-entry .args .w .now)) (at-entry .args .e)) (rest (at-entry .args .w .now)) (sym (at-is-ident .is-ident .ensures) ∙ c .if1 .left)) (acts.moves-self (at-entry .pre .0) tt)
+    acts.moves-by (parts.ident-no (at-entry .args .f) (at-entry .args .x) (typeOf (at-entry .args .kind)) (treeFrom (tree (at-entry .args .w .now)) (at-entry .args .e)) (rest (at-entry .args .w .now)) (sym (at-is-ident .is-ident .ensures) ∙ c .if1 .left)) (acts.moves-self (at-entry .pre .0) tt)
 
 pub take-ident-spec : {M : Type 1} → statement M
 take-ident-spec =

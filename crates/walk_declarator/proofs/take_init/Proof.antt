@@ -41,7 +41,7 @@ returns c =
     let at-n = c .before in
     let at-take-ident = at-n .before .before .before .before in
     let at-entry = at-take-ident .before .before .before in
-    acts.moves-by (parts.init-then (at-entry .args .x) (typeOf (at-entry .args .kind)) (treeFrom (tree (at-entry .args .w .now)) (at-entry .args .e)) (rest (at-entry .args .w .now))) (acts.moves-stop (λ (u : Nothing). takeOrMark (at-entry .args .x) (typeOf (at-entry .args .kind)) (treeFrom (tree (at-entry .args .w .now)) (at-entry .args .e))) (rw (at-n .n .given .1) at (at-take-ident .take-ident .ensures)))
+    acts.moves-by (parts.init-then (at-entry .args .f) (at-entry .args .x) (typeOf (at-entry .args .kind)) (treeFrom (tree (at-entry .args .w .now)) (at-entry .args .e)) (rest (at-entry .args .w .now))) (acts.moves-stop (λ (u : Nothing). takeOrMark (at-entry .args .f) (at-entry .args .x) (typeOf (at-entry .args .kind)) (treeFrom (tree (at-entry .args .w .now)) (at-entry .args .e))) (rw (at-n .n .given .1) at (at-take-ident .take-ident .ensures)))
 
 same-length-2 : tie.Need-same-length-2
 same-length-2 c =
@@ -56,7 +56,7 @@ returns-2 c =
     let at-take-ident = at-enum-told .before .before .before .before in
     let at-entry = at-take-ident .before .before .before in
     let p = (rw (at-enum-told .enum-told .given .1) at (at-take-ident .take-ident .ensures)) in
-    acts.moves-by (parts.init-then (at-entry .args .x) (typeOf (at-entry .args .kind)) (treeFrom (tree (at-entry .args .w .now)) (at-entry .args .e)) (rest (at-entry .args .w .now))) (acts.moves-then (λ (u : Nothing). takeOrMark (at-entry .args .x) (typeOf (at-entry .args .kind)) (treeFrom (tree (at-entry .args .w .now)) (at-entry .args .e))) p (rw (p .nodes) at (at-take-or-mark .take-or-mark .ensures)))
+    acts.moves-by (parts.init-then (at-entry .args .f) (at-entry .args .x) (typeOf (at-entry .args .kind)) (treeFrom (tree (at-entry .args .w .now)) (at-entry .args .e)) (rest (at-entry .args .w .now))) (acts.moves-then (λ (u : Nothing). takeOrMark (at-entry .args .f) (at-entry .args .x) (typeOf (at-entry .args .kind)) (treeFrom (tree (at-entry .args .w .now)) (at-entry .args .e))) p (rw (p .nodes) at (at-take-or-mark .take-or-mark .ensures)))
 
 pub take-init-spec : {M : Type 1} → statement M
 take-init-spec =

@@ -40,7 +40,7 @@ returns c =
     let at-if1 = at-prevent-if .before .before in
     let at-is-inline-prevented = at-if1 .before in
     let at-entry = at-is-inline-prevented .before .before .before in
-    acts.moves-by (parts.marked (at-entry .args .x) (typeOf (at-entry .args .kind)) (treeFrom (tree (at-entry .args .w .now)) (at-entry .args .e)) (rest (at-entry .args .w .now)) (ap (λ (st : Stack). isInlinePrevented (treeFrom (tree (at-entry .args .w .now)) (at-entry .args .e)) st) (acts.rest-stack (at-entry .args .w .now)) ∙ ap (λ (o : Option Tree). preventedO o (stack (at-entry .args .w .now))) (sym (numbers.tree-in (at-entry .args .w .now) (at-entry .args .e) (at-entry .pre .1))) ∙ sym (at-is-inline-prevented .is-inline-prevented .ensures) ∙ at-if1 .if1 .taken)) (acts.moves-then (λ u. ret false) (at-prevent-if .prevent-if .ensures) (acts.moves-self (at-prevent-if .prevent-if .ensures .ok .planted) false))
+    acts.moves-by (parts.marked (at-entry .args .f) (at-entry .args .x) (typeOf (at-entry .args .kind)) (treeFrom (tree (at-entry .args .w .now)) (at-entry .args .e)) (rest (at-entry .args .w .now)) (ap (λ (st : Stack). isInlinePrevented (treeFrom (tree (at-entry .args .w .now)) (at-entry .args .e)) st) (acts.rest-stack (at-entry .args .w .now)) ∙ ap (λ (o : Option Tree). preventedO o (stack (at-entry .args .w .now))) (sym (numbers.tree-in (at-entry .args .w .now) (at-entry .args .e) (at-entry .pre .1))) ∙ sym (at-is-inline-prevented .is-inline-prevented .ensures) ∙ at-if1 .if1 .taken)) (acts.moves-then (λ u. ret false) (at-prevent-if .prevent-if .ensures) (acts.moves-self (at-prevent-if .prevent-if .ensures .ok .planted) false))
 
 take-value-requires : tie.Need-take-value-requires
 take-value-requires c κs =
@@ -58,7 +58,7 @@ returns-2 c =
     let at-if1 = at-take-value .before .before in
     let at-is-inline-prevented = at-if1 .before in
     let at-entry = at-is-inline-prevented .before .before .before in
-    acts.moves-by (parts.unmarked (at-entry .args .x) (typeOf (at-entry .args .kind)) (treeFrom (tree (at-entry .args .w .now)) (at-entry .args .e)) (rest (at-entry .args .w .now)) (ap (λ (st : Stack). isInlinePrevented (treeFrom (tree (at-entry .args .w .now)) (at-entry .args .e)) st) (acts.rest-stack (at-entry .args .w .now)) ∙ ap (λ (o : Option Tree). preventedO o (stack (at-entry .args .w .now))) (sym (numbers.tree-in (at-entry .args .w .now) (at-entry .args .e) (at-entry .pre .1))) ∙ sym (at-is-inline-prevented .is-inline-prevented .ensures) ∙ at-if1 .if1 .left)) (at-take-value .take-value .ensures)
+    acts.moves-by (parts.unmarked (at-entry .args .f) (at-entry .args .x) (typeOf (at-entry .args .kind)) (treeFrom (tree (at-entry .args .w .now)) (at-entry .args .e)) (rest (at-entry .args .w .now)) (ap (λ (st : Stack). isInlinePrevented (treeFrom (tree (at-entry .args .w .now)) (at-entry .args .e)) st) (acts.rest-stack (at-entry .args .w .now)) ∙ ap (λ (o : Option Tree). preventedO o (stack (at-entry .args .w .now))) (sym (numbers.tree-in (at-entry .args .w .now) (at-entry .args .e) (at-entry .pre .1))) ∙ sym (at-is-inline-prevented .is-inline-prevented .ensures) ∙ at-if1 .if1 .left)) (at-take-value .take-value .ensures)
 
 pub take-or-mark-spec : {M : Type 1} → statement M
 take-or-mark-spec =

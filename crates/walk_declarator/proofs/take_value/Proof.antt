@@ -39,7 +39,7 @@ returns c =
     let at-if1 = at-declare-m .before .before in
     let at-wanted = at-if1 .before in
     let at-entry = at-wanted .before .before .before in
-    acts.moves-by (parts.value-yes (at-entry .args .x) (typeOf (at-entry .args .kind)) (treeFrom (tree (at-entry .args .w .now)) (at-entry .args .e)) (rest (at-entry .args .w .now)) (ap (λ (st : Stack). wants (at-entry .args .x) (treeFrom (tree (at-entry .args .w .now)) (at-entry .args .e)) st) (acts.rest-stack (at-entry .args .w .now)) ∙ sym (at-wanted .wanted .ensures) ∙ at-if1 .if1 .taken)) (acts.moves-answer (at-declare-m .declare-m .result) true (c .answer .result) (rw (sym (given.init-in (at-entry .args .w .now) (at-entry .args .e) Recorded (at-entry .pre .1))) at (at-declare-m .declare-m .ensures)) (c .answer .ensures))
+    acts.moves-by (parts.value-yes (at-entry .args .f) (at-entry .args .x) (typeOf (at-entry .args .kind)) (treeFrom (tree (at-entry .args .w .now)) (at-entry .args .e)) (rest (at-entry .args .w .now)) (ap (λ (st : Stack). wants (at-entry .args .x) (treeFrom (tree (at-entry .args .w .now)) (at-entry .args .e)) st) (acts.rest-stack (at-entry .args .w .now)) ∙ sym (at-wanted .wanted .ensures) ∙ at-if1 .if1 .taken)) (acts.moves-answer (at-declare-m .declare-m .result) true (c .answer .result) (rw (sym (given.init-in (at-entry .args .w .now) (at-entry .args .e) Recorded (at-entry .pre .1))) at (at-declare-m .declare-m .ensures)) (c .answer .ensures))
 
 same-length-2 : tie.Need-same-length-2
 same-length-2 c = refl
@@ -48,7 +48,7 @@ returns-2 : tie.Need-returns-2
 returns-2 c =
     let at-wanted = c .before in
     let at-entry = at-wanted .before .before .before in
-    acts.moves-by (parts.value-no (at-entry .args .x) (typeOf (at-entry .args .kind)) (treeFrom (tree (at-entry .args .w .now)) (at-entry .args .e)) (rest (at-entry .args .w .now)) (ap (λ (st : Stack). wants (at-entry .args .x) (treeFrom (tree (at-entry .args .w .now)) (at-entry .args .e)) st) (acts.rest-stack (at-entry .args .w .now)) ∙ sym (at-wanted .wanted .ensures) ∙ c .if1 .left)) (acts.moves-self (at-entry .pre .0) false)
+    acts.moves-by (parts.value-no (at-entry .args .f) (at-entry .args .x) (typeOf (at-entry .args .kind)) (treeFrom (tree (at-entry .args .w .now)) (at-entry .args .e)) (rest (at-entry .args .w .now)) (ap (λ (st : Stack). wants (at-entry .args .x) (treeFrom (tree (at-entry .args .w .now)) (at-entry .args .e)) st) (acts.rest-stack (at-entry .args .w .now)) ∙ sym (at-wanted .wanted .ensures) ∙ c .if1 .left)) (acts.moves-self (at-entry .pre .0) false)
 
 pub take-value-spec : {M : Type 1} → statement M
 take-value-spec =

@@ -23,7 +23,7 @@ returns : tie.Need-returns
 returns c =
     let at-call = c .before .before .before .before .before in
     let at-entry = at-call .before .before .before .before in
-    declrs.after-at (at-entry .args .q) (at-entry .args .x) (at-entry .args .n) (at-entry .args .i) (at-entry .args .j) (at-call .declr-after .result) (at-call .before .type-of .ensures) (at-call .declr-after .ensures) (c .before .k .given .0 .0) (c .before .k .given .1)
+    declrs.after-at (at-entry .args .q) (at-entry .args .f) (at-entry .args .x) (at-entry .args .n) (at-entry .args .i) (at-entry .args .j) (at-call .declr-after .result) (at-call .before .type-of .ensures) (at-call .declr-after .ensures) (c .before .k .given .0 .0) (c .before .k .given .1)
 
 same-length-2 : tie.Need-same-length-2
 same-length-2 c = search needs
@@ -32,7 +32,7 @@ returns-2 : tie.Need-returns-2
 returns-2 c =
     let at-call = c .before .before .before .before .before in
     let at-entry = at-call .before .before .before .before in
-    declrs.after-halted (at-entry .args .q) (at-entry .args .x) (at-entry .args .n) (at-entry .args .i) (at-entry .args .j) (at-call .declr-after .result) (at-call .before .type-of .ensures) (at-call .declr-after .ensures) (c .before .m .given .0 .0) (c .before .m .given .1)
+    declrs.after-halted (at-entry .args .q) (at-entry .args .f) (at-entry .args .x) (at-entry .args .n) (at-entry .args .i) (at-entry .args .j) (at-call .declr-after .result) (at-call .before .type-of .ensures) (at-call .declr-after .ensures) (c .before .m .given .0 .0) (c .before .m .given .1)
 
 pub declr-end-spec : {M : Type 1} → statement M
 declr-end-spec =

@@ -72,9 +72,19 @@ ident-at-requires c κs =
     let at-entry = at-arity-at .before .before .before in
     (at-entry .pre .0 .good, child-in (at-entry .pre .0) (at-entry .args .i) (at-entry .pre .1) (at-arity-at .arity-at .ensures) (at-if1 .if1 .left), inl (sym (at-kind-at .kind-at .ensures) ∙ at-if2 .if2 .left))
 
+add-form-at : tie.Need-add-form-at
+add-form-at c = search needs
+
+form-at-requires : tie.Need-form-at-requires
+form-at-requires c κs =
+    let at-if1 = c .before .before .before .before .before .before .before .before in
+    let at-arity-at = at-if1 .before in
+    let at-entry = at-arity-at .before .before .before in
+    (at-entry .pre .0 .good .long, omega (arith, child-in (at-entry .pre .0) (at-entry .args .i) (at-entry .pre .1) (at-arity-at .arity-at .ensures) (at-if1 .if1 .left), at-entry .pre .0 .good .nodes))
+
 declare-requires : tie.Need-declare-requires
 declare-requires c κs =
-    let at-entry = c .before .before .before .before .before .before .before .before .before .before .before .before in
+    let at-entry = c .before .before .before .before .before .before .before .before .before .before .before .before .before .before in
     at-entry .pre .0
 
 number-requires : tie.Need-number-requires
@@ -86,15 +96,16 @@ same-length-4 c = search needs
 returns-4 : tie.Need-returns-4
 returns-4 c =
     let at-declare = c .before .before .before in
-    let at-ident-at = at-declare .before .before in
+    let at-form-at = at-declare .before .before in
+    let at-ident-at = at-form-at .before .before in
     let at-if3 = at-ident-at .before .before in
     let at-if2 = at-if3 .before .before in
     let at-kind-at = at-if2 .before in
     let at-if1 = at-kind-at .before .before in
     let at-arity-at = at-if1 .before in
     let at-entry = at-arity-at .before .before .before in
-    rw (c .number .ensures) (declare-on (at-entry .args .i) (at-entry .pre .0) (child-in (at-entry .pre .0) (at-entry .args .i) (at-entry .pre .1) (at-arity-at .arity-at .ensures) (at-if1 .if1 .left)) (child-here (at-entry .pre .0) (at-entry .args .i) (at-entry .pre .1) (at-arity-at .arity-at .ensures) (at-if1 .if1 .left)) (sym (at-kind-at .kind-at .ensures) ∙ at-if2 .if2 .left) (at-ident-at .ident-at .result) (at-declare .declare .result) (at-if3 .if3 .left) (at-ident-at .ident-at .ensures) (rw (init-none (treeO (tree (at-entry .args .w .now)) 0)) at (at-declare .declare .ensures)))
+    rw (c .number .ensures) (declare-on (at-entry .args .i) (at-entry .pre .0) (child-in (at-entry .pre .0) (at-entry .args .i) (at-entry .pre .1) (at-arity-at .arity-at .ensures) (at-if1 .if1 .left)) (child-here (at-entry .pre .0) (at-entry .args .i) (at-entry .pre .1) (at-arity-at .arity-at .ensures) (at-if1 .if1 .left)) (sym (at-kind-at .kind-at .ensures) ∙ at-if2 .if2 .left) (at-form-at .form-at .result) (at-ident-at .ident-at .result) (at-declare .declare .result) (at-if3 .if3 .left) (at-form-at .form-at .ensures) (at-ident-at .ident-at .ensures) (rw (init-none (treeO (tree (at-entry .args .w .now)) 0)) at (at-declare .declare .ensures)))
 
 pub declare-name-spec : {M : Type 1} → statement M
 declare-name-spec =
-    tie.close (tie.spec arity-at-requires same-length returns add-kind-at kind-at-requires same-length-2 returns-2 slice-read-if3 same-length-3 returns-3 add-ident-at ident-at-requires declare-requires number-requires same-length-4 returns-4)
+    tie.close (tie.spec arity-at-requires same-length returns add-kind-at kind-at-requires same-length-2 returns-2 slice-read-if3 same-length-3 returns-3 add-ident-at ident-at-requires add-form-at form-at-requires declare-requires number-requires same-length-4 returns-4)

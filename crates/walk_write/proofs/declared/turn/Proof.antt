@@ -5,9 +5,6 @@ use borrow.Author.Needs.{needs}
 use Rattle.walk_write.proofs.declared.turn.Statement.{statement}
 use Rattle.walk_write.proofs.declared.turn.Tie as tie
 
-form-at-requires : tie.Need-form-at-requires
-form-at-requires c κs = search needs
-
 arity-at-requires : tie.Need-arity-at-requires
 arity-at-requires c κs = search needs
 
@@ -17,9 +14,8 @@ num-at-requires c κs = search needs
 put-node-requires : tie.Need-put-node-requires
 put-node-requires c κs =
     let at-arity-at = c .before .before .before in
-    let at-form-at = at-arity-at .before .before in
-    let at-entry = at-form-at .before .before .before in
-    (at-entry .pre .0 .good .long, omega (arith, at-entry .pre .0 .good .nodes), at-entry .pre .3, omega (arith, at-form-at .form-at .ensures), omega (arith, at-arity-at .arity-at .ensures))
+    let at-entry = at-arity-at .before .before .before in
+    (at-entry .pre .0 .good .long, omega (arith, at-entry .pre .0 .good .nodes), at-entry .pre .3, at-entry .pre .4, omega (arith, at-arity-at .arity-at .ensures))
 
 same-length : tie.Need-same-length
 same-length c = search needs
@@ -29,10 +25,9 @@ returns c =
     let at-put-node = c .before .before in
     let at-num-at = at-put-node .before .before in
     let at-arity-at = at-num-at .before .before in
-    let at-form-at = at-arity-at .before .before in
-    let at-entry = at-form-at .before .before .before in
-    turn-done (at-entry .pre .0) (at-entry .args .i) (at-entry .pre .1) (at-entry .pre .2) (at-form-at .form-at .ensures) (at-arity-at .arity-at .ensures) (at-num-at .num-at .ensures) (at-put-node .put-node .ensures)
+    let at-entry = at-arity-at .before .before .before in
+    turn-done (at-entry .pre .0) (at-entry .args .i) (at-entry .pre .1) (at-entry .pre .2) (at-arity-at .arity-at .ensures) (at-num-at .num-at .ensures) (at-put-node .put-node .ensures)
 
 pub turn-spec : {M : Type 1} → statement M
 turn-spec =
-    tie.close (tie.spec form-at-requires arity-at-requires num-at-requires put-node-requires same-length returns)
+    tie.close (tie.spec arity-at-requires num-at-requires put-node-requires same-length returns)
