@@ -1,5 +1,6 @@
-"""Reads the edits each_function*.edit and what rt's last run of them said. Counts the functions that an edit names and that are refused
-by a fact of their own: a need of the function's own proof that does not hold any more, not one that failed with another function's."""
+"""Reads the edits each_function*.edit and each_law*.edit, and what rt's last run of them said. Counts the functions and laws that an edit names and
+that are refused by a fact of their own: a need of the function's own proof, or the law's own proof, that does not hold any more, not one that failed
+with another's."""
 import glob
 import os
 import re
@@ -11,24 +12,32 @@ FACTS = ('the two types', 'does not follow', 'no proof of', 'no occurrence of', 
 
 
 def named(edit):
-    """the functions that an edit names, each in a line `fn path::name`"""
-    return [line[3:].strip() for line in open(edit) if line.startswith('fn ')]
+    """what an edit names, each in a line `fn path::name` or `law name`"""
+    return [line.split(maxsplit=1) for line in open(edit) if line.startswith(('fn ', 'law '))]
 
 
-def refused(log, crate, function):
-    # a function that calls itself has its proof under a name with a plus
-    path = r'proofs/%s\+?%s/Proof\.antt:\d+:\d+: error: (.*)' % re.match(r'(.*?)(\w+)$', function.replace('::', '/')).groups()
+def places(function):
+    """where the proof of a function stands: in a file of its own, under a name with a plus if it calls itself, or in a cycle's"""
+    path, name = re.match(r'(.*?)(\w+)$', function.replace('::', '/')).groups()
+    yield r'proofs/%s\+?%s/Proof\.antt:\d+:\d+: error: (.*)' % (path, name)
+    yield r'proofs/%s\+[\w+]*/Proof/%s\.antt:\d+:\d+: error: (.*)' % (path, name.capitalize())
+
+
+def refused(log, crate, sort, name):
+    searched = 'fn %s::%s: no proof' % (crate, name)
+    paths = list(places(name)) if sort == 'fn' else [r': error: `%s`: (.*)' % re.escape(name)]
     for line in log:
-        m = re.search(path, line)
-        if m and any(text in m.group(1) for text in FACTS):
-            return True
-        if line.startswith('fn %s::%s: no proof' % (crate, function)) and '`search` does not close' in line:
+        for path in paths:
+            m = re.search(path, line)
+            if m and any(text in m.group(1) for text in FACTS):
+                return True
+        if sort == 'fn' and line.startswith(searched) and '`search` does not close' in line:
             return True
     return False
 
 
 passed = failed = 0
-for edit in sorted(glob.glob('crates/*/must-fail/each_function*.edit')):
+for edit in sorted(glob.glob('crates/*/must-fail/each_function*.edit') + glob.glob('crates/*/must-fail/each_law*.edit')):
     crate, label = edit.split('/')[1], os.path.basename(edit)[:-len('.edit')]
     said = 'target/must-fail/%s/%s/.log' % (crate, label)
     log = open(said).read().split('\n') if os.path.exists(said) else []
@@ -36,13 +45,13 @@ for edit in sorted(glob.glob('crates/*/must-fail/each_function*.edit')):
         print('%s: rt has not tried it (rt ci and rt must-fail do)' % edit)
     names = named(edit)
     if not names:
-        print('%s: it names no function' % edit)
+        print('%s: it names no function and no law' % edit)
         failed += 1
-    for function in names:
-        if refused(log, crate, function):
+    for sort, name in names:
+        if refused(log, crate, sort, name.strip()):
             passed += 1
         else:
             failed += 1
-            print('%s: %s is not refused by a fact of its own' % (edit, function))
+            print('%s: %s is not refused by a fact of its own' % (edit, name.strip()))
 print('%d passed, %d failed' % (passed, failed))
 sys.exit(1 if failed else 0)

@@ -15,13 +15,9 @@ use Rattle.def_pass.specs.Scope as Scope
 use Rattle.def_pass.specs.Scope.{VarInfo, Stack}
 use Rattle.def_pass.specs.Walk as Walk
 use Rattle.def_pass.specs.Walk.{St, M, Walks}
+use Rattle.laws_pass.specs.Branch.{Cleared, WriteClears, Ends, NeverTaken}
 use Rattle.laws_pass.proofs.Single.{Fresh, unbound, pick-id}
 use Rattle.laws_pass.proofs.Tests.{pick-ok, pick-known}
-
--- a binding without the undefined mark, or none
-abbrev Cleared : Option VarInfo → Type 0
-Cleared none = Unit {0}
-Cleared (some b) = b .isUndefined ≡ false
 
 none-cleared : (o : Option VarInfo) → Scope.isSome o ≡ false → Cleared o
 none-cleared none e = tt
@@ -98,7 +94,7 @@ here-fresh i [] h = tt
 here-fresh i (s ∷ st) h = none-cleared (Scope.findIn i (s .bindings)) h
 
 -- a write of i clears it
-pub here-write : (i : ℕ) (args force : Bool) (st : Stack) → Here i (Scope.addWrite i args force st)
+pub here-write : WriteClears
 unfolding Scope.addWrite
 here-write i args force st =
     let st₁ = pick (Scope.writePreventsInline i st) (Scope.preventInline i st) st in
@@ -237,11 +233,7 @@ stays p t l r s h = go (eqb (kind l) 20) h
     go true h = by (Scope.findBindingFromCurrent (num l) (s .stack)) (h tt)
     go false h = refl
 
--- on the whole handler of `=`: what follows it in Inlining leaves it as it is, for every walk, tree and state
-abbrev pub Ends : ℕ → Res St Tree → Type 0
-Ends p (stop n) = Unit {0}
-Ends p (done s t) = Walk.afterAssign p t s ≡ done s t
-
+-- on the whole handler of `=`
 module _ (p k f a : ℕ) where
   abbrev EndsF : Res St Forest → Type 0
   EndsF (stop n) = Unit {0}
@@ -261,7 +253,7 @@ module _ (p k f a : ℕ) where
       go nil (done s₁ u) h = refl
       go (cons r rs) (done s₁ u) h = stays p (node k f a (cons l (cons r rs))) l r s₁ h
 
-pub never : (w : Walks) (p : ℕ) (t : Tree) (s : St) → Ends p (Walk.visitMutAssignExpr w p t s)
+pub never : NeverTaken
 unfolding Walk.visitMutAssignExpr Walk.assignKids
 never w p (node k f a ts) s = out (Walk.assignKids w p f ts (Walk.setPatMode Walk.assigning s)) (ends-then p k f a (Walk.assignFirst f ts (Walk.setPatMode Walk.assigning s)) _ (λ u s₁. ends-then p k f a (split ret (each (w .full (suc p))) ts s₁) _ (λ us s₂. ends-last p k f a us s₂)))
   where

@@ -16,7 +16,8 @@ use Rattle.def_pass.specs.Scope as Scope
 use Rattle.def_pass.specs.Walk as Walk
 use Rattle.def_pass.specs.Walk.{St, M, Walks, when, modify, mark, grow, inScope, visitMutStmts, plain}
 use Rattle.laws_pass.proofs.Tests.{is-T, and-left, and-right, or-left, or-right, pick-ok}
-use Rattle.laws_pass.proofs.Branch.{Ends, never}
+use Rattle.laws_pass.specs.Branch.{Ends}
+use Rattle.laws_pass.proofs.Branch.{never}
 
 -- what a law speaks of
 pub record Law : Type 1 where

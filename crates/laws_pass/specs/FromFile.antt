@@ -1,5 +1,5 @@
 -- The same of files: the tree of a file that is read is one that Readable asks for, and so is the result's; and of the `=` in them. Assumes nothing: these are definitions.
-use mathlib.Core.Path.{_≡_}
+use mathlib.Core.Path.{_≡_, refl}
 use mathlib.Core.Bool.{Bool, true, false, _&&_}
 use mathlib.Core.Logic.{_⊎_}
 use mathlib.Core.Option.{Option, some}
@@ -11,6 +11,8 @@ use Rattle.def_file.specs.Script.{Script}
 use Rattle.def_file.specs.Read.{Read, bad, script, read}
 use Rattle.def_pass.specs.Tree.{Tree, Forest, node, nil, cons, headT, tailF}
 use Rattle.def_pass.specs.Script.{Out, Answer, no!, yes!, coreTree, back, passRead}
+use Rattle.def_pass.specs.Walk.{Outcome, refused, result, corePass}
+use Rattle.def_pass.specs.Cases.{f2, f3, name, bind, lit, declTo}
 use Rattle.laws_pass.specs.Readable.{Readable}
 use Rattle.laws_pass.specs.Assigns.{Assign, plainO, assigns, assignsF}
 
@@ -37,6 +39,15 @@ abbrev mutual
 -- every `=` of origin o that stands anywhere in the tree
 abbrev pub ofOrigin : ℕ → Tree → List Assign
 ofOrigin o t = assigns (λ a. eqb a o) t
+
+-- each time that it stands there: `var a = y = 1; var b = a; var c = [b, b];` becomes `var a; var b = y = 1; var c = [y = 1, y = 1];`
+abbrev pub standsIn : ℕ → Outcome → List Assign
+standsIn o (refused n) = []
+standsIn o (result k c t ms) = ofOrigin o t
+
+pub thrice : standsIn 9 (corePass 16 (node 1 0 0 (f3 (declTo 0 1 (node 33 0 9 (f2 (bind 2) (lit 5)))) (declTo 0 3 (name 1)) (declTo 0 4 (node 27 0 0 (f2 (name 3) (name 3))))))) ≡ (9, some (bind 2)) ∷ (9, some (bind 2)) ∷ (9, some (bind 2)) ∷ []
+unfolding corePass
+thrice = refl
 
 -- t is the script's tree, u the result's, whose nodes xs are
 pub record Trees (s : Script) (xs : List Out) : Type 0 where

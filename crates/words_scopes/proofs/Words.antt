@@ -17,7 +17,7 @@ use Rattle.def_tree.specs.Base.{pick}
 use Rattle.def_tree.specs.Tree.{Tree, Core, noCore}
 use Rattle.def_pass.specs.Tree.{isIdent, num}
 use Rattle.def_pass.specs.Scope.{VarType, VarInfo, Stack, Free, change, prevent, preventInline, preventOne, valueIs, hasIn}
-use Rattle.words.specs.Tab.{tab, length-tab, getD-tab, tab-ext, set-tab, take-tab, sum-ext, sum-part}
+use Rattle.words.specs.Tab.{tab, length-tab, getD-tab, tab-ext, set-tab, take-tab, sum-ext, sum-part, below-or-not}
 use Rattle.words.specs.Flags.{flagAt}
 use Rattle.words.specs.Layout.{yes, Agree, coreFrom, tree, beyond}
 use Rattle.words.proofs.Flags.{flag-same}
@@ -447,6 +447,27 @@ module _ {w₀ w : List ℕ} {x k : ℕ} (g : Good w₀) (s : Swept w₀ w x k) 
         done = upto (set w (4112 + k * 10 + 4) 1) (mark-this w g′ k h′ ∙ ap prevent (s .left k (omega arith) h) ∙ one-hit (bindAt w₀ k) (bindAt w₀ k .inlinePrevented) (hitAt w₀ k x) refl e) other;
         left = λ j a b. other j b (λ q. omega arith) ∙ s .left j (omega arith) b;
       }
+
+-- marked again, a binding is what it was
+one-again : (x : ℕ) (b : VarInfo) → preventOne x (preventOne x b) ≡ preventOne x b
+one-again x b = go (eqb (b .id) x || valueIs x (b .value)) refl
+  where
+    go : (t : Bool) → (eqb (b .id) x || valueIs x (b .value)) ≡ t → preventOne x (pick t (prevent b) b) ≡ pick t (prevent b) b
+    go true e = rw e refl
+    go false e = rw e refl
+
+-- a sweep goes on from the words that it has come to
+module _ {w₀ w : List ℕ} {x k : ℕ} (s : Swept w₀ w x k) where
+  pub swept-on : Swept w w x k
+  swept-on = swept-self w x k (λ j l. s .done j l ∙ sym (one-again x (bindAt w₀ j)) ∙ ap (preventOne x) (sym (s .done j l)))
+
+  pub swept-then : {u : List ℕ} (m : ℕ) → k ≤ m → m ≤ getD w₀ 1 0 → Swept w u x m → Swept w₀ u x m
+  swept-then {u} m l h t = record {
+    kept = kept-then (s .kept) (t .kept);
+    runs = runs-then (s .runs) (t .runs);
+    done = λ j a. ⊎-elim (λ (q : j < k). t .done j a ∙ ap (preventOne x) (s .done j q) ∙ one-again x (bindAt w₀ j)) (λ (q : k ≤ j). t .done j a ∙ ap (preventOne x) (s .left j q (omega arith))) (below-or-not j k);
+    left = λ j a b. t .left j a (let n : getD w 1 0 ≡ getD w₀ 1 0 = s .kept .counts 1 (omega arith) (omega arith) in omega arith) ∙ s .left j (omega arith) b;
+  }
 
 -- the marked records from k on stand in bs from i on
 abbrev pub Ahead : List ℕ → ℕ → ℕ → ℕ → List Binding → Type 0

@@ -86,16 +86,20 @@ pub fn named(w: &[u32], k: usize, at: usize) -> u32
     256
 }
 
-// Whether binding k gets a mark that it has not: it has none, and x is its identifier or its value, which begins at node at of the store.
-fn to_mark(w: &[u32], k: usize, at: usize, x: u8) -> bool
-    requires { ⌜ (Good (now w)) × (k < getD (now w) 1 0) × (at ≡ off (now w) k) ⌝ }
+// Whether binding k, whose record begins at word p, gets a mark that it has not: it has none, and x is its identifier or its value, which begins at
+// node at of the store.
+fn to_mark(w: &[u32], k: usize, p: usize, at: usize, x: u8) -> bool
+    requires { ⌜ (Good (now w)) × (k < getD (now w) 1 0) × (p ≡ 4112 + k * 10) × (at ≡ off (now w) k) ⌝ }
     ensures { λ r. ⌜ r ≡ (not (bindAt (now (w .entry)) k .inlinePrevented) && hitAt (now (w .entry)) k x) ⌝ }
 {
-    if w[layout::BINDINGS + k * 10 + layout::PREVENTED] != 0 {
+    if w[p + layout::PREVENTED] != 0 {
         return false;
     }
-    if w[layout::BINDINGS + k * 10] == x as u32 {
+    if w[p] == x as u32 {
         return true;
+    }
+    if w[p + layout::LENGTH] == 0 {
+        return false;
     }
     let v = named(w, k, at);
     v == x as u32
@@ -156,29 +160,29 @@ pub fn prevent_inline(w: &mut [u32], x: u8)
     ensures { λ _. ⌜ Becomes (now (w .entry)) (now (w .exit)) (preventInline x (stack (now (w .entry)))) ⌝ }
 {
     let n = w[layout::BINDING_COUNT] as usize;
-    let mut bs = [Binding {
-        id: 256,
-        value: 256,
-        prevented: false,
-    }; 8];
-    let mut i: usize = 8;
     let mut j: usize = 0;
+    let mut p: usize = layout::BINDINGS;
     let mut o: usize = 0;
     while j < n {
-        if i == 8 {
-            if to_mark(w, j, o, x) {
-                bs = marks_of(w, j, o, x);
-                i = 0;
+        let m = w[p + layout::LENGTH] as usize;
+        if to_mark(w, j, p, o, x) {
+            let bs = marks_of(w, j, o, x);
+            let e = window(n - j);
+            let mut i: usize = 0;
+            while i < e {
+                if bs[i].prevented {
+                    w[layout::BINDINGS + j * 10 + layout::PREVENTED] = 1;
+                }
+                o += w[layout::BINDINGS + j * 10 + layout::LENGTH] as usize;
+                j += 1;
+                i += 1;
             }
+            p = layout::BINDINGS + j * 10;
+        } else {
+            o += m;
+            j += 1;
+            p += 10;
         }
-        if i < 8 {
-            if bs[i].prevented {
-                w[layout::BINDINGS + j * 10 + layout::PREVENTED] = 1;
-            }
-            i += 1;
-        }
-        o += w[layout::BINDINGS + j * 10 + layout::LENGTH] as usize;
-        j += 1;
     }
 }
 
