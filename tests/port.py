@@ -129,6 +129,9 @@ def program(count, path, stored):
         got = subprocess.run([path], input=file, capture_output=True, check=False)
         count.check(got.returncode == 0 and got.stdout.decode() == answer, "program, file %d: %.200r", number, got.stdout)
     print("program: %d" % len(files))
+    for words in (["--help"], ["gate.tree"], [""]):
+        got = subprocess.run([path] + words, input=files[0][0], capture_output=True, check=False)
+        count.check(got.stdout == b"" and got.stderr.startswith(b"usage: negbosun < FILE.tree\n"), "program, given %r: %.200r", words, got.stderr)
 
 
 def piped(path, file):

@@ -41,6 +41,14 @@ RUSTDOCFLAGS="-D warnings" one "caller, documentation" caller_cargo doc --no-dep
 one "caller's tool" caller_cargo build --release --bins --examples || finish
 one "caller's example" caller/target/release/examples/sample
 
+# Every input of docs/DECISIONS.md comes out as it says there.
+decisions() {
+    (cd oracle && cargo build --release --offline --quiet -j "${JOBS:-1}" -p tree_file) &&
+        oracle/target/release/decisions list docs/DECISIONS.md >"$out/inputs" && caller/target/release/negbosun-inline --batch <"$out/inputs" >"$out/outcomes" &&
+        oracle/target/release/decisions check docs/DECISIONS.md <"$out/outcomes"
+}
+count "decisions" decisions
+
 sources=${NEGBOSUN_ORIGINAL:-../shared/docs/src}
 if [ ! -f "$sources/simplify/inlining/mod.rs" ]; then
     echo "quick round: skipped, no sources of the original in $sources"

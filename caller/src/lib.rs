@@ -49,6 +49,7 @@ mod entries;
 mod found;
 mod header;
 mod kind;
+mod places;
 mod refusal;
 mod tree;
 

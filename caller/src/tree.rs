@@ -62,6 +62,17 @@ impl<'a> TreeFile<'a> {
         self.stretch(number as usize)
     }
 
+    /// Where each text ends, as the file says it.
+    pub(crate) fn ends(self) -> impl Iterator<Item = usize> + 'a {
+        let count = self.ends.len() / END;
+        (0..count).map_while(move |number| word(self.ends, number).map(|end| end as usize))
+    }
+
+    /// How many bytes the texts have together.
+    pub(crate) fn text_bytes(self) -> usize {
+        self.bytes.len()
+    }
+
     fn stretch(self, number: usize) -> Option<&'a [u8]> {
         let from = match number.checked_sub(1) {
             Some(before) => word(self.ends, before)?,
@@ -83,7 +94,27 @@ pub struct Node<'a> {
     bits: u64,
 }
 
+/// The fields of a node as the file has them.
+#[derive(Clone, Copy)]
+pub(crate) struct Fields {
+    pub kind: u8,
+    pub form: u8,
+    pub children: usize,
+    pub text: u32,
+    pub bits: u64,
+}
+
 impl<'a> Node<'a> {
+    pub(crate) fn fields(self) -> Fields {
+        Fields {
+            kind: self.kind,
+            form: self.form,
+            children: self.children(),
+            text: self.text,
+            bits: self.bits,
+        }
+    }
+
     fn new(file: TreeFile<'a>, bytes: [u8; NODE]) -> Node<'a> {
         let [kind, form, c0, c1, t0, t1, t2, t3, bits @ ..] = bytes;
         Node {

@@ -53,6 +53,18 @@ fn agree(inliner: &mut Inliner, file: &[u8]) {
     let tree = TreeFile::new(file);
     assert_eq!(tree.err(), refused, "{file:?}");
     tree.map(ask_all).ok();
+    // What is said to be wrong with a file's texts or nodes is there exactly where the pass says so.
+    let row = answer.as_ref().err().map_or(0, |row| row.number());
+    if row == 5 || row == 6 {
+        assert!(
+            answer.as_ref().is_err_and(|row| row.found(file).is_some()),
+            "{file:?}"
+        );
+    }
+    if row == 0 || row > 6 {
+        assert_eq!(Refusal::Texts.found(file), None, "{file:?}");
+        assert_eq!(Refusal::Nodes.found(file), None, "{file:?}");
+    }
     if let Ok(inlined) = &answer {
         assert!(ask_all(inlined.tree()) > 0);
         assert_eq!(inlined.roots().count(), inlined.roots().len());

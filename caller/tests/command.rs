@@ -71,6 +71,7 @@ fn a_refusal_is_printed_and_said() {
         (output.status.code(), text(&output.stdout)),
         (Some(1), "refused 1\n")
     );
+    assert!(text(&output.stderr).ends_with("; --runs is 17\n"));
 }
 
 #[test]

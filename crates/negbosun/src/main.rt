@@ -1,5 +1,5 @@
 // Reads a tree file from standard input, runs the pass on it with at most 16 runs, and prints `refused N`, or the head line, a line for each
-// node of the result, and a line for each root binding (document 01).
+// node of the result, and a line for each root binding (document 01). Given an argument, it says what it takes, and reads nothing.
 ghost use mathlib.Core.Path.{_≡_};
 ghost use Prim.Native.Nat.{_+_, _*_, _≤_};
 ghost use lib.ListN.{length};
@@ -151,7 +151,18 @@ fn read_rest() {
     }
 }
 
+// What the program takes, to standard error. A program of Rattle has no exit status of its own.
+fn say_usage() {
+    io::write_all(2, b"usage: negbosun < FILE.tree\n");
+    io::write_all(2, b"Takes no argument: reads a tree file from standard input, and prints the pass's result or `refused N`.\n");
+    io::write_all(2, b"negbosun-inline takes a file's name and options; script/inline (installed: negbosun-script) takes a script's text.\n");
+}
+
 fn main() {
+    if os::arg_count() > 1 {
+        say_usage();
+        return;
+    }
     let mut buf = room();
     let n = io::read_full(0, &mut buf);
     if n == buf.len() {

@@ -25,13 +25,16 @@ impl Trouble {
     }
 
     /// The condition, and what the file has there. How long a file is that was not read to its end, nobody knows.
-    fn refused(name: &str, refusal: Refusal, file: &[u8]) -> Trouble {
-        let found = if refusal == Refusal::Lengths && file.len() > MOST_BYTES {
-            Some("over 21,536 bytes, the most that a file can have".into())
-        } else {
-            refusal.found(file)
+    fn refused(name: &str, refusal: Refusal, file: &[u8], runs: u32) -> Trouble {
+        let found = match refusal {
+            Refusal::Lengths if file.len() > MOST_BYTES => {
+                "; it has over 21,536 bytes, the most that a file can have".into()
+            }
+            Refusal::RunsOrWords => format!("; --runs is {runs}"),
+            _ => refusal
+                .found(file)
+                .map_or(String::new(), |found| format!("; it has {found}")),
         };
-        let found = found.map_or(String::new(), |found| format!("; it has {found}"));
         let advice = match refusal {
             Refusal::Header => {
                 ". Is it a script's text? script/inline (installed: negbosun-script) takes that"
@@ -96,7 +99,7 @@ fn single(options: &Options) -> Result<u8, Trouble> {
     print(&printed(&answer))?;
     match answer {
         Ok(_) => Ok(0),
-        Err(refusal) => Err(Trouble::refused(&name, refusal, &file)),
+        Err(refusal) => Err(Trouble::refused(&name, refusal, &file, options.runs)),
     }
 }
 
