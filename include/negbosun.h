@@ -46,7 +46,7 @@ extern "C" {
 /* No script has more root bindings, */
 #define NEGBOSUN_MOST_ROOTS 256
 /* and each takes so many words. */
-#define NEGBOSUN_ROOT_WORDS 4
+#define NEGBOSUN_ROOT_WORDS 5
 
 /* The refusals, in checking order. Later versions may have further ones, with greater numbers: treat every `refused` but 0 as a refusal. */
 enum negbosun_refusal {
@@ -104,6 +104,8 @@ struct negbosun_binding {
     uint32_t text;
     /* 1 if it must not be inlined, else 0 */
     uint32_t prevented;
+    /* how many identifiers were replaced by its value, in all runs, modulo 4,294,967,296 */
+    uint32_t count;
 };
 
 /* Runs the pass on a tree file, at most `runs` times, and writes the result's tree file from the beginning of `result`.
@@ -121,8 +123,8 @@ struct negbosun_inlined negbosun_inline(const uint8_t *file, size_t file_length,
                                         size_t word_count, uint32_t runs);
 
 /* Runs the same pass and writes its root bindings instead: for each NEGBOSUN_ROOT_WORDS words, the number of its name among the file's texts, the low
-   and the high half of its context, and 1 if it must not be inlined, else 0. Each root binding comes once, the oldest first:
-   in the order in which the pass made them.
+   and the high half of its context, 1 if it must not be inlined, else 0, and how many identifiers were replaced by its value, in all runs, modulo 4,294,967,296 (`void 0`, a
+   constant's value and an identifier in its own place do not count). Each root binding comes once, the oldest first: in the order in which the pass made them.
 
    file, file_length  the tree file, in bytes
    roots, root_words  room for the root bindings, in words; NEGBOSUN_ROOT_WORDS * NEGBOSUN_MOST_ROOTS always suffice

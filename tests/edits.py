@@ -23,6 +23,17 @@ def places(function):
     yield r'proofs/%s\+[\w+]*/Proof/%s\.antt:\d+:\d+: error: (.*)' % (path, name.capitalize())
 
 
+def lines_of(text):
+    """what the prover said, each message in one line: where types are long, what goes with an error stands indented in the lines behind it"""
+    lines = []
+    for line in text.split('\n'):
+        if line.startswith('  ') and lines:
+            lines[-1] += line
+        else:
+            lines.append(line)
+    return lines
+
+
 def refused(log, crate, sort, name):
     searched = 'fn %s::%s: no proof' % (crate, name)
     paths = list(places(name)) if sort == 'fn' else [r': error: `%s`: (.*)' % re.escape(name)]
@@ -40,7 +51,7 @@ passed = failed = 0
 for edit in sorted(glob.glob('crates/*/must-fail/each_function*.edit') + glob.glob('crates/*/must-fail/each_law*.edit')):
     crate, label = edit.split('/')[1], os.path.basename(edit)[:-len('.edit')]
     said = 'target/must-fail/%s/%s/.log' % (crate, label)
-    log = open(said).read().split('\n') if os.path.exists(said) else []
+    log = lines_of(open(said).read()) if os.path.exists(said) else []
     if not log:
         print('%s: rt has not tried it (rt ci and rt must-fail do)' % edit)
     names = named(edit)

@@ -67,9 +67,10 @@ static void layout(void) {
     check(offsetof(struct negbosun_inlined, changed) == 20, "its mark is at 20");
     check(sizeof(struct negbosun_listed) == 16, "the other one has 16");
     check(offsetof(struct negbosun_listed, count) == 8, "its count is at 8");
-    check(sizeof(struct negbosun_binding) == 24, "a root binding has 24");
+    check(sizeof(struct negbosun_binding) == 32, "a root binding has 32");
     check(offsetof(struct negbosun_binding, context) == 8, "its context is at 8");
     check(offsetof(struct negbosun_binding, prevented) == 20, "its mark is at 20");
+    check(offsetof(struct negbosun_binding, count) == 24, "its count is at 24");
 }
 
 static void results(void) {
@@ -101,7 +102,7 @@ static struct negbosun_binding root_of(size_t length, size_t count, uint32_t run
 }
 
 static int is_none(struct negbosun_binding answer, uint32_t number) {
-    return answer.refused == number && answer.found == 0 && answer.context == 0 && answer.text == 0 && answer.prevented == 0;
+    return answer.refused == number && answer.found == 0 && answer.context == 0 && answer.text == 0 && answer.prevented == 0 && answer.count == 0;
 }
 
 /* the n-th of the listing is the root binding of number n */
@@ -112,6 +113,7 @@ static void numbers(void) {
         struct negbosun_binding one = root_of(file_length, NEGBOSUN_WORDS + BEHIND, NEGBOSUN_MOST_RUNS, n);
         check(one.refused == 0 && one.found == 1 && one.text == at[0] && one.prevented == at[3], "a root binding by its number");
         check(one.context == ((uint64_t)at[2] << 32 | at[1]), "its context");
+        check(one.count == at[4], "its count");
         check(words_cleared(), "a root binding leaves cleared words");
     }
     check(is_none(root_of(file_length, NEGBOSUN_WORDS, NEGBOSUN_MOST_RUNS, (uint32_t)done.count), 0), "none behind the last");

@@ -1,7 +1,7 @@
 /* Calls the C functions of crates/pass. A line of standard input is `inline HEX ROOM WORDS RUNS`, `roots HEX ROOM WORDS RUNS` or `root HEX N
    WORDS RUNS`: a file's bytes (`-` for none), the length of the buffer for the answer (bytes, or words of root bindings) or the number of a root
    binding, the number of working words and the run limit. For each it prints `REFUSED LENGTH RUNS CHANGED WRITTEN KEPT STATE STACK`: the numbers of the answer (0 0 for the
-   runs and mark of `roots`; of `root` whether there is one as the length, and its four words as what was written), what was written, in hex digits (`-` for nothing), whether all behind it and the file are as they were, the
+   runs and mark of `roots`; of `root` whether there is one as the length, and its five words as what was written), what was written, in hex digits (`-` for nothing), whether all behind it and the file are as they were, the
    working words: `same`, `clear` (the first 16,384 are 0, the others as they were) or `other`, and how many bytes of stack were used.
    Each call has a painted stack of 256 KiB with a guard below it. */
 #include <pthread.h>
@@ -39,14 +39,14 @@ static void *on_stack(void *given) {
     c->top = &here;
     if (c->what == 'n') {
         struct negbosun_binding r = negbosun_root(c->file, c->file_length, c->words, c->count, c->runs, (uint32_t)c->number);
-        uint32_t all[4] = {r.text, (uint32_t)r.context, (uint32_t)(r.context >> 32), r.prevented};
+        uint32_t all[NEGBOSUN_ROOT_WORDS] = {r.text, (uint32_t)r.context, (uint32_t)(r.context >> 32), r.prevented, r.count};
         c->answer = (struct negbosun_inlined){r.refused, r.found, 0, 0};
-        c->written = 16 * (size_t)r.found;
+        c->written = sizeof all * (size_t)r.found;
         memcpy(c->result, all, c->written);
     } else if (c->what == 'r') {
         struct negbosun_listed r = negbosun_roots(c->file, c->file_length, (uint32_t *)c->result, c->room, c->words, c->count, c->runs);
         c->answer = (struct negbosun_inlined){r.refused, r.count, 0, 0};
-        c->written = 16 * r.count;
+        c->written = sizeof(uint32_t) * NEGBOSUN_ROOT_WORDS * r.count;
     } else {
         c->answer = negbosun_inline(c->file, c->file_length, c->result, c->room, c->words, c->count, c->runs);
         c->written = c->answer.length;

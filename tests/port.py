@@ -17,7 +17,8 @@ from treefile_reader import refusal
 
 WORDS = 16384
 MOST_BYTES = 32 + 16 * 1024 + 4 * 256 + 4096
-MOST_ROOTS = 1024
+ROOT = struct.Struct("<5I")
+MOST_ROOTS = 256 * ROOT.size // 4
 STACK = 256 * 1024
 SEED = 20261117
 LITERALS = range(22, 26)
@@ -68,15 +69,28 @@ def texts_of(file):
 
 
 def root_lines(roots, count):
-    """The lines of the root bindings, four words each, in their order."""
-    all_words = (struct.unpack_from("<4I", roots, 16 * i) for i in range(count))
-    return ["root %d %08x%08x %d" % (text, high, low, mark) for text, low, high, mark in all_words]
+    """The lines of the root bindings, five words each, in their order."""
+    all_words = (ROOT.unpack_from(roots, ROOT.size * i) for i in range(count))
+    return ["root %d %08x%08x %d %d" % (text, high, low, mark, counted) for text, low, high, mark, counted in all_words]
+
+
+def without_counts(answer):
+    """An answer as the original gives it: without the last column of its root lines."""
+    lines = answer.splitlines(keepends=True)
+    return "".join(line.rsplit(" ", 1)[0] + "\n" if line.startswith("root ") else line for line in lines)
+
+
+def agrees(got, stored):
+    """Is it the stored answer; one of the original has no counts."""
+    roots = [line for line in stored.splitlines() if line.startswith("root ")]
+    counted = all(len(line.split()) == 5 for line in roots)
+    return got == stored if counted else without_counts(got) == stored
 
 
 def vectors():
     """File, run limit and answer of each stored vector."""
     here = os.path.dirname(os.path.abspath(__file__))
-    for name, count in (("sample", 631), ("small", 447), ("amended", 317)):
+    for name, count in (("sample", 631), ("small", 447), ("amended", 340)):
         with open(os.path.join(here, "vectors", name + ".txt"), encoding="utf-8") as f:
             blocks = [b for b in f.read().split("\n\n") if b.strip()]
         if len(blocks) != count:
@@ -102,7 +116,7 @@ def replay(count, port, stored):
     """Every stored vector through both C functions."""
     for number, (file, runs, answer) in enumerate(stored):
         got = port.answer(file, runs)
-        count.check(got == answer, "vector %d: %.200r, not %.200r", number, got, answer)
+        count.check(agrees(got, answer), "vector %d: %.200r, not %.200r", number, got, answer)
     print("vectors: %d" % len(stored))
 
 
@@ -112,7 +126,7 @@ def by_number(count, port, stored):
     for number, (file, runs, answer) in enumerate(stored):
         refused, many, _, _, roots, _, state = port.call("roots", file, MOST_ROOTS, runs=runs)
         for n in [*range(many), many, 2 ** 32 - 1]:
-            want = (refused, int(n < many), 0, 0, roots[16 * n:16 * n + 16] if n < many else b"", True, state)
+            want = (refused, int(n < many), 0, 0, roots[ROOT.size * n:ROOT.size * (n + 1)] if n < many else b"", True, state)
             got = port.call("root", file, n, runs=runs)
             count.check(got == want, "vector %d, root binding %d: %r, not %r", number, n, got, want)
             asked += 1
@@ -127,7 +141,7 @@ def program(count, path, stored):
     files += [(struct.pack("<8I", *header(1025, 0, 0)) + bytes(70000), "refused 3\n"), (bytes(70000), "refused 2\n")]
     for number, (file, answer) in enumerate(files):
         got = subprocess.run([path], input=file, capture_output=True, check=False)
-        count.check(got.returncode == 0 and got.stdout.decode() == answer, "program, file %d: %.200r", number, got.stdout)
+        count.check(got.returncode == 0 and agrees(got.stdout.decode(), answer), "program, file %d: %.200r", number, got.stdout)
     print("program: %d" % len(files))
     for words in (["--help"], ["gate.tree"], [""]):
         got = subprocess.run([path] + words, input=files[0][0], capture_output=True, check=False)
@@ -172,7 +186,7 @@ def row1(count, port, stored):
 def row10(count, port, stored):
     """The buffer for the answer one below what is written, at it and one above; other refusals come before row 10."""
     for number, (file, runs, answer) in enumerate(stored):
-        for what, unit in (("inline", 1), ("roots", 4)):
+        for what, unit in (("inline", 1), ("roots", ROOT.size // 4)):
             full = port.call(what, file, MOST_BYTES, runs=runs)
             if full[0]:
                 got = port.call(what, file, 0, runs=runs)
@@ -238,7 +252,7 @@ def alike(one, two, answers):
                 return False
         elif x[:3] != y[:3] or (x[0] in (20, 21) and (x[3:], y[3:]) not in together):
             return False
-    roots = [{(text, high << 32 | low): mark for text, low, high, mark in struct.iter_unpack("<4I", x[1][4])} for x in answers[:2]]
+    roots = [{(text, high << 32 | low): (mark, counted) for text, low, high, mark, counted in ROOT.iter_unpack(x[1][4])} for x in answers[:2]]
     pairs = dict(together)
     return len(roots[0]) == len(roots[1]) and {pairs.get(k): v for k, v in roots[0].items()} == roots[1]
 

@@ -4,7 +4,7 @@
   tools/vectors.py crates/laws_vectors/specs tests/vectors/small.txt tests/vectors/amended.txt:1200
 
 Behind a colon: the most bytes that a file of it may have to be taken. A vector in a text file is a line `file HEX`, a line `runs N`, then what the program prints (document 01), up to an empty line:
-`refused N`, or a head line, a line for each node and a line for each root binding. The tables go to Part0.antt, Part1.antt, ..
+`refused N`, or a head line, a line for each node and a line for each root binding, with its count or, as the original prints it, without. The tables go to Part0.antt, Part1.antt, ..
 in the folder, and their list to Lib.antt; older parts there are removed.
 """
 import os
@@ -19,7 +19,7 @@ HEAD = """-- Vectors {first} to {last} of {count}: files and answers, in numbers
 use mathlib.Core.Path.{{_≡_, refl}}
 use mathlib.Core.List.{{List, [], _∷_}}
 use Prim.Native.Nat.{{ℕ}}
-use Rattle.laws_vectors.specs.Vector.{{Vector, v, wrong}}
+use Rattle.laws_vectors.specs.Vector.{{Vector, v, c, wrong}}
 """
 
 
@@ -38,10 +38,10 @@ def blocks(path):
 
 
 def answer(lines):
-    """The bytes of an answer, as `answerBytes` of Vector.antt makes them."""
+    """The bytes of an answer, as `answerBytes` of Vector.antt makes them, and whether its root lines have counts."""
     if lines[0].startswith("refused "):
         assert len(lines) == 1, lines
-        return bytes([int(lines[0].split()[1])])
+        return bytes([int(lines[0].split()[1])]), False
     ok, runs, k, changed, mark, nodes, n = lines[0].split()
     assert (ok, runs, changed, nodes) == ("ok", "runs", "changed", "nodes"), lines[0]
     out = bytes([0, int(k), int(mark)]) + int(n).to_bytes(2, "little")
@@ -49,11 +49,15 @@ def answer(lines):
         kind, form, arity, text, bits = line.split()
         out += bytes([int(kind), int(form)]) + int(arity).to_bytes(2, "little")
         out += int(text).to_bytes(4, "little") + int(bits, 16).to_bytes(8, "little")
+    widths = set()
     for line in lines[1 + int(n):]:
-        root, text, context, mark = line.split()
-        assert root == "root", line
+        root, text, context, mark, *count = line.split()
+        assert root == "root" and len(count) < 2, line
         out += int(text).to_bytes(4, "little") + int(context, 16).to_bytes(8, "little") + bytes([int(mark)])
-    return out
+        out += b"".join(int(x).to_bytes(4, "little") for x in count)
+        widths.add(len(count))
+    assert len(widths) < 2, lines
+    return out, widths == {1}
 
 
 def numbers(data):
@@ -67,8 +71,8 @@ def vector(block):
     assert block[0].startswith("file") and block[1].startswith("runs "), block[:2]
     file = bytes.fromhex(block[0][4:].strip())
     runs = int(block[1].split()[1])
-    out = answer(block[2:])
-    return "v %d %d %s %d %s" % (runs, len(file), numbers(file), len(out), numbers(out)), len(file)
+    out, counted = answer(block[2:])
+    return "%s %d %d %s %d %s" % ("c" if counted else "v", runs, len(file), numbers(file), len(out), numbers(out)), len(file)
 
 
 def tables(vectors):

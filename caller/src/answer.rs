@@ -13,7 +13,7 @@ pub struct Inlined {
     pub(crate) file: Vec<u8>,
     pub(crate) runs: u32,
     pub(crate) changed: bool,
-    /// Text number, context's low and high half, and mark of each.
+    /// Text number, context's low and high half, mark and count of each.
     pub(crate) roots: Vec<[u32; ROOT_WORDS]>,
 }
 
@@ -80,6 +80,8 @@ pub struct RootBinding {
     pub context: u64,
     /// Its own mark: whether it must not be inlined.
     pub prevented: bool,
+    /// How many identifiers were replaced by its value, in all runs, modulo 2³².
+    pub count: u32,
 }
 
 /// A binding of the root scope.
@@ -89,15 +91,17 @@ pub struct Root<'a> {
     text: u32,
     context: u64,
     prevented: bool,
+    count: u32,
 }
 
 impl<'a> Root<'a> {
-    fn new(file: TreeFile<'a>, [text, low, high, mark]: [u32; ROOT_WORDS]) -> Root<'a> {
+    fn new(file: TreeFile<'a>, [text, low, high, mark, count]: [u32; ROOT_WORDS]) -> Root<'a> {
         Root {
             file,
             text,
             context: u64::from(high) << 32 | u64::from(low),
             prevented: mark != 0,
+            count,
         }
     }
 
@@ -124,13 +128,21 @@ impl<'a> Root<'a> {
     pub fn prevented(self) -> bool {
         self.prevented
     }
+
+    /// How many identifiers were replaced by its value, in all runs, modulo 2³². `void 0`, a constant's value and an identifier in its own place
+    /// do not count.
+    #[must_use]
+    pub fn count(self) -> u32 {
+        self.count
+    }
 }
 
 /// The line of a root binding as the program prints it.
 impl fmt::Display for Root<'_> {
     fn fmt(&self, out: &mut fmt::Formatter) -> fmt::Result {
         let mark = u8::from(self.prevented);
-        write!(out, "root {} {:016x} {mark}", self.text, self.context)
+        let (text, context, count) = (self.text, self.context, self.count);
+        write!(out, "root {text} {context:016x} {mark} {count}")
     }
 }
 

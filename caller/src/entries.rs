@@ -16,7 +16,7 @@ pub(crate) struct Roots {
     pub count: usize,
 }
 
-/// A refusal's number; or 0, and 1 if there is a root binding of the number asked for: then its context, text number and mark.
+/// A refusal's number; or 0, and 1 if there is a root binding of the number asked for: then its context, text number, mark and count.
 #[repr(C)]
 pub(crate) struct Binding {
     pub refused: u32,
@@ -24,6 +24,7 @@ pub(crate) struct Binding {
     pub context: u64,
     pub text: u32,
     pub prevented: u32,
+    pub count: u32,
 }
 
 extern "C" {

@@ -68,7 +68,7 @@ pub const MOST_BYTES: usize = 32 + 16 * 1024 + 4 * 256 + 4096;
 pub const MOST_ROOTS: usize = 256;
 
 /// A root binding takes so many words.
-pub const ROOT_WORDS: usize = 4;
+pub const ROOT_WORDS: usize = 5;
 
 /// What stands in the result buffer, and how the pass went.
 #[derive(Clone, Copy, Debug, PartialEq, Eq)]
@@ -121,8 +121,8 @@ pub fn inline_into(
     }
 }
 
-/// Runs the same pass and writes the root bindings instead, the oldest first: text number, the context's low and high half, and the prevented mark of
-/// each. Answers how many there are; [`MOST_ROOTS`] always suffice. The words are as with [`inline_into`].
+/// Runs the same pass and writes the root bindings instead, the oldest first: text number, the context's low and high half, the prevented mark
+/// and the count of each. Answers how many there are; [`MOST_ROOTS`] always suffice. The words are as with [`inline_into`].
 ///
 /// # Errors
 ///
@@ -181,6 +181,7 @@ pub fn root_of(
             text: answer.text,
             context: answer.context,
             prevented: answer.prevented != 0,
+            count: answer.count,
         })),
     }
 }

@@ -43,13 +43,16 @@ fn root_bindings_have_their_context_whole() {
                 root.text_number(),
                 root.context(),
                 root.prevented(),
+                root.count(),
             )
         })
         .collect();
-    assert_eq!(roots, [(&b"x"[..], 1, 0x0000_0003_0000_0002, false)]);
+    assert_eq!(roots, [(&b"x"[..], 1, 0x0000_0003_0000_0002, false, 1)]);
     assert_eq!(inlined.roots().len(), 1);
     assert_eq!((inlined.runs(), inlined.nodes().len()), (2, 6));
-    assert!(inlined.to_string().ends_with("root 1 0000000300000002 0\n"));
+    assert!(inlined
+        .to_string()
+        .ends_with("root 1 0000000300000002 0 1\n"));
 }
 
 #[test]
@@ -57,8 +60,8 @@ fn root_bindings_have_numbers_from_0() {
     let mut words = marked_words(WORDS);
     let first = root_of(&one(), &mut words, MOST_RUNS, 0).unwrap().unwrap();
     assert_eq!(
-        (first.text, first.context, first.prevented),
-        (1, 0x0000_0003_0000_0002, false)
+        (first.text, first.context, first.prevented, first.count),
+        (1, 0x0000_0003_0000_0002, false, 1)
     );
     assert!(words.iter().all(|word| *word == 0));
     for n in [1, 2, u32::MAX] {
@@ -86,7 +89,7 @@ fn runs_are_one_to_sixteen() {
 #[test]
 fn row_1_changes_no_buffer() {
     let mut words = marked_words(WORDS - 1);
-    let (mut result, mut roots) = (vec![7; 200], vec![[7; 4]; 4]);
+    let (mut result, mut roots) = (vec![7; 200], vec![[7; 5]; 4]);
     assert_eq!(
         inline_into(&seven(), &mut result, &mut words, 16),
         Err(Refusal::RunsOrWords)
@@ -97,7 +100,7 @@ fn row_1_changes_no_buffer() {
     );
     assert_eq!(
         (words, result, roots),
-        (marked_words(WORDS - 1), vec![7; 200], vec![[7; 4]; 4])
+        (marked_words(WORDS - 1), vec![7; 200], vec![[7; 5]; 4])
     );
 }
 
@@ -127,9 +130,9 @@ fn row_10_is_one_root_binding_below() {
         Err(Refusal::Room)
     );
     assert!(words.iter().all(|word| *word == 0));
-    let mut roots = [[7; 4]; 2];
+    let mut roots = [[7; 5]; 2];
     assert_eq!(roots_into(&one(), &mut roots, &mut words, 16), Ok(1));
-    assert_eq!(roots, [[1, 2, 3, 0], [7; 4]]);
+    assert_eq!(roots, [[1, 2, 3, 0, 1], [7; 5]]);
 }
 
 #[test]

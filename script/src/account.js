@@ -15,8 +15,10 @@ function changeOf(edit, index, variables) {
   return { number: index + 1, line, column: column + 1, how: edit.how, name, was: edit.was, now: edit.text, note: noteOf(edit), why: whyChanged(edit, variables) };
 }
 
-function variableOf({ name, sort, line, reads, writes, replaced, emptied }) {
-  return { name, sort, line, reads, writes: writes.length, replaced, left: reads - replaced, emptied };
+// `counted`: how often the pass put its value in a name's place, in all runs, copies in other values among them; null of what is no variable of the script's top.
+function variableOf({ identity, name, sort, line, reads, writes, replaced, emptied }, roots) {
+  const root = roots.find((one) => one.identity === identity);
+  return { name, sort, line, reads, writes: writes.length, replaced, left: reads - replaced, emptied, counted: root ? root.counted : null };
 }
 
 // Where the guard saw script and result part.
@@ -43,7 +45,7 @@ function accountOf({ name, text, root, answer, own, outcome, verdict, isHeld }) 
       replaced: count(own.edits, 'replaced') + count(own.edits, 'other'), emptied: count(own.edits, 'emptied'), renamed: count(own.edits, 'renamed'),
     },
     limits: limitsOf(root),
-    variables: [...variables.known.values()].filter(({ sort }) => sort !== null).map(variableOf),
+    variables: [...variables.known.values()].filter(({ sort }) => sort !== null).map((variable) => variableOf(variable, answer.roots)),
     changes: own.edits.map((edit, index) => changeOf(edit, index, variables)),
     trials: testOf(outcome),
     refusals: [],

@@ -26,9 +26,15 @@ function rowText({ scriptLine, script, result, isSame, edits }) {
   return [...lines, ...edits.filter((edit) => edit.node.at.loc.start.line === scriptLine).map(noteLine)];
 }
 
-// `text` is the script's own text, `own` its edits.
-function compare(text, own) {
-  return `${rowsOf(text, own.edits).flatMap(rowText).join('\n')}\n`;
+// How often the pass put the value of a variable of the script's top in a name's place: those of which it did, where the port tells it.
+function countedLines(roots) {
+  const told = roots.filter(({ counted }) => counted);
+  return told.length ? ['', `replaced by the pass, in all runs: ${told.map(({ name, counted }) => `${name} ${counted}`).join(', ')}`] : [];
+}
+
+// `text` is the script's own text, `own` its edits, `roots` the variables of its top.
+function compare(text, own, roots = []) {
+  return `${[...rowsOf(text, own.edits).flatMap(rowText), ...countedLines(roots)].join('\n')}\n`;
 }
 
 module.exports = { compare, noteOf };

@@ -136,11 +136,12 @@ const number = (name) => ({ name, number: true });
 
 function variablesPart({ variables }) {
   if (!variables.length) return '';
-  const heads = [{ name: 'Name' }, { name: 'What it is' }, number('Reads'), number('Replaced'), number('Left'), number('Emptied')];
-  const rows = variables.map(({ name, sort, line, reads, replaced, left, emptied }) => {
-    return [html`<code>${name}</code>`, `${sort}${line ? `, line ${line}` : ''}`, reads, replaced, left, emptied];
+  const heads = [{ name: 'Name' }, { name: 'What it is' }, number('Reads'), number('Replaced'), number('Left'), number('Emptied'), number('Counted')];
+  const rows = variables.map(({ name, sort, line, reads, replaced, left, emptied, counted }) => {
+    return [html`<code>${name}</code>`, `${sort}${line ? `, line ${line}` : ''}`, reads, replaced, left, emptied, counted === null ? '–' : figure(counted)];
   });
-  return html`<h2>Variables</h2>\n${table(heads, rows)}`;
+  const note = 'Counted: how often the pass put the value of a variable of the script\'s top in a name\'s place, in all its runs. Constants are not counted.';
+  return html`<h2>Variables</h2>\n${table(heads, rows)}\n<p>${note}</p>`;
 }
 
 function limitsPart({ limits }) {

@@ -4,7 +4,7 @@
 const { spawnSync } = require('child_process');
 const fs = require('fs');
 const path = require('path');
-const { treeOfLines } = require('./tree_file');
+const { rootsOfLines, treeOfLines } = require('./tree_file');
 const { PortTrouble, trouble } = require('./trouble');
 
 const DEFAULT_PORT = path.join(__dirname, '..', '..', 'target', 'bin', 'negbosun');
@@ -44,7 +44,7 @@ function checkLimit(done, runs) {
   if (runs !== undefined && done > runs) throw new PortTrouble(`this port takes no run limit: ${done} runs were made; build caller/ (cargo build --release), whose tool does`);
 }
 
-// The answer to a tree file: a refusal's number, or lines, runs, mark and the result's tree.
+// The answer to a tree file: a refusal's number, or lines, runs, mark, the result's tree and the variables of the script's top.
 function runPort(bytes, texts, options) {
   const lines = portOutput(bytes, options);
   const refusal = /^refused (\d+)$/m.exec(lines);
@@ -52,7 +52,7 @@ function runPort(bytes, texts, options) {
   const [head, ...rest] = lines.trimEnd().split('\n');
   const [, done, changed, count] = /^ok runs (\d+) changed ([01]) nodes (\d+)$/.exec(head).map(Number);
   checkLimit(done, options.runs);
-  return { refused: 0, lines, runs: done, changed, tree: treeOfLines(rest.slice(0, count), texts) };
+  return { refused: 0, lines, runs: done, changed, tree: treeOfLines(rest.slice(0, count), texts), roots: rootsOfLines(rest.slice(count), texts) };
 }
 
 module.exports = { runPort, takesLimit, MOST_RUNS, SECONDS };

@@ -15,7 +15,7 @@ const { verdictOfCheck, wordsOf } = require('./verdict');
 const CONTENT = {
   result: ({ own }) => own().text,
   lines: ({ answer }) => answer.lines,
-  compare: ({ text, own }) => compare(text, own()),
+  compare: ({ text, own, answer }) => compare(text, own(), answer.roots),
 };
 
 // A value that is made when it is first asked for.

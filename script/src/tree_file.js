@@ -1,7 +1,7 @@
 // The tree file of document 01: written from a tree, read back, and the program's lines read as a tree.
 'use strict';
 
-const { TEXTED, preorder } = require('./kinds');
+const { TEXTED, identityOf, preorder } = require('./kinds');
 const { trouble } = require('./trouble');
 
 const HEADER = 32;
@@ -69,6 +69,15 @@ function treeOfLines(lines, texts) {
   }));
 }
 
+// The program's root lines, each with the identity of its variable and its mark. How often the variable was replaced is the last column, which the original does not print: null.
+function rootsOfLines(lines, texts) {
+  return lines.filter((line) => line.startsWith('root ')).map((line) => {
+    const [, text, hex, mark, counted] = line.split(' ');
+    const name = { text: texts[Number(text)], bits: BigInt(`0x${hex}`) };
+    return { identity: identityOf(name), name: name.text, prevented: mark === '1', counted: counted === undefined ? null : Number(counted) };
+  });
+}
+
 // A readable tree file as a tree; only the port says which files are readable.
 function readTreeFile(bytes) {
   const word = (index) => bytes.readUInt32LE(4 * index);
@@ -87,4 +96,4 @@ function readTreeFile(bytes) {
   return treeOfList(list);
 }
 
-module.exports = { writeTreeFile, readTreeFile, treeOfLines, textsOf };
+module.exports = { writeTreeFile, readTreeFile, treeOfLines, rootsOfLines, textsOf };

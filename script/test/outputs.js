@@ -89,8 +89,13 @@ const OUTPUTS = {
     assert.deepStrictEqual([a.result, b.result, c.result], ['const a = 1; f(1);', '// kept\nvar b; g(2);', null]);
     assert.deepStrictEqual(c.refusals.map(({ line, column }) => [line, column]), [[1, 1]]);
     assert.deepStrictEqual(b.changes.map(({ how, name, now, line }) => [how, name, now, line]), [['emptied', 'b', '', 2], ['replaced', 'b', '2', 2]]);
-    assert.deepStrictEqual(b.variables.find(({ name }) => name === 'b'), { name: 'b', sort: 'var', line: 2, reads: 1, writes: 1, replaced: 1, left: 0, emptied: 1 });
+    assert.deepStrictEqual(b.variables.find(({ name }) => name === 'b'), { name: 'b', sort: 'var', line: 2, reads: 1, writes: 1, replaced: 1, left: 0, emptied: 1, counted: 1 });
   }),
+  'comparison with what the pass counted': () => {
+    const compared = (text) => inline(ROOT, ['--compare', '-'], text).text;
+    assert.match(compared('var b = 2, c = 3;\ng(b, b, c);\n'), /\n\nreplaced by the pass, in all runs: b 2, c 1\n$/);
+    assert.doesNotMatch(compared('const a = 1;\nvar b = g();\nf(a, b, b);\n'), /replaced by the pass/);
+  },
   'JSON whatever is read': () => {
     const [only] = JSON.parse(inline(ROOT, ['--json', 'nowhere.js']).text).scripts;
     assert.deepStrictEqual([only.verdict.status, only.refusals[0].message, only.script], ['refused', 'no such file', null]);

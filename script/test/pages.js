@@ -49,8 +49,8 @@ function checkPage(name) {
 function checkCounts(name) {
   const { account, page } = made(name, sampleText(name));
   const rows = all(page, /<tr><td><code>([^]*?)<\/tr>/g).map(plain);
-  for (const { name: variable, sort, line, reads, replaced, left, emptied } of account.variables) {
-    assert.ok(rows.includes(`${variable}${sort}${line ? `, line ${line}` : ''}${reads}${replaced}${left}${emptied}`), variable);
+  for (const { name: variable, sort, line, reads, replaced, left, emptied, counted } of account.variables) {
+    assert.ok(rows.includes(`${variable}${sort}${line ? `, line ${line}` : ''}${reads}${replaced}${left}${emptied}${counted ?? '–'}`), variable);
   }
   const sum = (key) => account.variables.reduce((total, variable) => total + variable[key], 0);
   assert.deepStrictEqual([sum('replaced'), sum('emptied')], [account.counts.replaced, account.counts.emptied]);

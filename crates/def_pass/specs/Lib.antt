@@ -13,3 +13,4 @@ pub mod Imitations
 pub mod Refusals
 pub mod Traps
 pub mod Requests
+pub mod Counts

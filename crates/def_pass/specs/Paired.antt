@@ -55,12 +55,12 @@ AlikeNode a b x y = BothLit x y ⊎ Neither a b x y
 abbrev pub noOut : Out
 noOut = record { raw = zeroNode; origin = 0 }
 
--- root bindings in pairs, with equal marks
+-- root bindings in pairs, with equal marks and counts
 abbrev pub AlikeRoots : Script → Script → List Root → List Root → Type 0
 AlikeRoots a b [] [] = Unit {0}
 AlikeRoots a b [] (s ∷ ss) = ⊥
 AlikeRoots a b (r ∷ rs) [] = ⊥
-AlikeRoots a b (r ∷ rs) (s ∷ ss) = Together a b (r .key) (s .key) × (r .mark ≡ s .mark) × AlikeRoots a b rs ss
+AlikeRoots a b (r ∷ rs) (s ∷ ss) = Together a b (r .key) (s .key) × (r .mark ≡ s .mark) × (r .count ≡ s .count) × AlikeRoots a b rs ss
 
 -- two results
 pub record AlikeResults (a b : Script) (k l : ℕ) (c d : Bool) (xs ys : List Out) (rs ss : List Root) : Type 0 where

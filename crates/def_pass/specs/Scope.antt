@@ -3,7 +3,7 @@ use mathlib.Core.Path.{_≡_}
 use mathlib.Core.Bool.{Bool, true, false, _&&_, _||_, not}
 use mathlib.Core.Option.{Option, none, some}
 use mathlib.Core.List.{List, [], _∷_, _++_, map}
-use Prim.Native.Nat.{ℕ, zero, suc, _+_, _-_}
+use Prim.Native.Nat.{ℕ, zero, suc, _+_, _-_, _%_}
 use lib.Dec.{eqb, ltb, leb}
 use lib.ListN.{length}
 use Rattle.def_tree.specs.Base.{pick, orElse}
@@ -56,7 +56,7 @@ isBlock loop = false
 isBlock block = true
 isBlock (fn b) = false
 
--- VarInfo, without `read_from_nested_scope`, which nothing reads
+-- VarInfo, without `read_from_nested_scope`, which nothing reads. `count`: of identifiers replaced by its value (request 9)
 pub record VarInfo : Type 0 where
   pub id : ℕ
   pub kind : VarType
@@ -67,6 +67,7 @@ pub record VarInfo : Type 0 where
   pub value : Option Tree
   pub thisSensitive : Bool
   pub hoisted : Bool
+  pub count : ℕ
 
 -- Scope: kind, inline_barriers, bindings, unresolved_usages, constants. Of barriers and unresolved uses only which occur matters: tests
 pub record Scope : Type 0 where
@@ -86,34 +87,41 @@ newScope k = record { kind = k; inlineBarriers = λ (j : ℕ). false; bindings =
 
 -- a new VarInfo
 abbrev pub fresh : ℕ → VarType → Option VarType → Bool → Bool → Option Tree → VarInfo
-fresh i k al p u v = record { id = i; kind = k; aliasOf = al; readCnt = 0; inlinePrevented = p; isUndefined = u; value = v; thisSensitive = false; hoisted = false }
+fresh i k al p u v = record { id = i; kind = k; aliasOf = al; readCnt = 0; inlinePrevented = p; isUndefined = u; value = v; thisSensitive = false; hoisted = false; count = 0 }
 
 -- one field changed
 abbrev pub prevent : VarInfo → VarInfo
-prevent b = record { id = b .id; kind = b .kind; aliasOf = b .aliasOf; readCnt = b .readCnt; inlinePrevented = true; isUndefined = b .isUndefined; value = b .value; thisSensitive = b .thisSensitive; hoisted = b .hoisted }
+prevent b = record { id = b .id; kind = b .kind; aliasOf = b .aliasOf; readCnt = b .readCnt; inlinePrevented = true; isUndefined = b .isUndefined; value = b .value; thisSensitive = b .thisSensitive; hoisted = b .hoisted; count = b .count }
 
 abbrev pub defined : VarInfo → VarInfo
-defined b = record { id = b .id; kind = b .kind; aliasOf = b .aliasOf; readCnt = b .readCnt; inlinePrevented = b .inlinePrevented; isUndefined = false; value = b .value; thisSensitive = b .thisSensitive; hoisted = b .hoisted }
+defined b = record { id = b .id; kind = b .kind; aliasOf = b .aliasOf; readCnt = b .readCnt; inlinePrevented = b .inlinePrevented; isUndefined = false; value = b .value; thisSensitive = b .thisSensitive; hoisted = b .hoisted; count = b .count }
 
 abbrev pub sensitiveNow : VarInfo → VarInfo
-sensitiveNow b = record { id = b .id; kind = b .kind; aliasOf = b .aliasOf; readCnt = b .readCnt; inlinePrevented = b .inlinePrevented; isUndefined = b .isUndefined; value = b .value; thisSensitive = true; hoisted = b .hoisted }
+sensitiveNow b = record { id = b .id; kind = b .kind; aliasOf = b .aliasOf; readCnt = b .readCnt; inlinePrevented = b .inlinePrevented; isUndefined = b .isUndefined; value = b .value; thisSensitive = true; hoisted = b .hoisted; count = b .count }
 
 abbrev pub withValue : Option Tree → VarInfo → VarInfo
-withValue v b = record { id = b .id; kind = b .kind; aliasOf = b .aliasOf; readCnt = b .readCnt; inlinePrevented = b .inlinePrevented; isUndefined = b .isUndefined; value = v; thisSensitive = b .thisSensitive; hoisted = b .hoisted }
+withValue v b = record { id = b .id; kind = b .kind; aliasOf = b .aliasOf; readCnt = b .readCnt; inlinePrevented = b .inlinePrevented; isUndefined = b .isUndefined; value = v; thisSensitive = b .thisSensitive; hoisted = b .hoisted; count = b .count }
 
 -- read once more; a hoisted binding is then prevented. Reads are counted up to 2: all that is asked of them is whether they are 1
 abbrev pub oneMore : ℕ → ℕ
 oneMore n = pick (ltb n 2) (n + 1) n
 
 abbrev pub readOnce : VarInfo → VarInfo
-readOnce b = record { id = b .id; kind = b .kind; aliasOf = b .aliasOf; readCnt = oneMore (b .readCnt); inlinePrevented = b .hoisted || b .inlinePrevented; isUndefined = b .isUndefined; value = b .value; thisSensitive = b .thisSensitive; hoisted = b .hoisted }
+readOnce b = record { id = b .id; kind = b .kind; aliasOf = b .aliasOf; readCnt = oneMore (b .readCnt); inlinePrevented = b .hoisted || b .inlinePrevented; isUndefined = b .isUndefined; value = b .value; thisSensitive = b .thisSensitive; hoisted = b .hoisted; count = b .count }
 
 abbrev pub redeclare : Bool → Bool → Option Tree → VarInfo → VarInfo
-redeclare p u v b = record { id = b .id; kind = b .kind; aliasOf = b .aliasOf; readCnt = 0; inlinePrevented = p; isUndefined = u; value = v; thisSensitive = b .thisSensitive; hoisted = b .hoisted }
+redeclare p u v b = record { id = b .id; kind = b .kind; aliasOf = b .aliasOf; readCnt = 0; inlinePrevented = p; isUndefined = u; value = v; thisSensitive = b .thisSensitive; hoisted = b .hoisted; count = b .count }
 
 -- emptied and hoisted, prevented where it is unresolved above
 abbrev pub hoist : (ℕ → Bool) → VarInfo → VarInfo
-hoist us b = record { id = b .id; kind = b .kind; aliasOf = b .aliasOf; readCnt = b .readCnt; inlinePrevented = us (b .id) || b .inlinePrevented; isUndefined = false; value = none; thisSensitive = b .thisSensitive; hoisted = true }
+hoist us b = record { id = b .id; kind = b .kind; aliasOf = b .aliasOf; readCnt = b .readCnt; inlinePrevented = us (b .id) || b .inlinePrevented; isUndefined = false; value = none; thisSensitive = b .thisSensitive; hoisted = true; count = b .count }
+
+-- request 9: counts are kept modulo 2^32; an identifier more was replaced by the binding's value
+abbrev pub wrap : ℕ → ℕ
+wrap n = n % 4294967296
+
+abbrev pub countOne : VarInfo → VarInfo
+countOne b = record { id = b .id; kind = b .kind; aliasOf = b .aliasOf; readCnt = b .readCnt; inlinePrevented = b .inlinePrevented; isUndefined = b .isUndefined; value = b .value; thisSensitive = b .thisSensitive; hoisted = b .hoisted; count = wrap (b .count + 1) }
 
 abbrev pub onBindings : (List VarInfo → List VarInfo) → Scope → Scope
 onBindings f s = record { kind = s .kind; inlineBarriers = s .inlineBarriers; bindings = f (s .bindings); unresolvedUsages = s .unresolvedUsages; constants = s .constants }
@@ -413,6 +421,31 @@ unfoldable pub close : Stack → Stack
 close [] = []
 close (c ∷ []) = []
 close (c ∷ s ∷ st) = closeInto c s ∷ st
+
+-- request 9: the counts of records, and of the live ones
+abbrev pub countsIn : List VarInfo → ℕ
+countsIn [] = 0
+countsIn (b ∷ bs) = b .count + countsIn bs
+
+abbrev pub liveCounts : Stack → ℕ
+liveCounts [] = 0
+liveCounts (s ∷ st) = countsIn (s .bindings) + liveCounts st
+
+-- the count of the record of an identifier, 0 where there is none
+abbrev pub countIn : ℕ → List VarInfo → ℕ
+countIn i [] = 0
+countIn i (b ∷ bs) = elim (eqb (b .id) i) [ true ↦ b .count | false ↦ countIn i bs ]
+
+-- what ends where `hoistAll` goes: the count of a record that is overwritten, and of one that is not hoisted
+abbrev pub endingAll : (ℕ → Bool) → List VarInfo → List VarInfo → ℕ
+endingAll us [] bs = 0
+endingAll us (c ∷ cs) bs = pick (isVar (c .kind)) (countIn (c .id) bs) (c .count) + endingAll us cs (pick (isVar (c .kind)) (put (hoist us c) bs) bs)
+
+-- and where `close` goes: of a function all counts end, and the root's with it
+unfoldable pub ending : Stack → ℕ
+ending [] = 0
+ending (c ∷ []) = countsIn (c .bindings)
+ending (c ∷ s ∷ st) = pick (isFn (c .kind)) (countsIn (c .bindings)) (endingAll (λ j. c .unresolvedUsages j || s .unresolvedUsages j) (c .bindings) (s .bindings))
 
 -- what row 9 counts
 abbrev pub valuesIn : List VarInfo → ℕ

@@ -9,16 +9,17 @@ use Rattle.def_file.specs.Script.{Script, idents}
 use Rattle.def_file.specs.Read.{Read, bad, script, read}
 pub use Rattle.def_file.specs.Core.{hasText, coreNode, coreFrom, coreNodes, Out, identAt, litOut, idOut, plainOut, back}
 use Rattle.def_pass.specs.Tree.{Tree, headT}
-use Rattle.def_pass.specs.Walk.{corePass, Outcome, refused, result}
+use Rattle.def_pass.specs.Walk.{corePass, Rooted, Outcome, refused, result}
 
--- a root binding: text, context, mark
+-- a root binding: text, context, mark, count (request 9)
 pub record Root : Type 0 where
   pub key : Raw
   pub mark : Bool
+  pub count : ℕ
 
-unfoldable pub rootOf : Script → ℕ × Bool → Root
+unfoldable pub rootOf : Script → Rooted → Root
 unfolding idents
-rootOf s r = record { key = identAt s (r .0); mark = r .1 }
+rootOf s r = record { key = identAt s (r .0); mark = r .1; count = r .2 }
 
 pub data Answer : Type 0 where
   no! : ℕ → Answer

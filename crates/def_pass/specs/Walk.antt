@@ -11,13 +11,14 @@ use Rattle.def_tree.specs.Base.{pick}
 use Rattle.def_pass.specs.Tree.{Tree, Forest, node, nil, cons, kind, form, num, kids, isIdent, isLit, isCheap, headT, tailF, count, counts, height, voidZero, hasThis, identList, identListF}
 use Rattle.def_pass.specs.Targets.{targets}
 use Rattle.def_pass.specs.Twice.{isTwice, isArgs, unflagged, flagged}
-use Rattle.def_pass.specs.Scope.{VarType, param, vVar, vLet, vConst, isVar, isConst, ScopeKind, cond, loop, block, fn, isFn, Scope, Stack, VarInfo, newScope, preventInline, isInlinePrevented, varInlinePrevented, preventedO, findBinding, findBindingFromCurrent, findConstant, addConst, addRead, addWrite, markThisSensitive, identOf, storeInlineBarrier, hasSameThis, Init, noInit, recorded, seen, seenInit, declare, close, change, withValue, defined, recordedNodes, live}
+use Rattle.def_pass.specs.Scope.{VarType, param, vVar, vLet, vConst, isVar, isConst, ScopeKind, cond, loop, block, fn, isFn, Scope, Stack, VarInfo, newScope, preventInline, isInlinePrevented, varInlinePrevented, preventedO, findBinding, findBindingFromCurrent, findConstant, addConst, addRead, addWrite, markThisSensitive, identOf, storeInlineBarrier, hasSameThis, Init, noInit, recorded, seen, seenInit, declare, close, change, withValue, defined, wrap, countOne, ending, recordedNodes, live}
 
 -- PatFoldingMode
 pub data PatMode : Type 0 where
   assigning asParam asCatch declaring : PatMode
 
--- Inlining, without `ident_type` and `pass`, which nothing reads. `inlining`: the phase; `isFirstRun`: the first run; `conds`: the right sides open in their Cond scopes; `nodes`: of the tree now; `targeted`: by the script as read (request 8), and never changed
+-- Inlining, without `ident_type` and `pass`, which nothing reads. `inlining`: the phase; `isFirstRun`: the first run; `conds`: the right sides open in their Cond scopes; `nodes`: of the tree now; `targeted`: by the script as read (request 8), and never changed;
+-- `ended`: the counts of records that are gone, `replaced`: the replacements made so far, both of all runs (request 9)
 pub record St : Type 0 where
   pub stack : Stack
   pub changed : Bool
@@ -29,6 +30,8 @@ pub record St : Type 0 where
   pub conds : ℕ
   pub nodes : ℕ
   pub targeted : ℕ → Bool
+  pub ended : ℕ
+  pub replaced : ℕ
 
 abbrev pub M : Type 0 → Type 0
 M A = MS St A
@@ -41,31 +44,38 @@ when b m = iff b m (ret tt)
 
 -- changes of one field
 abbrev pub setStack : Stack → St → St
-setStack x s = record { stack = x; changed = s .changed; inlining = s .inlining; isFirstRun = s .isFirstRun; varDeclKind = s .varDeclKind; patMode = s .patMode; inTest = s .inTest; conds = s .conds; nodes = s .nodes; targeted = s .targeted }
+setStack x s = record { stack = x; changed = s .changed; inlining = s .inlining; isFirstRun = s .isFirstRun; varDeclKind = s .varDeclKind; patMode = s .patMode; inTest = s .inTest; conds = s .conds; nodes = s .nodes; targeted = s .targeted; ended = s .ended; replaced = s .replaced }
 
 abbrev pub setChanged : Bool → St → St
-setChanged x s = record { stack = s .stack; changed = x; inlining = s .inlining; isFirstRun = s .isFirstRun; varDeclKind = s .varDeclKind; patMode = s .patMode; inTest = s .inTest; conds = s .conds; nodes = s .nodes; targeted = s .targeted }
+setChanged x s = record { stack = s .stack; changed = x; inlining = s .inlining; isFirstRun = s .isFirstRun; varDeclKind = s .varDeclKind; patMode = s .patMode; inTest = s .inTest; conds = s .conds; nodes = s .nodes; targeted = s .targeted; ended = s .ended; replaced = s .replaced }
 
 abbrev pub setInlining : Bool → St → St
-setInlining x s = record { stack = s .stack; changed = s .changed; inlining = x; isFirstRun = s .isFirstRun; varDeclKind = s .varDeclKind; patMode = s .patMode; inTest = s .inTest; conds = s .conds; nodes = s .nodes; targeted = s .targeted }
+setInlining x s = record { stack = s .stack; changed = s .changed; inlining = x; isFirstRun = s .isFirstRun; varDeclKind = s .varDeclKind; patMode = s .patMode; inTest = s .inTest; conds = s .conds; nodes = s .nodes; targeted = s .targeted; ended = s .ended; replaced = s .replaced }
 
 abbrev pub setIsFirstRun : Bool → St → St
-setIsFirstRun x s = record { stack = s .stack; changed = s .changed; inlining = s .inlining; isFirstRun = x; varDeclKind = s .varDeclKind; patMode = s .patMode; inTest = s .inTest; conds = s .conds; nodes = s .nodes; targeted = s .targeted }
+setIsFirstRun x s = record { stack = s .stack; changed = s .changed; inlining = s .inlining; isFirstRun = x; varDeclKind = s .varDeclKind; patMode = s .patMode; inTest = s .inTest; conds = s .conds; nodes = s .nodes; targeted = s .targeted; ended = s .ended; replaced = s .replaced }
 
 abbrev pub setVarDeclKind : VarType → St → St
-setVarDeclKind x s = record { stack = s .stack; changed = s .changed; inlining = s .inlining; isFirstRun = s .isFirstRun; varDeclKind = x; patMode = s .patMode; inTest = s .inTest; conds = s .conds; nodes = s .nodes; targeted = s .targeted }
+setVarDeclKind x s = record { stack = s .stack; changed = s .changed; inlining = s .inlining; isFirstRun = s .isFirstRun; varDeclKind = x; patMode = s .patMode; inTest = s .inTest; conds = s .conds; nodes = s .nodes; targeted = s .targeted; ended = s .ended; replaced = s .replaced }
 
 abbrev pub setPatMode : PatMode → St → St
-setPatMode x s = record { stack = s .stack; changed = s .changed; inlining = s .inlining; isFirstRun = s .isFirstRun; varDeclKind = s .varDeclKind; patMode = x; inTest = s .inTest; conds = s .conds; nodes = s .nodes; targeted = s .targeted }
+setPatMode x s = record { stack = s .stack; changed = s .changed; inlining = s .inlining; isFirstRun = s .isFirstRun; varDeclKind = s .varDeclKind; patMode = x; inTest = s .inTest; conds = s .conds; nodes = s .nodes; targeted = s .targeted; ended = s .ended; replaced = s .replaced }
 
 abbrev pub setInTest : Bool → St → St
-setInTest x s = record { stack = s .stack; changed = s .changed; inlining = s .inlining; isFirstRun = s .isFirstRun; varDeclKind = s .varDeclKind; patMode = s .patMode; inTest = x; conds = s .conds; nodes = s .nodes; targeted = s .targeted }
+setInTest x s = record { stack = s .stack; changed = s .changed; inlining = s .inlining; isFirstRun = s .isFirstRun; varDeclKind = s .varDeclKind; patMode = s .patMode; inTest = x; conds = s .conds; nodes = s .nodes; targeted = s .targeted; ended = s .ended; replaced = s .replaced }
 
 abbrev pub setConds : ℕ → St → St
-setConds x s = record { stack = s .stack; changed = s .changed; inlining = s .inlining; isFirstRun = s .isFirstRun; varDeclKind = s .varDeclKind; patMode = s .patMode; inTest = s .inTest; conds = x; nodes = s .nodes; targeted = s .targeted }
+setConds x s = record { stack = s .stack; changed = s .changed; inlining = s .inlining; isFirstRun = s .isFirstRun; varDeclKind = s .varDeclKind; patMode = s .patMode; inTest = s .inTest; conds = x; nodes = s .nodes; targeted = s .targeted; ended = s .ended; replaced = s .replaced }
 
 abbrev pub setNodes : ℕ → St → St
-setNodes x s = record { stack = s .stack; changed = s .changed; inlining = s .inlining; isFirstRun = s .isFirstRun; varDeclKind = s .varDeclKind; patMode = s .patMode; inTest = s .inTest; conds = s .conds; nodes = x; targeted = s .targeted }
+setNodes x s = record { stack = s .stack; changed = s .changed; inlining = s .inlining; isFirstRun = s .isFirstRun; varDeclKind = s .varDeclKind; patMode = s .patMode; inTest = s .inTest; conds = s .conds; nodes = x; targeted = s .targeted; ended = s .ended; replaced = s .replaced }
+
+abbrev pub setReplaced : ℕ → St → St
+setReplaced x s = record { stack = s .stack; changed = s .changed; inlining = s .inlining; isFirstRun = s .isFirstRun; varDeclKind = s .varDeclKind; patMode = s .patMode; inTest = s .inTest; conds = s .conds; nodes = s .nodes; targeted = s .targeted; ended = s .ended; replaced = x }
+
+-- request 9: an identifier is replaced by the value of its innermost binding
+abbrev pub tally : ℕ → St → St
+tally i s = setReplaced (wrap (s .replaced + 1)) (setStack (change i countOne (s .stack)) s)
 
 abbrev pub modify : (St → St) → M Nothing
 modify f = λ s. done (f s) tt
@@ -94,8 +104,8 @@ leave t = λ s. done (setNodes (s .nodes - count t) s) tt
 
 -- with_child: a new scope, `m` in it with its own copies of the visitor's fields, and its end
 unfoldable pub restore : St → St → St
-unfolding close
-restore old s = record { stack = close (s .stack); changed = s .changed; inlining = old .inlining; isFirstRun = s .isFirstRun; varDeclKind = old .varDeclKind; patMode = old .patMode; inTest = old .inTest; conds = s .conds; nodes = s .nodes; targeted = s .targeted }
+unfolding close ending
+restore old s = record { stack = close (s .stack); changed = s .changed; inlining = old .inlining; isFirstRun = s .isFirstRun; varDeclKind = old .varDeclKind; patMode = old .patMode; inTest = old .inTest; conds = s .conds; nodes = s .nodes; targeted = s .targeted; ended = wrap (s .ended + ending (s .stack)); replaced = s .replaced }
 
 unfoldable pub opening : ScopeKind → M Nothing
 opening k = λ s. elim (leb 32 (length (s .stack))) [ true ↦ stop 8 | false ↦ done (setVarDeclKind vVar (setStack (newScope k ∷ s .stack) s)) tt ]
@@ -547,7 +557,7 @@ unfoldable pub inlineValue : Walks → ℕ → Tree → VarInfo → Option Tree 
 unfolding logical
 inlineValue w p t b none = iff (b .isUndefined) (replace p t voidZero >> ret voidZero) (ret t)
 inlineValue w p t b (some e) = do
-  when (not (sameIdent t e)) (modify (setChanged true))
+  when (not (sameIdent t e)) (modify (λ s. tally (num t) (setChanged true s)))
   replace p t e
   logical w p e
 
@@ -603,16 +613,20 @@ run t = do
 
 -- inlining: the visitor before its first run
 abbrev pub start : Tree → St
-start t = record { stack = newScope (fn false) ∷ []; changed = false; inlining = false; isFirstRun = true; varDeclKind = vVar; patMode = declaring; inTest = false; conds = 0; nodes = count t; targeted = targets t }
+start t = record { stack = newScope (fn false) ∷ []; changed = false; inlining = false; isFirstRun = true; varDeclKind = vVar; patMode = declaring; inTest = false; conds = 0; nodes = count t; targeted = targets t; ended = 0; replaced = 0 }
 
--- the result of the pass: runs done, the last run's mark, the tree, and the root's bindings with their marks
+-- a binding of the root: its identifier, mark and count
+abbrev pub Rooted : Type 0
+Rooted = ℕ × Bool × ℕ
+
+-- the result of the pass: runs done, the last run's mark, the tree, and the root's bindings with their marks and counts
 pub data Outcome : Type 0 where
   refused : ℕ → Outcome
-  result : ℕ → Bool → Tree → List (ℕ × Bool) → Outcome
+  result : ℕ → Bool → Tree → List Rooted → Outcome
 
-abbrev pub rootMarks : Stack → List (ℕ × Bool)
+abbrev pub rootMarks : Stack → List Rooted
 rootMarks [] = []
-rootMarks (s ∷ []) = map (λ (b : VarInfo). (b .id, b .inlinePrevented)) (s .bindings)
+rootMarks (s ∷ []) = map (λ (b : VarInfo). (b .id, b .inlinePrevented, b .count)) (s .bindings)
 rootMarks (s ∷ p ∷ st) = rootMarks (p ∷ st)
 
 -- Repeated::changed and reset: after a run the refusal, or on with `go` if the mark is set

@@ -16,9 +16,9 @@ given = script (f2 (declTo 0 1 (lit 5)) (do′ (name 1)))
 abbrev wanted : List Core
 wanted = core 1 0 2 0 ∷ core 5 0 1 0 ∷ core 6 0 1 0 ∷ core 20 0 0 1 ∷ core 4 0 1 0 ∷ core 22 0 0 5 ∷ []
 
-computed : flatOutcome (corePass 16 given) ≡ resultF 2 false wanted ((1, false) ∷ [])
+computed : flatOutcome (corePass 16 given) ≡ resultF 2 false wanted ((1, false, 1) ∷ [])
 unfolding corePass
 computed = refl
 
-pub example : runsF 16 0 (record { nodes = flat (flagged given) []; rest = start given }) ≡ resultF 2 false wanted ((1, false) ∷ [])
+pub example : runsF 16 0 (record { nodes = flat (flagged given) []; rest = start given }) ≡ resultF 2 false wanted ((1, false, 1) ∷ [])
 example = pass-same 16 given ∙ computed

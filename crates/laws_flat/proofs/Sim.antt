@@ -239,7 +239,7 @@ module _ {w : Walks} {v : WalkF.WalksF} (h : Sims w v) where
   pub sim-inline : (p : ℕ) (b : VarInfo) (o : Option Tree) → Sim (λ t. Walk.inlineValue w p t b o) (WalkF.inlineValueF v p b o)
   unfolding Walk.inlineValue
   sim-inline p b none = sim-if (b .isUndefined) (sim-act (λ t. replace p t voidZero) (λ a. sim-put voidZero)) sim-skip
-  sim-inline p b (some e) = sim-act (λ t. when (not (sameIdent t e)) (modify (setChanged true))) (λ a. sim-act (λ t. replace p t e) (λ a. sim-then (sim-put e) (sim-logical p)))
+  sim-inline p b (some e) = sim-act (λ t. when (not (sameIdent t e)) (modify (λ s. Walk.tally (num t) (setChanged true s)))) (λ a. sim-act (λ t. replace p t e) (λ a. sim-then (sim-put e) (sim-logical p)))
 
   pub sim-found : (p : ℕ) (o : Option VarInfo) → Sim (foundBy w p o) (WalkF.foundF v p o)
   sim-found p none = sim-skip

@@ -34,7 +34,7 @@ targetsL (c ∷ cs) i = (aims (c .kind) && (some! (c .arity) && nextIs i cs)) ||
 
 -- `start` of Walk, for a script of n nodes with these targets
 abbrev pub startF : ℕ → (ℕ → Bool) → St
-startF n tg = record { stack = newScope (fn false) ∷ []; changed = false; inlining = false; isFirstRun = true; varDeclKind = vVar; patMode = declaring; inTest = false; conds = 0; nodes = n; targeted = tg }
+startF n tg = record { stack = newScope (fn false) ∷ []; changed = false; inlining = false; isFirstRun = true; varDeclKind = vVar; patMode = declaring; inTest = false; conds = 0; nodes = n; targeted = tg; ended = 0; replaced = 0 }
 
 -- `answer` of Script
 abbrev pub answerF : Script → OutcomeF → Answer

@@ -13,7 +13,7 @@ use Rattle.def_pass.specs.Scope.{VarType, isConst, ScopeKind, cond, loop, block
 use Rattle.def_tree.specs.Tree.{Core, flat}
 use Rattle.def_tree.specs.Combine.{Res, stop, done, M as MS, Nothing, _>>=_, _>>_, ret, refuse, iff, Flat, nodeAt, treeAt, forestAt, Walk as One, Walks as Many, ReWalks, onRest, actN, act, actF, withinF, skip, skips, put, many, splitF, eachButF, onKidsF, reKidsF, same, splitR, cutFirst}
 use Rattle.def_pass.specs.Walk as Walk
-use Rattle.def_pass.specs.Walk.{Outcome, refused, result, rootMarks, setIsFirstRun, St, Handler, hPlain, hScript, hBlock, hDecl, hDeclr, hFun, hIf, hWhile, hFor, hForIn, hTry, hCatch, hCase, hPat, hUnary, hUpdate, hAssign, hCall, hNew, hFunExpr, hArrow, handlers, when, modify, mark, grow, replace, restore, opening, deeper, shallower, setInlining, setVarDeclKind, setPatMode, setInTest, setChanged, declaring, assigning, asParam, asCatch, declKindOf, declareName, writeName, writeTree, writeForest, butLast, storeInlineBarrierM, isBind, patBy, overM, stays, takes, headBind, assignFirst, assignLast, sameIdent, cheapO}
+use Rattle.def_pass.specs.Walk.{Rooted, Outcome, refused, result, rootMarks, setIsFirstRun, St, tally, Handler, hPlain, hScript, hBlock, hDecl, hDeclr, hFun, hIf, hWhile, hFor, hForIn, hTry, hCatch, hCase, hPat, hUnary, hUpdate, hAssign, hCall, hNew, hFunExpr, hArrow, handlers, when, modify, mark, grow, replace, restore, opening, deeper, shallower, setInlining, setVarDeclKind, setPatMode, setInTest, setChanged, declaring, assigning, asParam, asCatch, declKindOf, declareName, writeName, writeTree, writeForest, butLast, storeInlineBarrierM, isBind, patBy, overM, stays, takes, headBind, assignFirst, assignLast, sameIdent, cheapO}
 
 abbrev pub F : Type 0 → Type 0
 F A = MS (Flat St) A
@@ -212,7 +212,7 @@ identAnalysisF i = do
 abbrev pub inlineValueF : WalksF → ℕ → VarInfo → Option Tree → One St
 inlineValueF v p b none i = iff (b .isUndefined) (act (λ t. replace p t voidZero) i >> put voidZero i) (skip i)
 inlineValueF v p b (some e) i = do
-  act (λ t. when (not (sameIdent t e)) (modify (setChanged true))) i
+  act (λ t. when (not (sameIdent t e)) (modify (λ s. tally (num t) (setChanged true s)))) i
   act (λ t. replace p t e) i
   j ← put e i
   logicalF v p i
@@ -264,7 +264,7 @@ runF i = do
 -- the pass: runs until one leaves no mark
 pub data OutcomeF : Type 0 where
   refusedF : ℕ → OutcomeF
-  resultF : ℕ → Bool → List Core → List (ℕ × Bool) → OutcomeF
+  resultF : ℕ → Bool → List Core → List Rooted → OutcomeF
 
 abbrev pub onSt : (St → St) → Flat St → Flat St
 onSt f st = record { nodes = st .nodes; rest = f (st .rest) }

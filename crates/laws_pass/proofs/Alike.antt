@@ -12,7 +12,7 @@ use lib.ListN.{length, getD, length-map, List·getD-map, List·getD-eq-default}
 use Rattle.def_tree.specs.Tree.{Core, flat, plant}
 use Rattle.def_tree.specs.Base.{pick}
 use Rattle.def_pass.specs.Tree.{headT}
-use Rattle.def_pass.specs.Walk.{Outcome, refused, result}
+use Rattle.def_pass.specs.Walk.{Rooted, Outcome, refused, result}
 use Rattle.def_file.specs.declared.Raw.{Raw}
 use Rattle.def_file.specs.Script.{Script, isLit, hasId, sameId, nodeAt, zeroNode, idents}
 use Rattle.def_file.specs.Core.{back, litOut, idOut, plainOut, identAt, coreNodes}
@@ -82,10 +82,10 @@ module _ (a b : Script) (P : Paired a b) where
         ids = λ t. absurd (subst T f t);
       })
 
-  alike-roots : (ms : List (ℕ × Bool)) → All (λ (m : ℕ × Bool). OkId (Named a) (to-ident a) (void-named a) (zero-named a) (m .0)) ms → AlikeRoots a b (map (rootOf a) ms) (map (rootOf b) ms)
+  alike-roots : (ms : List Rooted) → All (λ (m : Rooted). OkId (Named a) (to-ident a) (void-named a) (zero-named a) (m .0)) ms → AlikeRoots a b (map (rootOf a) ms) (map (rootOf b) ms)
   unfolding rootOf
   alike-roots [] h = tt
-  alike-roots (m ∷ ms) h = (together (m .0) (identAt a (m .0)) (identAt b (m .0)) (sameId-refl (identAt a (m .0))) (sameId-refl (identAt b (m .0))) (h .0 .ok .ident tt), refl, alike-roots ms (h .1))
+  alike-roots (m ∷ ms) h = (together (m .0) (identAt a (m .0)) (identAt b (m .0)) (sameId-refl (identAt a (m .0))) (sameId-refl (identAt b (m .0))) (h .0 .ok .ident tt), refl, refl, alike-roots ms (h .1))
 
   zeroCore : Core
   zeroCore = record { kind = 22; form = 0; arity = 0; num = 0 }

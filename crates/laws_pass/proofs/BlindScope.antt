@@ -484,6 +484,29 @@ module _ (r : ℕ → ℕ) where
       ap (λ bs. two (record { kind = s .kind; inlineBarriers = s .inlineBarriers; bindings = bs; unresolvedUsages = us; constants = map onC (s .constants) }) (on st))
       (pick-same (map onB) (Scope.isFn (c .kind)) (Scope.isFn (c .kind)) (s .bindings) (Scope.hoistAll us (c .bindings) (s .bindings)) (map onB (s .bindings)) (Scope.hoistAll us (map onB (c .bindings)) (map onB (s .bindings))) refl refl (hoist-same us (c .bindings) (s .bindings)))
 
+  -- what then ends of the counts
+
+  countsIn-same : (bs : List VarInfo) → Scope.countsIn (map onB bs) ≡ Scope.countsIn bs
+  countsIn-same [] = refl
+  countsIn-same (b ∷ bs) = ap (λ n. b .count + n) (countsIn-same bs)
+
+  countIn-same : (i : ℕ) (bs : List VarInfo) → Scope.countIn i (map onB bs) ≡ Scope.countIn i bs
+  countIn-same i [] = refl
+  countIn-same i (b ∷ bs) = elim-same (λ n. n) (eqb (b .id) i) (eqb (b .id) i) (b .count) (Scope.countIn i bs) (b .count) (Scope.countIn i (map onB bs)) refl refl (countIn-same i bs)
+
+  endingAll-same : (us : ℕ → Bool) (cs bs : List VarInfo) → Scope.endingAll us (map onB cs) (map onB bs) ≡ Scope.endingAll us cs bs
+  endingAll-same us [] bs = refl
+  endingAll-same us (c ∷ cs) bs =
+      let x = pick (Scope.isVar (c .kind)) (Scope.put (Scope.hoist us c) bs) bs in
+      ap₂ (λ m n. m + n) (ap (λ n. pick (Scope.isVar (c .kind)) n (c .count)) (countIn-same (c .id) bs))
+      (ap (Scope.endingAll us (map onB cs)) (pick-same (map onB) (Scope.isVar (c .kind)) (Scope.isVar (c .kind)) (Scope.put (Scope.hoist us c) bs) bs (Scope.put (Scope.hoist us c) (map onB bs)) (map onB bs) refl (put-same (Scope.hoist us c) bs) refl) ∙ endingAll-same us cs x)
+
+  pub ending-same : (st : Stack) → Scope.ending (on st) ≡ Scope.ending st
+  unfolding Scope.ending
+  ending-same [] = refl
+  ending-same (c ∷ []) = countsIn-same (c .bindings)
+  ending-same (c ∷ s ∷ st) = ap₂ (pick (Scope.isFn (c .kind))) (countsIn-same (c .bindings)) (endingAll-same (λ j. c .unresolvedUsages j || s .unresolvedUsages j) (c .bindings) (s .bindings))
+
   -- what row 9 counts
 
   valuesIn-same : (bs : List VarInfo) → Scope.valuesIn (map onB bs) ≡ Scope.valuesIn bs

@@ -17,7 +17,7 @@ use Rattle.def_pass.specs.Walk as Walk
 use Rattle.def_pass.specs.Walk.{St, M, Walks, get, when, modify, mark, grow, inScope, visitMutStmts, plain}
 use Rattle.laws_pass.proofs.Tests.{is-T, and-left}
 use Rattle.laws_pass.proofs.Blind.{pick-same, elim-same, onO, Bound, bound, ident-num, same-kind, same-form, same-head, same-tail, same-butLast, same-count, same-targets, same-flagged, same-height, same-this, same-idents, same-identsF, same-void}
-use Rattle.laws_pass.proofs.BlindScope.{onB, onOB, onI, on, find-same, here-same, const-same, change-same, prevent-same, addRead-same, addWrite-same, sensitive-same, barrier-same, addConst-same, identOf-same, prevented-same, preventedO-same, varPrevented-same, sameThis-same, declare-same, close-same, recorded-same, live-same}
+use Rattle.laws_pass.proofs.BlindScope.{onB, onOB, onI, on, find-same, here-same, const-same, change-same, prevent-same, addRead-same, addWrite-same, sensitive-same, barrier-same, addConst-same, identOf-same, prevented-same, preventedO-same, varPrevented-same, sameThis-same, declare-same, close-same, ending-same, recorded-same, live-same}
 
 module _ (r : ℕ → ℕ) where
   abbrev pub rel : Tree → Tree
@@ -124,7 +124,7 @@ module _ (r : ℕ → ℕ) where
 
   pub inScope-eq : {A : Type 0} {e : A → A} (k : Scope.ScopeKind) {m m′ : M A} → Eq e m m′ → Eq e (inScope k m) (inScope k m′)
   unfolding inScope
-  inScope-eq k h = within-eq Walk.restore (opening-eq k) (λ old s. ap (λ (x : Stack). record { stack = x; changed = s .changed; inlining = old .inlining; isFirstRun = s .isFirstRun; varDeclKind = old .varDeclKind; patMode = old .patMode; inTest = old .inTest; conds = s .conds; nodes = s .nodes; targeted = s .targeted }) (close-same r (s .stack))) h
+  inScope-eq k h = within-eq Walk.restore (opening-eq k) (λ old s. ap₂ (λ (x : Stack) (n : ℕ). record { stack = x; changed = s .changed; inlining = old .inlining; isFirstRun = s .isFirstRun; varDeclKind = old .varDeclKind; patMode = old .patMode; inTest = old .inTest; conds = s .conds; nodes = s .nodes; targeted = s .targeted; ended = Scope.wrap (s .ended + n); replaced = s .replaced }) (close-same r (s .stack)) (ending-same r (s .stack))) h
 
   deeper-eq : Eq keep Walk.deeper Walk.deeper
   unfolding Walk.deeper
@@ -640,10 +640,13 @@ module _ (r : ℕ → ℕ) where
           go false e = refl
           go true e = ap₂ eqb (ident-num r (node k f a ts) (is-T (eqb k 21) e)) N
 
+      tally-eq : Eq keep (modify (λ s. Walk.tally (num t) (Walk.setChanged true s))) (modify (λ s. Walk.tally (num (rel t)) (Walk.setChanged true s)))
+      tally-eq = record { from = λ s. ap {B = Res St Nothing} (λ (x : Stack). done (Walk.setReplaced (Scope.wrap (s .replaced + 1)) (Walk.setStack x (Walk.setChanged true s))) tt) (ap (λ (i : ℕ). Scope.change i Scope.countOne (on r (s .stack))) N ∙ change-same r (num t) Scope.countOne Scope.countOne (λ b. refl) (s .stack)) }
+
       inlineValue-eq : r 0 ≡ 0 → (b : VarInfo) (v : Option Tree) → Eq rel (Walk.inlineValue w p t b v) (Walk.inlineValue w p (rel t) (onB r b) (onO r v))
       unfolding Walk.inlineValue
       inlineValue-eq r0 b none = iff-by (b .isUndefined) (λ u. after (replace-eq p t voidZero (rel t) voidZero (same-count r t) refl refl) (ret-to voidZero voidZero (sym (same-void r r0)))) (ret-eq t)
-      inlineValue-eq r0 b (some e) = after (when-eq (not (Walk.sameIdent t e)) (not (Walk.sameIdent (rel t) (rel e))) (ap not (sameIdent-same e)) (mod-eq (Walk.setChanged true) (λ s. refl)))
+      inlineValue-eq r0 b (some e) = after (when-eq (not (Walk.sameIdent t e)) (not (Walk.sameIdent (rel t) (rel e))) (ap not (sameIdent-same e)) tally-eq)
           (after (replace-eq p t e (rel t) (rel e) (same-count r t) (same-count r e) (same-height r e)) (logical-eq p e))
 
       identInlining-eq : r 0 ≡ 0 → Eq rel (Walk.identInlining w p t) (Walk.identInlining w p (rel t))
@@ -692,12 +695,12 @@ module _ (r : ℕ → ℕ) where
   marks-same [] = refl
   marks-same (s ∷ []) = go (s .bindings)
     where
-      one : VarInfo → ℕ × Bool
-      one b = (b .id, b .inlinePrevented)
+      one : VarInfo → Walk.Rooted
+      one b = (b .id, b .inlinePrevented, b .count)
 
       go : (bs : List VarInfo) → map one (map (onB r) bs) ≡ map one bs
       go [] = refl
-      go (b ∷ bs) = ap (λ (ms : List (ℕ × Bool)). one b ∷ ms) (go bs)
+      go (b ∷ bs) = ap (λ (ms : List Walk.Rooted). one b ∷ ms) (go bs)
   marks-same (s ∷ q ∷ st) = marks-same (q ∷ st)
 
   again-same : (k : ℕ) (go : Tree → St → Walk.Outcome) → ((t : Tree) (s : St) → go (rel t) (lab s) ≡ relabelOut r (go t s)) → (x : Res St Tree) → Walk.again go k (mapR rel x) ≡ relabelOut r (Walk.again go k x)
@@ -714,7 +717,7 @@ module _ (r : ℕ → ℕ) where
   start-is t = ap₂ (λ (n : ℕ) (tg : ℕ → Bool). begin n tg) (same-count r t) (fun-ext (λ i. same-targets r i t))
     where
       begin : ℕ → (ℕ → Bool) → St
-      begin n tg = record { stack = Scope.newScope (Scope.fn false) ∷ []; changed = false; inlining = false; isFirstRun = true; varDeclKind = Scope.vVar; patMode = Walk.declaring; inTest = false; conds = 0; nodes = n; targeted = tg }
+      begin n tg = record { stack = Scope.newScope (Scope.fn false) ∷ []; changed = false; inlining = false; isFirstRun = true; varDeclKind = Scope.vVar; patMode = Walk.declaring; inTest = false; conds = 0; nodes = n; targeted = tg; ended = 0; replaced = 0 }
 
 -- relabelling the origins and then passing is passing and then relabelling
 pub origin-blind : OriginBlind

@@ -16,110 +16,32 @@ use Rattle.def_pass.specs.Scope as Scope
 use Rattle.def_pass.specs.Scope.{VarInfo, Stack, Free}
 use Rattle.def_pass.specs.Walk as Walk
 use Rattle.def_pass.specs.Walk.{St}
-use Rattle.laws_pass.specs.Constants.{Step, opens, closes, prevents, reads, writes, senses, bars, declares, stores, begins, fixes, Reached, first, step, same, full, bare, inner, LookUpFree}
+use Rattle.laws_pass.specs.Reached.{Step, opens, prevents, reads, writes, senses, bars, declares, stores, begins, fixes, Reached, first, step, closes, counts, same, full, bare, inner}
+use Rattle.laws_pass.specs.Constants.{LookUpFree}
 use Rattle.laws_pass.proofs.Tests.{elim-ok}
 use Rattle.laws_pass.proofs.Keep.{All}
+use Rattle.laws_pass.proofs.Measure.{Const, Kept, all, same-prevent, same-change, same-read, same-write, same-barrier, same-sensitive, same-declare}
 use Rattle.laws_pass.proofs.Effects.{Went, full-does, bare-does, inner-does}
 use Rattle.laws_pass.proofs.StateLaws.{StateLaw, StateEffects, law, effects}
 
-abbrev Const : Type 0
-Const = ℕ × Option Tree
-
 -- the constants of the open scopes: no step but `addConst`, and the ends of scopes, changes them
+abbrev per : List VarInfo → List Const → List Const
+per bs cs = cs
+
+untouched : Kept per
+untouched = record { mapped = λ f e bs cs. refl; changed = λ i f e bs cs. refl; appended = λ b e bs cs. refl }
+
 abbrev consts : Stack → List (List Const)
-consts [] = []
-consts (s ∷ st) = s .constants ∷ consts st
+consts st = all per st
 
-same-pick : (c : Bool) (x y : Stack) {k : List (List Const)} → consts x ≡ k → consts y ≡ k → consts (pick c x y) ≡ k
-same-pick true x y h k = h
-same-pick false x y h k = k
-
-same-prevent : (i : ℕ) (st : Stack) → consts (Scope.preventInline i st) ≡ consts st
-same-prevent i [] = refl
-same-prevent i (s ∷ st) = ap (λ (l : List (List Const)). s .constants ∷ l) (same-prevent i st)
-
-same-params : (st : Stack) → consts (Scope.preventInlineOfParams st) ≡ consts st
-same-params [] = refl
-same-params (s ∷ st) = ap (λ (l : List (List Const)). s .constants ∷ l) (go (Scope.isFn (s .kind)) (same-params st))
-  where
-    go : (c : Bool) → consts (Scope.preventInlineOfParams st) ≡ consts st → consts (elim c [ true ↦ st | false ↦ Scope.preventInlineOfParams st ]) ≡ consts st
-    go true h = refl
-    go false h = h
-
-same-change : (i : ℕ) (f : VarInfo → VarInfo) (st : Stack) → consts (Scope.change i f st) ≡ consts st
-same-change i f [] = refl
-same-change i f (s ∷ st) = go (Scope.hasIn i (s .bindings)) (same-change i f st)
+-- any change of a binding keeps them
+same-change-any : (i : ℕ) (f : VarInfo → VarInfo) (st : Stack) → consts (Scope.change i f st) ≡ consts st
+same-change-any i f [] = refl
+same-change-any i f (s ∷ st) = go (Scope.hasIn i (s .bindings)) (same-change-any i f st)
   where
     go : (c : Bool) → consts (Scope.change i f st) ≡ consts st → consts (elim c [ true ↦ Scope.onBindings (Scope.changeIn i f) s ∷ st | false ↦ s ∷ Scope.change i f st ]) ≡ s .constants ∷ consts st
     go true h = refl
     go false h = ap (λ (l : List (List Const)). s .constants ∷ l) h
-
-same-unresolved : (i : ℕ) (st : Stack) → consts (Scope.addUnresolved i st) ≡ consts st
-same-unresolved i [] = refl
-same-unresolved i (s ∷ st) = refl
-
-same-append : (b : VarInfo) (st : Stack) → consts (Scope.append b st) ≡ consts st
-same-append b [] = refl
-same-append b (s ∷ st) = refl
-
--- what add_read and add_write do first
-same-first : (a g : Bool) (i : ℕ) (st : Stack) → (let st₁ = pick a (Scope.preventInline i st) st in consts (pick g (Scope.preventInlineOfParams st₁) st₁)) ≡ consts st
-same-first a g i st =
-    let st₁ = pick a (Scope.preventInline i st) st in
-    let h = same-pick a (Scope.preventInline i st) st (same-prevent i st) refl in
-    same-pick g (Scope.preventInlineOfParams st₁) st₁ (same-params st₁ ∙ h) h
-
-same-read : (i : ℕ) (g : Bool) (st : Stack) → consts (Scope.addRead i g st) ≡ consts st
-unfolding Scope.addRead
-same-read i g st =
-    let st₁ = pick (Scope.readPreventsInlining i st) (Scope.preventInline i st) st in
-    let st₂ = pick g (Scope.preventInlineOfParams st₁) st₁ in
-    let h = same-first (Scope.readPreventsInlining i st) g i st in
-    same-pick (Scope.isSome (Scope.findBinding i st₂)) (Scope.change i Scope.readOnce st₂) (Scope.addUnresolved i st₂) (same-change i Scope.readOnce st₂ ∙ h) (same-unresolved i st₂ ∙ h)
-
-same-write : (i : ℕ) (g force : Bool) (st : Stack) → consts (Scope.addWrite i g force st) ≡ consts st
-unfolding Scope.addWrite
-same-write i g force st =
-    let st₁ = pick (Scope.writePreventsInline i st) (Scope.preventInline i st) st in
-    let st₂ = pick g (Scope.preventInlineOfParams st₁) st₁ in
-    let st₃ = Scope.change i Scope.defined st₂ in
-    let new = Scope.append (Scope.fresh i Scope.vVar none force false none) st₂ in
-    let w = Scope.scopeFor true i st₂ in
-    let h = same-first (Scope.writePreventsInline i st) g i st in
-    let h₃ = same-change i Scope.defined st₂ ∙ h in
-    same-pick (w .0) (pick (not (w .1) || force) (Scope.preventInline i st₃) st₃) (pick (Scope.hasConstant i st₂) st₂ new)
-    (same-pick (not (w .1) || force) (Scope.preventInline i st₃) st₃ (same-prevent i st₃ ∙ h₃) h₃)
-    (same-pick (Scope.hasConstant i st₂) st₂ new h (same-append (Scope.fresh i Scope.vVar none force false none) st₂ ∙ h))
-
-same-barrier : (st : Stack) → consts (Scope.storeInlineBarrier st) ≡ consts st
-same-barrier [] = refl
-same-barrier (s ∷ st) = ap (λ (l : List (List Const)). s .constants ∷ l) (same-barrier st)
-
-same-sensitive : (i : Option ℕ) (st : Stack) → consts (Scope.markThisSensitive i st) ≡ consts st
-same-sensitive none st = refl
-same-sensitive (some i) st = same-change i Scope.sensitiveNow st
-
-same-preventO : (i : Option ℕ) (st : Stack) → consts (Scope.preventInlineO i st) ≡ consts st
-same-preventO none st = refl
-same-preventO (some i) st = same-prevent i st
-
-same-declare : (again : Bool) (i : ℕ) (v : Scope.Init) (u : Bool) (k : Scope.VarType) (st : Stack) → consts (Scope.declare again i v u k st) ≡ consts st
-unfolding Scope.declare
-same-declare again i v u k [] = refl
-same-declare again i v u k (s ∷ st) =
-    let e = Scope.initOf v in
-    let target = Scope.idxValO (Scope.identOf e) (s .bindings) in
-    let al = Scope.aliasFrom target in
-    let p = again || Scope.shouldPreventInlineBecauseOfScope i (s ∷ st) || Scope.preventedO e (s ∷ st) in
-    let idx = Scope.placeOr (length (s .bindings)) (Scope.idxVal 0 i (s .bindings)) in
-    let old = Scope.findIn i (s .bindings) in
-    let new = pick (Scope.isSome old) (Scope.changeIn i (Scope.redeclare p u (Scope.kept v (Scope.valueO old))) (s .bindings)) (s .bindings ++ (Scope.fresh i k al p u (Scope.kept v none) ∷ [])) in
-    let st₁ : Stack = Scope.onBindings (λ bs. new) s ∷ st in
-    let st₂ = pick (Scope.inLoop (s ∷ st)) (Scope.preventInline i st₁) st₁ in
-    let works = not (Scope.isParam k) && not (Scope.paramO al) in
-    let h : consts st₂ ≡ s .constants ∷ consts st = same-pick (Scope.inLoop (s ∷ st)) (Scope.preventInline i st₁) st₁ (same-prevent i st₁) refl in
-    same-pick (works && Scope.barred target idx (s .inlineBarriers)) (Scope.preventInlineO (Scope.identOf e) (Scope.preventInline i st₂)) st₂
-    (same-preventO (Scope.identOf e) (Scope.preventInline i st₂) ∙ same-prevent i st₂ ∙ h) h
 
 -- all of them are free
 module _ (tg : ℕ → Bool) where
@@ -186,17 +108,18 @@ stays = record {
   nine = tt;
   recount = λ t e s o h. (o, refl);
   leave = λ n e s o. (o, refl);
-  write = λ i g force n s o. (kept (Scope.addWrite i g force) (same-write i g force) s o, refl);
-  declare = λ again i v u k n s o. (kept (Scope.declare again i v u k) (same-declare again i v u k) s o, refl);
+  write = λ i g force n s o. (kept (Scope.addWrite i g force) (same-write per untouched i g force) s o, refl);
+  declare = λ again i v u k n s o. (kept (Scope.declare again i v u k) (same-declare per untouched again i v u k) s o, refl);
   const = λ i v n s o. (free-add (s .targeted) i v (s .stack) o, refl);
-  prevent = λ i n s o. (kept (Scope.preventInline i) (same-prevent i) s o, refl);
-  read = λ i g n s o. (kept (Scope.addRead i g) (same-read i g) s o, refl);
-  store = λ i v n s o. (kept (Scope.change i (Scope.withValue v)) (same-change i (Scope.withValue v)) s o, refl);
-  sensitive = λ i n s o. (kept (Scope.markThisSensitive i) (same-sensitive i) s o, refl);
-  barrier = λ n s o. (kept Scope.storeInlineBarrier same-barrier s o, refl);
+  prevent = λ i n s o. (kept (Scope.preventInline i) (same-prevent per untouched i) s o, refl);
+  read = λ i g n s o. (kept (Scope.addRead i g) (same-read per untouched i g) s o, refl);
+  store = λ i v n s o. (kept (Scope.change i (Scope.withValue v)) (same-change per untouched i (Scope.withValue v) (λ b. refl)) s o, refl);
+  sensitive = λ i n s o. (kept (Scope.markThisSensitive i) (same-sensitive per untouched i) s o, refl);
+  tally = λ i n s f o. (kept (Scope.change i Scope.countOne) (same-change-any i Scope.countOne) s o, refl);
+  barrier = λ n s o. (kept Scope.storeInlineBarrier (same-barrier per untouched) s o, refl);
   opened = λ k s o. (tt, o);
   closed = λ k m n s s′ o o′ h. (free-close (s′ .targeted) (s′ .stack) o′, h);
-  fields = λ n s s′ e d g o. (subst (λ (tg : ℕ → Bool). FreeSt tg (s′ .stack)) (sym g) (subst (FreeSt (s .targeted)) (sym e) o), g);
+  fields = λ n s s′ e o. (subst (λ (tg : ℕ → Bool). FreeSt tg (s′ .stack)) (sym (e .2)) (subst (FreeSt (s .targeted)) (sym (e .0)) o), e .2);
 }
 
 -- a state that is reached
@@ -205,15 +128,14 @@ Good tg s = FreeSt tg (s .stack) × (s .targeted ≡ tg)
 
 stepped : {tg : ℕ → Bool} {f : Stack → Stack} → Step tg f → (st : Stack) → FreeSt tg st → FreeSt tg (f st)
 stepped (opens k) st h = (tt, h)
-stepped {tg} closes st h = free-close tg st h
-stepped {tg} (prevents i) st h = subst (All (FreeC tg)) (sym (same-prevent i st)) h
-stepped {tg} (reads i a) st h = subst (All (FreeC tg)) (sym (same-read i a st)) h
-stepped {tg} (writes i a b) st h = subst (All (FreeC tg)) (sym (same-write i a b st)) h
-stepped {tg} (senses i) st h = subst (All (FreeC tg)) (sym (same-sensitive i st)) h
-stepped {tg} bars st h = subst (All (FreeC tg)) (sym (same-barrier st)) h
-stepped {tg} (declares again i v u k) st h = subst (All (FreeC tg)) (sym (same-declare again i v u k st)) h
-stepped {tg} (stores i v) st h = subst (All (FreeC tg)) (sym (same-change i (Scope.withValue v) st)) h
-stepped {tg} (begins i v) st h = subst (All (FreeC tg)) (sym (same-change i (λ b. Scope.defined (Scope.withValue v b)) st)) h
+stepped {tg} (prevents i) st h = subst (All (FreeC tg)) (sym (same-prevent per untouched i st)) h
+stepped {tg} (reads i a) st h = subst (All (FreeC tg)) (sym (same-read per untouched i a st)) h
+stepped {tg} (writes i a b) st h = subst (All (FreeC tg)) (sym (same-write per untouched i a b st)) h
+stepped {tg} (senses i) st h = subst (All (FreeC tg)) (sym (same-sensitive per untouched i st)) h
+stepped {tg} bars st h = subst (All (FreeC tg)) (sym (same-barrier per untouched st)) h
+stepped {tg} (declares again i v u k) st h = subst (All (FreeC tg)) (sym (same-declare per untouched again i v u k st)) h
+stepped {tg} (stores i v) st h = subst (All (FreeC tg)) (sym (same-change per untouched i (Scope.withValue v) (λ b. refl) st)) h
+stepped {tg} (begins i v) st h = subst (All (FreeC tg)) (sym (same-change per untouched i (λ b. Scope.defined (Scope.withValue v b)) (λ b. refl) st)) h
 stepped {tg} (fixes i v) st h = free-add tg i v st h
 
 -- from a walk's law to the state after it
@@ -223,10 +145,16 @@ next tg p u u′ s s′ r g h e =
     let q : s′ .targeted ≡ tg = k .1 ∙ g .1 in
     (subst (λ (c : ℕ → Bool). FreeSt c (s′ .stack)) q (k .0), q)
 
+ended : (tg : ℕ → Bool) (old s : St) → Good tg s → Good tg (Walk.restore old s)
+unfolding Walk.restore
+ended tg old s h = (free-close tg (s .stack) (h .0), h .1)
+
 reached : (t : Tree) {s : St} → Reached t s → Good (targets t) s
 reached t first = ((tt, tt), refl)
 reached t (step f s g r) = (let h = reached t r in (stepped g (s .stack) (h .0), h .1))
-reached t (same s s′ r a b) = (let h = reached t r in (subst (FreeSt (targets t)) (sym a) (h .0), b ∙ h .1))
+reached t (closes old s r) = (let h = reached t r in ended (targets t) old s h)
+reached t (counts i s f r) = (let h = reached t r in (subst (All (FreeC (targets t))) (sym (same-change-any i Scope.countOne (s .stack))) (h .0), h .1))
+reached t (same s s′ r a b c d) = (let h = reached t r in (subst (FreeSt (targets t)) (sym a) (h .0), b ∙ h .1))
 reached t (full d p u u′ s s′ r e) = next (targets t) p u u′ s s′ (Walk.walks d .full p u s) (reached t r) (λ o. full-does (law free) (effects free stays) d p u tt s o) e
 reached t (bare d p u u′ s s′ r e) = next (targets t) p u u′ s s′ (Walk.walks d .bare p u s) (reached t r) (λ o. bare-does (law free) (effects free stays) d p u tt s o) e
 reached t (inner d p u u′ s s′ r e) = next (targets t) p u u′ s s′ (Walk.walks d .inner p u s) (reached t r) (λ o. inner-does (law free) (effects free stays) d p u (λ x. absurd x) tt s o) e

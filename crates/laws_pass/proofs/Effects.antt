@@ -1,6 +1,6 @@
 -- The induction over the walks, once for every law of them. A law is told by what holds of states, trees, values and refusals, how a state and
 -- a tree may move, and why each of the changes that the walks make is such a move (Effects). Then every walk, run and pass does it. Assumes nothing.
-use mathlib.Core.Path.{_≡_, refl, sym, subst}
+use mathlib.Core.Path.{_≡_, refl, sym, ap, subst}
 use mathlib.Core.Bool.{Bool, true, false, _&&_, not, _||_}
 use mathlib.Core.Option.{Option, none, some}
 use mathlib.Core.List.{List, [], _∷_}
@@ -41,6 +41,10 @@ pub record Law : Type 1 where
 -- a state in a new scope
 abbrev pub inside : Scope.ScopeKind → St → St
 inside k s = Walk.setVarDeclKind Scope.vVar (Walk.setStack (Scope.newScope k ∷ s .stack) s)
+
+-- s′ differs from s in the visitor's other fields alone
+abbrev pub Aside : St → St → Type 0
+Aside s s′ = (s′ .stack ≡ s .stack) × (s′ .nodes ≡ s .nodes) × (s′ .targeted ≡ s .targeted) × (s′ .ended ≡ s .ended) × (s′ .replaced ≡ s .replaced)
 
 -- what is updated stays, and an assignment's target
 abbrev pub fixed : ℕ → Bool
@@ -180,11 +184,13 @@ module _ (L : Law) where
     pub store : (i : ℕ) (v : Option Tree) → VO v → On (Scope.change i (Scope.withValue v))
     pub sensitive : (i : Option ℕ) → On (Scope.markThisSensitive i)
     pub barrier : On Scope.storeInlineBarrier
+    -- a replacement is counted at the binding found
+    pub tally : (i n : ℕ) (s : St) → Scope.isSome (Scope.findBinding i (s .stack)) ≡ true → L .Inv s → Moves n s (Walk.tally i s)
     -- a scope is opened, and closed
     pub opened : (k : Scope.ScopeKind) (s : St) → L .Inv s → L .Inv (inside k s)
     pub closed : (k : Scope.ScopeKind) (m n : ℕ) (s s′ : St) → L .Inv s → L .Inv s′ → L .Move m (inside k s) n s′ → L .Inv (Walk.restore s s′) × L .Move m s n (Walk.restore s s′)
     -- the visitor's other fields, also between two runs
-    pub fields : (n : ℕ) (s s′ : St) → s′ .stack ≡ s .stack → s′ .nodes ≡ s .nodes → s′ .targeted ≡ s .targeted → L .Inv s → Moves n s s′
+    pub fields : (n : ℕ) (s s′ : St) → Aside s s′ → L .Inv s → Moves n s s′
 
   -- what is then so
 
@@ -201,7 +207,7 @@ module _ (L : Law) where
   Went p t s r = Out count (count t) (To p t) s r
 
   -- the runs on t from s on
-  pub record Ended (t : Tree) (s : St) (u : Tree) (ms : List (ℕ × Bool)) : Type 0 where
+  pub record Ended (t : Tree) (s : St) (u : Tree) (ms : List Walk.Rooted) : Type 0 where
     pub last : St
     pub inv : L .Inv last
     pub moved : L .Move (count t) s (count u) last
@@ -235,16 +241,17 @@ module _ (L : Law) where
     abbrev at : {A : Type 0} → ℕ → A → ℕ
     at n a = n
 
-    bind : {A C : Type 0} {v : A → ℕ} {m : ℕ} {B : A → Type 0} {w : C → ℕ} {D : C → Type 0} {f : M A} {g : A → M C} → Pres v m B f → ((a : A) → B a → Pres w (v a) D (g a)) → Pres w m D (f >>= g)
-    bind {A} {C} {v} {m} {B} {w} {D} {f} {g} h k = record { from = λ s o. go s (f s) (h .from s o) }
+    -- a step, from one state, and what follows it
+    bind-at : {A C : Type 0} (v : A → ℕ) (m : ℕ) (B : A → Type 0) (w : C → ℕ) (D : C → Type 0) (g : A → M C) (s : St) (r : Res St A) → Out v m B s r → ((a : A) → B a → Pres w (v a) D (g a)) → Out w m D s (andThen r g)
+    bind-at v m B w D g s (stop n) o k = o
+    bind-at {A} {C} v m B w D g s (done s₁ a) o k = end (g a s₁) (k a (o .2) .from s₁ (o .0))
       where
-        end : (s s₁ : St) (a : A) (r : Res St C) → L .Move m s (v a) s₁ → Out w (v a) D s₁ r → Out w m D s r
-        end s s₁ a (stop n) e o = o
-        end s s₁ a (done s₂ c) e o = (o .0, E .s-trans m (v a) (w c) s s₁ s₂ e (o .1), o .2)
+        end : (r : Res St C) → Out w (v a) D s₁ r → Out w m D s r
+        end (stop n) q = q
+        end (done s₂ c) q = (q .0, E .s-trans m (v a) (w c) s s₁ s₂ (o .1) (q .1), q .2)
 
-        go : (s : St) (r : Res St A) → Out v m B s r → Out w m D s (andThen r g)
-        go s (stop n) o = o
-        go s (done s₁ a) o = end s s₁ a (g a s₁) (o .1) (k a (o .2) .from s₁ (o .0))
+    bind : {A C : Type 0} {v : A → ℕ} {m : ℕ} {B : A → Type 0} {w : C → ℕ} {D : C → Type 0} {f : M A} {g : A → M C} → Pres v m B f → ((a : A) → B a → Pres w (v a) D (g a)) → Pres w m D (f >>= g)
+    bind {A} {C} {v} {m} {B} {w} {D} {f} {g} h k = record { from = λ s o. bind-at v m B w D g s (f s) (h .from s o) k }
 
     after : {A C : Type 0} {m n : ℕ} {B : A → Type 0} {w : C → ℕ} {D : C → Type 0} {f : M A} {g : M C} → Pres (at n) m B f → Pres w n D g → Pres w m D (f >> g)
     after {A} {C} {m} {n} {B} {w} {D} {f} {g} h k = bind {f = f} {g = λ a. g} h λ a b. k
@@ -299,8 +306,8 @@ module _ (L : Law) where
     when-ok : {n : ℕ} (c : Bool) {f : M Nothing} → Pres (at n) n Any f → Pres (at n) n Any (when c f)
     when-ok c h = when-by c λ b. h
 
-    mod-ok : {n : ℕ} (f : St → St) → ((s : St) → f s .stack ≡ s .stack) → ((s : St) → f s .nodes ≡ s .nodes) → ((s : St) → f s .targeted ≡ s .targeted) → Pres (at n) n Any (modify f)
-    mod-ok {n} f e d g = record { from = λ s o. (let h = E .fields n s (f s) (e s) (d s) (g s) o in (h .0, h .1, tt)) }
+    mod-ok : {n : ℕ} (f : St → St) → ((s : St) → Aside s (f s)) → Pres (at n) n Any (modify f)
+    mod-ok {n} f e = record { from = λ s o. (let h = E .fields n s (f s) (e s) o in (h .0, h .1, tt)) }
 
     mark-ok : {n : ℕ} (f : Scope.Stack → Scope.Stack) → On f → Pres (at n) n Any (mark f)
     mark-ok {n} f h = record { from = λ s o. (let k = h n s o in (k .0, k .1, tt)) }
@@ -340,14 +347,14 @@ module _ (L : Law) where
         last : (s s₁ : St) → L .Move m s m s₁ → (r : Res St A) → Out v m B s₁ r → Out v m B s (andThen r (λ a s₂. done (Walk.shallower s s₂) a))
         last s s₁ e (stop n) q = q
         last s s₁ e (done s₂ a) q =
-            let c = E .fields (v a) s₂ (Walk.shallower s s₂) refl refl refl (q .0) in
+            let c = E .fields (v a) s₂ (Walk.shallower s s₂) (refl, refl, refl, refl, refl) (q .0) in
             (c .0, E .s-trans m m (v a) s s₁ (Walk.shallower s s₂) e (E .s-trans m (v a) (v a) s₁ s₂ (Walk.shallower s s₂) (q .1) (c .1)), q .2)
 
         go : (s : St) → L .Inv s → (c : Bool) → Out v m B s (andThen {S = St} {A = Nothing} {B = A} (elim c [ true ↦ stop 8 | false ↦ done (Walk.setConds (suc (s .conds)) s) tt ]) (λ u s₁. andThen (inScope Scope.cond f s₁) (λ a s₂. done (Walk.shallower s s₂) a)))
         go s o true = E .eight
         go s o false =
             let s₁ = Walk.setConds (suc (s .conds)) s in
-            let c = E .fields m s s₁ refl refl refl o in
+            let c = E .fields m s s₁ (refl, refl, refl, refl, refl) o in
             last s s₁ (c .1) (inScope Scope.cond f s₁) (inScope-ok Scope.cond h .from s₁ (c .0))
 
     -- on forests
@@ -505,13 +512,18 @@ module _ (L : Law) where
     leave-ok {n} e = record { from = λ s o. (let h = E .leave n e s o in (h .0, h .1, tt)) }
 
     -- by the binding of an identifier
+    byFound-ok : {A : Type 0} {v : A → ℕ} {n : ℕ} {B : A → Type 0} (i : ℕ) (m : M A) (k : Scope.VarInfo → M A) → Pres v n B m
+        → ((b : Scope.VarInfo) → VO (b .value) → (s : St) → Scope.isSome (Scope.findBinding i (s .stack)) ≡ true → L .Inv s → Out v n B s (k b s))
+        → Pres v n B (λ s. elim (Scope.findBinding i (s .stack)) [ none ↦ m s | some b ↦ k b s ])
+    byFound-ok {A} {v} {n} {B} i m k h l = record { from = λ s o. go s o (Scope.findBinding i (s .stack)) refl (E .value i s o) }
+      where
+        go : (s : St) → L .Inv s → (f : Option Scope.VarInfo) → Scope.findBinding i (s .stack) ≡ f → VB f → Out v n B s (elim f as (λ x. Res St A) [ none ↦ m s | some b ↦ k b s ])
+        go s o none e g = h .from s o
+        go s o (some b) e g = l b g s (ap Scope.isSome e) o
+
     byFind-ok : {A : Type 0} {v : A → ℕ} {n : ℕ} {B : A → Type 0} (i : ℕ) (m : M A) (k : Scope.VarInfo → M A) → Pres v n B m → ((b : Scope.VarInfo) → VO (b .value) → Pres v n B (k b))
         → Pres v n B (λ s. elim (Scope.findBinding i (s .stack)) [ none ↦ m s | some b ↦ k b s ])
-    byFind-ok {A} {v} {n} {B} i m k h l = record { from = λ s o. go s o (Scope.findBinding i (s .stack)) (E .value i s o) }
-      where
-        go : (s : St) → L .Inv s → (f : Option Scope.VarInfo) → VB f → Out v n B s (elim f as (λ x. Res St A) [ none ↦ m s | some b ↦ k b s ])
-        go s o none g = h .from s o
-        go s o (some b) g = l b g .from s o
+    byFind-ok i m k h l = byFound-ok i m k h (λ b g s e o. l b g .from s o)
 
     byHere-ok : {A : Type 0} {v : A → ℕ} {n : ℕ} {B : A → Type 0} (i : ℕ) (m : M A) (k : Scope.VarInfo → M A) → Pres v n B m → ((b : Scope.VarInfo) → Pres v n B (k b))
         → Pres v n B (λ s. elim (Scope.findBindingFromCurrent i (s .stack)) [ none ↦ m s | some b ↦ k b s ])
@@ -590,8 +602,8 @@ module _ (L : Law) where
       stmts-ok : (p : ℕ) (ts : Forest) → GF p ts → WF p ts (visitMutStmts w p ts)
       unfolding visitMutStmts
       stmts-ok p ts o = byState-ok _ λ s g. iff-ok (s .inlining)
-          (after (mod-ok (Walk.setInlining false) (λ s. refl) (λ s. refl) (λ s. refl)) (bind (each-ok p (w .full p) (W .full p) ts o) λ us q.
-          after (mod-ok (Walk.setInlining true) (λ s. refl) (λ s. refl) (λ s. refl)) (weaken (λ vs r. (r .0, qf-trans ts us vs (q .1) (r .1))) (each-ok p (w .full p) (W .full p) us (q .0)))))
+          (after (mod-ok (Walk.setInlining false) (λ s. (refl, refl, refl, refl, refl))) (bind (each-ok p (w .full p) (W .full p) ts o) λ us q.
+          after (mod-ok (Walk.setInlining true) (λ s. (refl, refl, refl, refl, refl))) (weaken (λ vs r. (r .0, qf-trans ts us vs (q .1) (r .1))) (each-ok p (w .full p) (W .full p) us (q .0)))))
           (each-ok p (w .full p) (W .full p) ts o)
 
       plain-ok : (p : ℕ) (t : Tree) → Other t → L .Good p t → WO p t (plain w p t)
@@ -611,7 +623,7 @@ module _ (L : Law) where
 
       decl-ok : (p : ℕ) (t : Tree) → Other t → L .Good p t → WO p t (Walk.visitMutVarDecl w p t)
       unfolding Walk.visitMutVarDecl
-      decl-ok p t n o = after (mod-ok (Walk.setVarDeclKind (Walk.declKindOf (form t))) (λ s. refl) (λ s. refl) (λ s. refl)) (plain-ok p t n o)
+      decl-ok p t n o = after (mod-ok (Walk.setVarDeclKind (Walk.declKindOf (form t))) (λ s. (refl, refl, refl, refl, refl))) (plain-ok p t n o)
 
       -- a declarator
       module _ (p k f a : ℕ) (six : T (eqb k 6)) (n : L .Tells → T (fixed k) → ⊥) where
@@ -661,7 +673,7 @@ module _ (L : Law) where
         declrKids-ok : (ts : Forest) → L .Good p (node k f a ts) → WO p (node k f a ts) (Walk.visitMutVarDeclarator w p (node k f a ts))
         unfolding Walk.visitMutVarDeclarator
         declrKids-ok ts o = nodeN-ok p k f a declrKids ts (bind (promote p k f a ts n o (split-ok (suc p) ret (each (w .full (suc p))) (keep-ok (suc p)) (each-ok (suc p) (w .full (suc p)) (W .full (suc p))) ts (E .kids p k f a ts o))) λ us q.
-            after (mod-ok (Walk.setPatMode Walk.declaring) (λ s. refl) (λ s. refl) (λ s. refl)) (byState-ok (λ s. Walk.declrTo w p (Walk.headBind us) (s .inlining) (s .varDeclKind) us) λ s h.
+            after (mod-ok (Walk.setPatMode Walk.declaring) (λ s. (refl, refl, refl, refl, refl))) (byState-ok (λ s. Walk.declrTo w p (Walk.headBind us) (s .inlining) (s .varDeclKind) us) λ s h.
             weaken (λ vs r. (r .0, E .q-trans (node k f a ts) (node k f a us) (node k f a vs) (q .1) (r .1))) (declrTo-ok (Walk.headBind us) (headBind-ok (suc p) us (E .kids p k f a us (q .0))) (s .inlining) (s .varDeclKind) us (q .0))))
 
       declr-ok : (p : ℕ) (t : Tree) → T (eqb (kind t) 6) → Other t → L .Good p t → WO p t (Walk.visitMutVarDeclarator w p t)
@@ -675,7 +687,7 @@ module _ (L : Law) where
 
       function-ok : (p : ℕ) (named : Bool) (ts : Forest) → (L .Tells → LastOther ts) → GF (suc p) ts → WF (suc p) ts (Walk.visitMutFunction w p named ts)
       unfolding Walk.visitMutFunction
-      function-ok p named ts n o = inScope-ok (Scope.fn named) (after (mod-ok (Walk.setPatMode Walk.asParam) (λ s. refl) (λ s. refl) (λ s. refl)) (bodied-ok (suc p) ts n o))
+      function-ok p named ts n o = inScope-ok (Scope.fn named) (after (mod-ok (Walk.setPatMode Walk.asParam) (λ s. (refl, refl, refl, refl, refl))) (bodied-ok (suc p) ts n o))
 
       declareName-ok : {m : ℕ} (p : ℕ) (n : Option Tree) → GO p n → Pres (at m) m Any (Walk.declareName n)
       unfolding Walk.declareName
@@ -723,7 +735,7 @@ module _ (L : Law) where
       -- branches and loops
       tested-ok : (p : ℕ) (t : Tree) → L .Good p t → WT p t (Walk.tested w p t)
       unfolding Walk.tested
-      tested-ok p t o = byState-ok _ λ s h. after (mod-ok (Walk.setInTest true) (λ s. refl) (λ s. refl) (λ s. refl)) (bind (W .full p t o) λ u q. after (mod-ok (Walk.setInTest (s .inTest)) (λ s. refl) (λ s. refl) (λ s. refl)) (ret-ok u q))
+      tested-ok p t o = byState-ok _ λ s h. after (mod-ok (Walk.setInTest true) (λ s. (refl, refl, refl, refl, refl))) (bind (W .full p t o) λ u q. after (mod-ok (Walk.setInTest (s .inTest)) (λ s. (refl, refl, refl, refl, refl))) (ret-ok u q))
 
       if-ok : (p : ℕ) (t : Tree) → Other t → L .Good p t → WO p t (Walk.visitMutIfStmt w p t)
       unfolding Walk.visitMutIfStmt
@@ -749,7 +761,7 @@ module _ (L : Law) where
 
       forIn-ok : (p : ℕ) (t : Tree) → Other t → L .Good p t → WO p t (Walk.visitMutForInStmt w p t)
       unfolding Walk.visitMutForInStmt
-      forIn-ok p t n o = after (mod-ok (Walk.setPatMode Walk.asParam) (λ s. refl) (λ s. refl) (λ s. refl)) (onKids-ok p _ (split-ok (suc p) _ _
+      forIn-ok p t n o = after (mod-ok (Walk.setPatMode Walk.asParam) (λ s. (refl, refl, refl, refl, refl))) (onKids-ok p _ (split-ok (suc p) _ _
           (λ l ol. bind (W .full (suc p) l ol) λ u q. after (writeT-ok (suc p) true u (q .0)) (ret-ok u q))
           (λ ts os. after (writeF-ok (suc p) true (Walk.butLast ts) (butLast-ok (suc p) ts os)) (loop-ok (suc p) ts os))) t n o)
 
@@ -763,7 +775,7 @@ module _ (L : Law) where
 
       catch-ok : (p : ℕ) (t : Tree) → Other t → L .Good p t → WO p t (Walk.visitMutCatchClause w p t)
       unfolding Walk.visitMutCatchClause
-      catch-ok p t n o = inScope-ok Scope.block (after (mod-ok (Walk.setPatMode Walk.asCatch) (λ s. refl) (λ s. refl) (λ s. refl)) (onKids-ok p _ (eachBut-ok (suc p) (Walk.catchParam w (suc p)) (w .full (suc p)) (catchParam-ok (suc p)) (W .full (suc p))) t n o))
+      catch-ok p t n o = inScope-ok Scope.block (after (mod-ok (Walk.setPatMode Walk.asCatch) (λ s. (refl, refl, refl, refl, refl))) (onKids-ok p _ (eachBut-ok (suc p) (Walk.catchParam w (suc p)) (w .full (suc p)) (catchParam-ok (suc p)) (W .full (suc p))) t n o))
 
       case-ok : (p : ℕ) (t : Tree) → Other t → L .Good p t → WO p t (Walk.visitMutSwitchCase w p t)
       unfolding Walk.visitMutSwitchCase
@@ -819,7 +831,7 @@ module _ (L : Law) where
       unfolding Walk.visitMutAssignExpr Walk.assignKids
       assign-ok p (node k f a ts) m o =
           let gs = E .kids p k f a ts o in
-          after (mod-ok (Walk.setPatMode Walk.assigning) (λ s. refl) (λ s. refl) (λ s. refl)) (nodeN-ok p k f a (Walk.assignKids w p f) ts (after (assignFirst-ok (suc p) f ts gs)
+          after (mod-ok (Walk.setPatMode Walk.assigning) (λ s. (refl, refl, refl, refl, refl))) (nodeN-ok p k f a (Walk.assignKids w p f) ts (after (assignFirst-ok (suc p) f ts gs)
           (bind (headed-ok (suc p) (each (w .full (suc p))) (each-ok (suc p) (w .full (suc p)) (W .full (suc p))) ts gs) λ us q. after (assignLast-ok (suc p) us (q .0 .0)) (ret-ok us (E .around p k f a ts us o (q .0 .0) (q .0 .1) (λ l. (λ e. subst (λ (n : ℕ). T (eqb n 31)) (sym (eqb→eq 33 k m)) e, λ e. q .1)))))))
 
       -- by kind
@@ -865,19 +877,35 @@ module _ (L : Law) where
           after (when-ok (s .inTest) (byFind-ok (num t) (ret tt) (λ b. when (not (Walk.cheapO (b .value))) (mark (Scope.preventInline (num t)))) (ret-ok {v = at (count t)} tt tt) (λ b k. when-ok (not (Walk.cheapO (b .value))) (prevent-ok (num t)))))
           (after (mark-ok (Scope.addRead (num t) (eqb (form t) 1)) (E .read (num t) (eqb (form t) 1) (id-ident p t o i))) (keep-ok p t o))
 
-      inlineValue-ok : (p : ℕ) (t : Tree) (b : Scope.VarInfo) (v : Option Tree) → L .Good p t → T (isIdent t) → VO v → WT p t (Walk.inlineValue w p t b v)
+      -- from a state that has the binding
+      inlineValue-ok : (p : ℕ) (t : Tree) (b : Scope.VarInfo) (v : Option Tree) → L .Good p t → T (isIdent t) → VO v → (s : St) → Scope.isSome (Scope.findBinding (num t) (s .stack)) ≡ true → L .Inv s → Went p t s (Walk.inlineValue w p t b v s)
       unfolding Walk.inlineValue
-      inlineValue-ok p t b none o i v = iff-ok (b .isUndefined) (replace-ok p t voidZero o i (E .void) (keep-ok p voidZero)) (keep-ok p t o)
-      inlineValue-ok p t b (some e) o i v = after (when-ok (not (Walk.sameIdent t e)) (mod-ok (Walk.setChanged true) (λ s. refl) (λ s. refl) (λ s. refl))) (replace-ok p t e o i v (logical-ok p e))
+      inlineValue-ok p t b none o i v s f h = iff-ok (b .isUndefined) (replace-ok p t voidZero o i (E .void) (keep-ok p voidZero)) (keep-ok p t o) .from s h
+      inlineValue-ok p t b (some e) o i v s f h = bind-at (at (count t)) (count t) Any count (To p t) (λ x. Walk.replace p t e >> Walk.logical w p e) s (when (not (Walk.sameIdent t e)) once s) (go (not (Walk.sameIdent t e))) (λ a x. replace-ok p t e o i v (logical-ok p e))
+        where
+          once : M Nothing
+          once = modify (λ s. Walk.tally (num t) (Walk.setChanged true s))
+
+          go : (c : Bool) → Out (at (count t)) (count t) Any s (when c once s)
+          go true =
+              let s₁ = Walk.setChanged true s in
+              let x = E .fields (count t) s s₁ (refl, refl, refl, refl, refl) h in
+              let y = E .tally (num t) (count t) s₁ f (x .0) in
+              (y .0, E .s-trans (count t) (count t) (count t) s s₁ (Walk.tally (num t) s₁) (x .1) (y .1), tt)
+          go false = (h, E .s-refl (count t) s, tt)
 
       identInlining-ok : (p : ℕ) (t : Tree) → L .Good p t → T (isIdent t) → WT p t (Walk.identInlining w p t)
       unfolding Walk.identInlining
-      identInlining-ok p t o i = byFind-ok (num t) (ret t) (λ b. iff (Scope.varInlinePrevented b) (ret t) (Walk.inlineValue w p t b (b .value))) (keep-ok p t o) (λ b k. iff-ok (Scope.varInlinePrevented b) (keep-ok p t o) (inlineValue-ok p t b (b .value) o i k))
+      identInlining-ok p t o i = byFound-ok (num t) (ret t) (λ b. iff (Scope.varInlinePrevented b) (ret t) (Walk.inlineValue w p t b (b .value))) (keep-ok p t o) (λ b k s f h. by (Scope.varInlinePrevented b) b k s f h)
+        where
+          by : (c : Bool) (b : Scope.VarInfo) → VO (b .value) → (s : St) → Scope.isSome (Scope.findBinding (num t) (s .stack)) ≡ true → L .Inv s → Went p t s (iff c (ret t) (Walk.inlineValue w p t b (b .value)) s)
+          by true b k s f h = keep-ok p t o .from s h
+          by false b k s f h = inlineValue-ok p t b (b .value) o i k s f h
 
       byConst-ok : (p : ℕ) (t : Tree) (v : Option Tree) → L .Good p t → T (isIdent t) → VO v → WT p t (Walk.byConst w p t v)
       unfolding Walk.byConst
       byConst-ok p t none o i v = byState-ok (λ s. iff (s .inlining) (Walk.identInlining w p t) (Walk.identAnalysis t)) λ s h. iff-ok (s .inlining) (identInlining-ok p t o i) (identAnalysis-ok p t o i)
-      byConst-ok p t (some e) o i v = after (mod-ok (Walk.setChanged true) (λ s. refl) (λ s. refl) (λ s. refl)) (replace-ok p t e o i v (W .full p e))
+      byConst-ok p t (some e) o i v = after (mod-ok (Walk.setChanged true) (λ s. (refl, refl, refl, refl, refl))) (replace-ok p t e o i v (W .full p e))
 
       afterIdent-ok : (p : ℕ) (t : Tree) → L .Good p t → T (isIdent t) → WT p t (Walk.afterIdent w p t)
       unfolding Walk.afterIdent
@@ -942,15 +970,15 @@ module _ (L : Law) where
 
     run-ok : (t : Tree) → L .Good 1 t → WT 1 t (Walk.run t)
     unfolding Walk.run
-    run-ok t o = after (mod-ok (Walk.setInlining false) (λ s. refl) (λ s. refl) (λ s. refl)) (bind (own-ok (Walk.walks 199) (walks-do 199) 1 t o) λ u q.
-        after (mod-ok (Walk.setInlining true) (λ s. refl) (λ s. refl) (λ s. refl)) (bind (own-ok (Walk.walks 199) (walks-do 199) 1 u (q .0)) λ v r.
-        after (mod-ok (Walk.setInlining false) (λ s. refl) (λ s. refl) (λ s. refl)) (ret-ok v (r .0, E .q-trans t u v (q .1) (r .1)))))
+    run-ok t o = after (mod-ok (Walk.setInlining false) (λ s. (refl, refl, refl, refl, refl))) (bind (own-ok (Walk.walks 199) (walks-do 199) 1 t o) λ u q.
+        after (mod-ok (Walk.setInlining true) (λ s. (refl, refl, refl, refl, refl))) (bind (own-ok (Walk.walks 199) (walks-do 199) 1 u (q .0)) λ v r.
+        after (mod-ok (Walk.setInlining false) (λ s. (refl, refl, refl, refl, refl))) (ret-ok v (r .0, E .q-trans t u v (q .1) (r .1)))))
 
     -- a run, the runs, and the pass
     pub run-does : (t : Tree) → L .Good 1 t → (s : St) → L .Inv s → Went 1 t s (Walk.run t s)
     run-does t o s h = run-ok t o .from s h
 
-    ended : (t u v : Tree) (s s₁ : St) (ms : List (ℕ × Bool)) → L .Move (count t) s (count u) s₁ → L .Rel t u → Ended u s₁ v ms → Ended t s v ms
+    ended : (t u v : Tree) (s s₁ : St) (ms : List Walk.Rooted) → L .Move (count t) s (count u) s₁ → L .Rel t u → Ended u s₁ v ms → Ended t s v ms
     ended t u v s s₁ ms m q e = record {
       last = e .last;
       inv = e .inv;
@@ -969,14 +997,14 @@ module _ (L : Law) where
     runs-do zero k t s o h = record { last = s; inv = h; moved = E .s-refl (count t) s; good = o; related = E .q-refl t; roots = refl }
     runs-do (suc n) k t s o h =
         let s₁ = Walk.setChanged false s in
-        let f = E .fields (count t) s s₁ refl refl refl h in
+        let f = E .fields (count t) s s₁ (refl, refl, refl, refl, refl) h in
         go s₁ (f .1) (Walk.run t s₁) (run-does t o s₁ (f .0)) (λ u s₂ g i. runs-do n (suc k) u s₂ g i)
       where
         both : (u : Tree) (s₂ : St) → L .Move (count t) s (count u) s₂ → To 1 t u → L .Inv s₂ → (c : Bool) → ((u : Tree) (s₂ : St) → L .Good 1 u → L .Inv s₂ → Passed u s₂ (Walk.runs n (suc k) u s₂))
             → Passed t s (elim c as (λ x. Walk.Outcome) [ true ↦ Walk.runs n (suc k) u (Walk.setIsFirstRun false s₂) | false ↦ Walk.result (suc k) false u (Walk.rootMarks (s₂ .stack)) ])
         both u s₂ m q i true ih =
             let s₃ = Walk.setIsFirstRun false s₂ in
-            let f = E .fields (count u) s₂ s₃ refl refl refl i in
+            let f = E .fields (count u) s₂ s₃ (refl, refl, refl, refl, refl) i in
             passed t u s s₃ (Walk.runs n (suc k) u s₃) (E .s-trans (count t) (count u) (count u) s s₂ s₃ m (f .1)) (q .1) (ih u s₃ (q .0) (f .0))
         both u s₂ m q i false ih = record { last = s₂; inv = i; moved = m; good = q .0; related = q .1; roots = refl }
 

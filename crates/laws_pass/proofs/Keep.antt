@@ -325,37 +325,38 @@ module _ (N : ℕ → ℕ → ℕ → Type 0) (to-ident : (f a : ℕ) → N 20 f
     store = λ i v w n s o. (ok-change i (Scope.withValue v) (λ b. refl) (λ b m. (m .0, to-value v w)) (s .stack) o, tt);
     sensitive = λ i n s o. (ok-sensitive i (s .stack) o, tt);
     barrier = λ n s o. (ok-barrier (s .stack) o, tt);
+    tally = λ i n s f o. (ok-change i Scope.countOne (λ b. refl) (λ b k. k) (s .stack) o, tt);
     opened = λ k s o. ((tt, tt, tt), o);
     closed = λ k m n s s′ o o′ h. (ok-close (s′ .stack) o′, tt);
-    fields = λ n s s′ e d g o. (subst OkSt (sym e) o, tt);
+    fields = λ n s s′ e o. (subst OkSt (sym (e .0)) o, tt);
   }
 
   -- of an outcome: the tree and the root's identifiers
   abbrev pub OkOut : Walk.Outcome → Type 0
   OkOut (Walk.refused n) = Unit {0}
-  OkOut (Walk.result k c t ms) = OkT t × All (λ (m : ℕ × Bool). OkId (m .0)) ms × Single (map (λ (m : ℕ × Bool). m .0) ms)
+  OkOut (Walk.result k c t ms) = OkT t × All (λ (m : Walk.Rooted). OkId (m .0)) ms × Single (map (λ (m : Walk.Rooted). m .0) ms)
 
-  roots-ok : (st : Scope.Stack) → OkSt st → All (λ (m : ℕ × Bool). OkId (m .0)) (Walk.rootMarks st)
+  roots-ok : (st : Scope.Stack) → OkSt st → All (λ (m : Walk.Rooted). OkId (m .0)) (Walk.rootMarks st)
   roots-ok [] h = tt
   roots-ok (s ∷ []) h = go (s .bindings) (h .0 .0)
     where
-      go : (bs : List Scope.VarInfo) → All OkB bs → All (λ (m : ℕ × Bool). OkId (m .0)) (map (λ (b : Scope.VarInfo). (b .id, b .inlinePrevented)) bs)
+      go : (bs : List Scope.VarInfo) → All OkB bs → All (λ (m : Walk.Rooted). OkId (m .0)) (map (λ (b : Scope.VarInfo). (b .id, b .inlinePrevented, b .count)) bs)
       go [] k = tt
       go (b ∷ bs) k = (k .0 .0, go bs (k .1))
   roots-ok (s ∷ p ∷ st) h = roots-ok (p ∷ st) (h .1)
 
-  roots-single : (st : Scope.Stack) → OkSt st → Single (map (λ (m : ℕ × Bool). m .0) (Walk.rootMarks st))
+  roots-single : (st : Scope.Stack) → OkSt st → Single (map (λ (m : Walk.Rooted). m .0) (Walk.rootMarks st))
   roots-single [] h = tt
   roots-single (s ∷ []) h = subst Single (sym (go (s .bindings))) (h .0 .2)
     where
-      go : (bs : List Scope.VarInfo) → map (λ (m : ℕ × Bool). m .0) (map (λ (b : Scope.VarInfo). (b .id, b .inlinePrevented)) bs) ≡ ids bs
+      go : (bs : List Scope.VarInfo) → map (λ (m : Walk.Rooted). m .0) (map (λ (b : Scope.VarInfo). (b .id, b .inlinePrevented, b .count)) bs) ≡ ids bs
       go [] = refl
       go (b ∷ bs) = rw (go bs) refl
   roots-single (s ∷ p ∷ st) h = roots-single (p ∷ st) (h .1)
 
   out-ok : (t : Tree) (s : St) (o : Walk.Outcome) → Passed keeps t s o → OkOut o
   out-ok t s (Walk.refused n) e = tt
-  out-ok t s (Walk.result k c u ms) e = (e .good, subst (All (λ (m : ℕ × Bool). OkId (m .0))) (sym (e .roots)) (roots-ok (e .last .stack) (e .inv)), subst (λ (xs : List (ℕ × Bool)). Single (map (λ (m : ℕ × Bool). m .0) xs)) (sym (e .roots)) (roots-single (e .last .stack) (e .inv)))
+  out-ok t s (Walk.result k c u ms) e = (e .good, subst (All (λ (m : Walk.Rooted). OkId (m .0))) (sym (e .roots)) (roots-ok (e .last .stack) (e .inv)), subst (λ (xs : List Walk.Rooted). Single (map (λ (m : Walk.Rooted). m .0) xs)) (sym (e .roots)) (roots-single (e .last .stack) (e .inv)))
 
   -- with bindings flagged, where N looks at no binding's form
   module _ (any-form : (f g a : ℕ) → N 20 f a → N 20 g a) where

@@ -14,7 +14,7 @@ use Rattle.def_file.specs.Core.{Out, hasText, identAt, back}
 use Rattle.laws_pass.specs.Again.{rawsOf}
 use Rattle.laws_pass.proofs.Tests.{is-T, and-left, and-right, both}
 use Rattle.def_file.specs.Read.{Read, bad, script, read}
-use Rattle.def_pass.specs.Walk.{Outcome, refused, result}
+use Rattle.def_pass.specs.Walk.{Rooted, Outcome, refused, result}
 use Rattle.def_pass.specs.Script.{Root, rootOf, answer, passTree, coreTree, pass}
 use Rattle.laws_pass.specs.Once.{Free, Once, FewIn, FewOf, RootsFew}
 use Rattle.laws_pass.proofs.Keep.{All, all-append}
@@ -142,7 +142,7 @@ lone-keys [] h = tt
 lone-keys (r ∷ rs) h = (not-known (r .key) rs (h .0), lone-keys rs (h .1))
 
 module _ (s : Script) where
-  keys-known : (ms : List (ℕ × Bool)) → All (λ (m : ℕ × Bool). Keep.OkId (Named s) (to-ident s) (void-named s) (zero-named s) (m .0)) ms → All (Known (idents s)) (map (λ (r : Root). r .key) (map (rootOf s) ms))
+  keys-known : (ms : List Rooted) → All (λ (m : Rooted). Keep.OkId (Named s) (to-ident s) (void-named s) (zero-named s) (m .0)) ms → All (Known (idents s)) (map (λ (r : Root). r .key) (map (rootOf s) ms))
   unfolding rootOf
   keys-known [] h = tt
   keys-known (m ∷ ms) h = (in-list (identAt s (m .0)) (idents s) (m .0) (h .0 .ok .ident tt) refl refl, keys-known ms (h .1))

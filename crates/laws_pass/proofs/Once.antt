@@ -13,7 +13,7 @@ use Rattle.def_file.specs.declared.Raw.{Raw}
 use Rattle.def_file.specs.Script.{Script, sameId, hasId, known, enter, enterAll, idents, zeroNode}
 use Rattle.def_file.specs.Core.{identAt}
 use Rattle.def_file.specs.Read.{Read, bad, script, read}
-use Rattle.def_pass.specs.Walk.{Outcome, refused, result}
+use Rattle.def_pass.specs.Walk.{Rooted, Outcome, refused, result}
 use Rattle.def_pass.specs.Script.{answer, passTree, coreTree, pass, passRead, passFile, rootOf}
 use Rattle.laws_pass.specs.Once.{Free, Once, OnceIn, RootsOnce}
 use Rattle.laws_pass.proofs.Keep.{All, OkId}
@@ -91,20 +91,20 @@ lone-ne ys h i j n a b = ⊎-elim (λ (l : i < j). lone-lt ys h i j l b) (λ (l 
 
 -- the root bindings
 module _ (s : Script) where
-  abbrev Has : ℕ × Bool → Type 0
+  abbrev Has : Rooted → Type 0
   Has m = OkId (Named s) (to-ident s) (void-named s) (zero-named s) (m .0)
 
-  abbrev numbers : List (ℕ × Bool) → List ℕ
-  numbers ms = map (λ (m : ℕ × Bool). m .0) ms
+  abbrev numbers : List Rooted → List ℕ
+  numbers ms = map (λ (m : Rooted). m .0) ms
 
-  free : (i : ℕ) → i < length (idents s) → (ms : List (ℕ × Bool)) → All Has ms → mem i (numbers ms) ≡ false → Free (identAt s i) (map (rootOf s) ms)
+  free : (i : ℕ) → i < length (idents s) → (ms : List Rooted) → All Has ms → mem i (numbers ms) ≡ false → Free (identAt s i) (map (rootOf s) ms)
   unfolding rootOf
   free i l [] h e = tt
   free i l (m ∷ ms) h e =
       let p = or-no (eqb (m .0) i) (mem i (numbers ms)) e in
       (lone-ne (idents s) (lone-idents s) i (m .0) (λ q. eqb-false (m .0) i (p .0) (sym q)) l (h .0 .ok .ident tt), free i l ms (h .1) (p .1))
 
-  once : (ms : List (ℕ × Bool)) → All Has ms → Single (numbers ms) → Once (map (rootOf s) ms)
+  once : (ms : List Rooted) → All Has ms → Single (numbers ms) → Once (map (rootOf s) ms)
   unfolding rootOf
   once [] h e = tt
   once (m ∷ ms) h e = (free (m .0) (h .0 .ok .ident tt) ms (h .1) (e .0), once ms (h .1) (e .1))

@@ -31,9 +31,10 @@ lows = record {
   store = λ i v n s o. (tt, tt);
   sensitive = λ i n s o. (tt, tt);
   barrier = λ n s o. (tt, tt);
+  tally = λ i n s f o. (tt, tt);
   opened = λ k s o. tt;
   closed = λ k m n s s′ o o′ h. (tt, tt);
-  fields = λ n s s′ e d g o. (tt, tt);
+  fields = λ n s s′ e o. (tt, tt);
 }
 
 out : (t : Tree) (s : St) (o : Walk.Outcome) → Passed (law low) t s o → Low o

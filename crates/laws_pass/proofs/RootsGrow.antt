@@ -214,13 +214,14 @@ grown = effects grows (record {
   store = λ i v n s o. (tt, g-change i (Scope.withValue v) (λ b. refl) (s .stack));
   sensitive = λ i n s o. (tt, g-sensitive i (s .stack));
   barrier = λ n s o. (tt, g-barrier (s .stack));
+  tally = λ i n s f o. (tt, g-change i Scope.countOne (λ b. refl) (s .stack));
   opened = λ k s o. tt;
   closed = λ k m n s s′ o o′ h. (tt, g-close k (s .stack) (s′ .stack) h);
-  fields = λ n s s′ e d g o. (tt, subst (Grow (s .stack)) (sym e) (g-refl (s .stack)));
+  fields = λ n s s′ e o. (tt, subst (Grow (s .stack)) (sym (e .0)) (g-refl (s .stack)));
 })
 
 -- of the root
-numbers : (bs : List VarInfo) → idsOf (map (λ (b : VarInfo). (b .id, b .inlinePrevented)) bs) ≡ ids bs
+numbers : (bs : List VarInfo) → idsOf (map (λ (b : VarInfo). (b .id, b .inlinePrevented, b .count)) bs) ≡ ids bs
 numbers [] = refl
 numbers (b ∷ bs) = rw (numbers bs) refl
 
@@ -238,7 +239,7 @@ went p t s (done s′ u) h = longer (rootIds (s .stack)) (rootIds (s′ .stack))
 
 passed : (t : Tree) (s : St) (o : Walk.Outcome) → Passed (law grows) t s o → GrownOut s o
 passed t s (Walk.refused n) h = tt
-passed t s (Walk.result k c u ms) h = longer (rootIds (s .stack)) (idsOf ms) (subst (λ (x : List (ℕ × Bool)). Ext (rootIds (s .stack)) (idsOf x)) (sym (h .roots)) (root (s .stack) (h .last .stack) (h .moved)))
+passed t s (Walk.result k c u ms) h = longer (rootIds (s .stack)) (idsOf ms) (subst (λ (x : List Walk.Rooted). Ext (rootIds (s .stack)) (idsOf x)) (sym (h .roots)) (root (s .stack) (h .last .stack) (h .moved)))
 
 pub roots-grow : RootsGrow
 roots-grow = record {

@@ -37,9 +37,10 @@ counted = record {
   store = λ i v n s o. (o, λ x. refl);
   sensitive = λ i n s o. (o, λ x. refl);
   barrier = λ n s o. (o, λ x. refl);
+  tally = λ i n s f o. (o, λ x. refl);
   opened = λ k s o. o;
   closed = λ k m n s s′ o o′ h. (o′, h);
-  fields = λ n s s′ e d g o. (subst (λ (x : ℕ). x ≤ 1024) (sym d) o, λ x. ap (λ (y : ℕ). y + n) d);
+  fields = λ n s s′ e o. (subst (λ (x : ℕ). x ≤ 1024) (sym (e .1)) o, λ x. ap (λ (y : ℕ). y + n) (e .1));
 }
   where
     step : (l m n a b c : ℕ) → l ≤ a → b + l ≡ a + m → (m ≤ b → c + m ≡ b + n) → c + l ≡ a + n

@@ -1,6 +1,6 @@
 -- Laws of the state alone, and of the refusals: nothing is asked of a tree. Assumes nothing.
 use mathlib.Core.Path.{_≡_}
-use mathlib.Core.Bool.{Bool, false}
+use mathlib.Core.Bool.{Bool, true, false}
 use mathlib.Core.Option.{Option, none, some}
 use Prim.Native.Nat.{ℕ, suc, _+_, _-_}
 use lib.Dec.{ltb}
@@ -9,7 +9,7 @@ use Rattle.def_pass.specs.Scope as Scope
 use Rattle.def_pass.specs.Scope.{VarInfo}
 use Rattle.def_pass.specs.Walk as Walk
 use Rattle.def_pass.specs.Walk.{St}
-use Rattle.laws_pass.proofs.Effects.{Law, Effects, GF, VF, VO, VB, On, Moves, inside}
+use Rattle.laws_pass.proofs.Effects.{Law, Effects, GF, VF, VO, VB, On, Moves, Aside, inside}
 
 -- as in Law
 pub record StateLaw : Type 1 where
@@ -38,9 +38,10 @@ module _ (X : StateLaw) where
     pub store : (i : ℕ) (v : Option Tree) → On law (Scope.change i (Scope.withValue v))
     pub sensitive : (i : Option ℕ) → On law (Scope.markThisSensitive i)
     pub barrier : On law Scope.storeInlineBarrier
+    pub tally : (i n : ℕ) (s : St) → Scope.isSome (Scope.findBinding i (s .stack)) ≡ true → X .Inv s → Moves law n s (Walk.tally i s)
     pub opened : (k : Scope.ScopeKind) (s : St) → X .Inv s → X .Inv (inside k s)
     pub closed : (k : Scope.ScopeKind) (m n : ℕ) (s s′ : St) → X .Inv s → X .Inv s′ → X .Move m (inside k s) n s′ → X .Inv (Walk.restore s s′) × X .Move m s n (Walk.restore s s′)
-    pub fields : (n : ℕ) (s s′ : St) → s′ .stack ≡ s .stack → s′ .nodes ≡ s .nodes → s′ .targeted ≡ s .targeted → X .Inv s → Moves law n s s′
+    pub fields : (n : ℕ) (s s′ : St) → Aside s s′ → X .Inv s → Moves law n s s′
 
   any : (p : ℕ) (ts : Forest) → GF law p ts
   any p nil = tt
@@ -89,6 +90,7 @@ module _ (X : StateLaw) where
     store = λ i v w. E .store i v;
     sensitive = E .sensitive;
     barrier = E .barrier;
+    tally = E .tally;
     opened = E .opened;
     closed = E .closed;
     fields = E .fields;

@@ -264,9 +264,10 @@ module _ (X : TreeLaw) where
         store = λ i v w n s o. (v-change V? tt i (Scope.withValue v) (λ b m. back-O v w) (s .stack) o, tt);
         sensitive = λ i n s o. (v-sensitive V? tt i (s .stack) o, tt);
         barrier = λ n s o. (v-barrier V? tt (s .stack) o, tt);
+        tally = λ i n s f o. (v-change V? tt i Scope.countOne (λ b k. k) (s .stack) o, tt);
         opened = λ k s o. ((tt, tt), o);
         closed = λ k m n s s′ o o′ h. (v-close V? tt (s′ .stack) o′, tt);
-        fields = λ n s s′ e d g o. (subst (HeldSt V? tt) (sym e) o, tt);
+        fields = λ n s s′ e o. (subst (HeldSt V? tt) (sym (e .0)) o, tt);
       }
 
   -- at the start of a pass

@@ -6,11 +6,11 @@ use Prim.Native.Nat.{ℕ}
 use Rattle.def_tree.specs.Combine.{Res, stop, done}
 use Rattle.def_pass.specs.Tree.{Tree}
 use Rattle.def_pass.specs.Scope.{Stack}
-use Rattle.def_pass.specs.Walk.{St, walks, run, runs, Outcome, refused, result, rootMarks}
+use Rattle.def_pass.specs.Walk.{St, walks, run, runs, Rooted, Outcome, refused, result, rootMarks}
 
 -- identifiers of root lines
-abbrev pub idsOf : List (ℕ × Bool) → List ℕ
-idsOf ms = map (λ (m : ℕ × Bool). m .0) ms
+abbrev pub idsOf : List Rooted → List ℕ
+idsOf ms = map (λ (m : Rooted). m .0) ms
 
 abbrev pub rootIds : Stack → List ℕ
 rootIds st = idsOf (rootMarks st)

@@ -85,7 +85,7 @@ play (c ∷ x ∷ v ∷ []) = ret tt
 play (c ∷ x ∷ v ∷ m ∷ cs) = getD steps c (λ x v m. ret tt) x v m >> play cs
 
 abbrev pub start : St
-start = record { stack = newScope (fn false) ∷ []; changed = false; inlining = false; isFirstRun = true; varDeclKind = vVar; patMode = declaring; inTest = false; conds = 0; nodes = 11; targeted = λ (j : ℕ). false }
+start = record { stack = newScope (fn false) ∷ []; changed = false; inlining = false; isFirstRun = true; varDeclKind = vVar; patMode = declaring; inTest = false; conds = 0; nodes = 11; targeted = λ (j : ℕ). false; ended = 0; replaced = 0 }
 
 -- what the program prints: cases by their numbers
 abbrev pub typeNo : VarType → ℕ

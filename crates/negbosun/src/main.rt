@@ -24,11 +24,11 @@ fn no_words() -> [u32; 16384]
     [0; 16384]
 }
 
-// Four words for each of at most 256 root bindings.
-fn no_roots() -> [u32; 1024]
-    ensures { λ r. ⌜ 1024 ≡ length r ⌝ }
+// Five words for each of at most 256 root bindings.
+fn no_roots() -> [u32; 1280]
+    ensures { λ r. ⌜ 1280 ≡ length r ⌝ }
 {
-    [0; 1024]
+    [0; 1280]
 }
 
 // A number, and what stands behind it.
@@ -81,27 +81,29 @@ fn print_nodes(file: &[u8], n: usize)
     }
 }
 
-// Text, context as 16 digits, mark.
-fn print_root(text: u32, low: u32, high: u32, mark: u32) {
+// Text, context as 16 digits, mark, count.
+fn print_root(text: u32, low: u32, high: u32, mark: u32, count: u32) {
     io::write_all(1, b"root ");
     print(word(text), b" ");
     io::print_hex(1, word(high), 8);
     io::print_hex(1, word(low), 8);
     io::write_all(1, b" ");
-    print(word(mark), b"\n");
+    print(word(mark), b" ");
+    print(word(count), b"\n");
 }
 
 // The first n root bindings.
 fn print_roots(roots: &[u32], n: usize)
-    requires { ⌜ (n ≤ 256) × (4 * n ≤ length (now roots)) ⌝ }
+    requires { ⌜ (n ≤ 256) × (5 * n ≤ length (now roots)) ⌝ }
 {
     let mut k: usize = 0;
     while k < n {
         print_root(
-            roots[4 * k],
-            roots[4 * k + 1],
-            roots[4 * k + 2],
-            roots[4 * k + 3],
+            roots[5 * k],
+            roots[5 * k + 1],
+            roots[5 * k + 2],
+            roots[5 * k + 3],
+            roots[5 * k + 4],
         );
         k += 1;
     }
@@ -154,8 +156,14 @@ fn read_rest() {
 // What the program takes, to standard error. A program of Rattle has no exit status of its own.
 fn say_usage() {
     io::write_all(2, b"usage: negbosun < FILE.tree\n");
-    io::write_all(2, b"Takes no argument: reads a tree file from standard input, and prints the pass's result or `refused N`.\n");
-    io::write_all(2, b"negbosun-inline takes a file's name and options; script/inline (installed: negbosun-script) takes a script's text.\n");
+    io::write_all(
+        2,
+        b"Takes no argument: reads a tree file from standard input, and prints the pass's result or `refused N`.\n",
+    );
+    io::write_all(
+        2,
+        b"negbosun-inline takes a file's name and options; script/inline (installed: negbosun-script) takes a script's text.\n",
+    );
 }
 
 fn main() {

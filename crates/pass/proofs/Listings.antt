@@ -14,7 +14,7 @@ use Rattle.def_file.specs.Read.{Read, bad, script, read}
 use Rattle.file_write.specs.declared.Written.{Written}
 use Rattle.file_write.specs.declared.Written.the-variants as Written
 use Rattle.def_pass.specs.Script.{Root, Answer, rootOf, passFile}
-use Rattle.def_pass.specs.Walk.{rootMarks}
+use Rattle.def_pass.specs.Walk.{Rooted, rootMarks}
 use Rattle.laws_flat.specs.WalkF.{OutcomeF, refusedF}
 use Rattle.laws_flat.specs.PassF.{answerF, passF, passReadF, passFileF}
 use Rattle.laws_flat.proofs.File.{file-same}
@@ -90,8 +90,8 @@ says-so (Written.Refused k) (listed rs) h = absurd h
 
 -- the binding of a number: the answer's numbers, and the rows
 abbrev pub tells : RootAt → RootBinding
-tells (RootAt.Found text context prevented) = record { refused = 0; found = 1; context = context; text = text; prevented = toNat prevented }
-tells RootAt.Nothing = record { refused = 0; found = 0; context = 0; text = 0; prevented = 0 }
+tells (RootAt.Found text context prevented count) = record { refused = 0; found = 1; context = context; text = text; prevented = toNat prevented; count = count }
+tells RootAt.Nothing = record { refused = 0; found = 0; context = 0; text = 0; prevented = 0; count = 0 }
 
 tells-so : (r : Option Root) → tells (nthIs r) ≡ nthNumbers (given r)
 tells-so none = refl
@@ -100,17 +100,17 @@ tells-so (some r) = refl
 root-is : {bs w w′ : List ℕ} {c : RootBinding} (n i : ℕ) (p : Bool) (z : NthRoot) → enough n (length w) ≡ p → nthRoot n (length w) bs i ≡ z → c ≡ nthNumbers z → WordsAre w w′ p → RootIs bs w w′ n i c
 root-is {bs} {w} {w′} n i p z q e a h = record { answer = a ∙ ap nthNumbers (sym e); words = subst (WordsAre w w′) (sym q) h }
 
-pub nth-first : {bs w : List ℕ} (n i : ℕ) → enough n (length w) ≡ false → RootIs bs w w n i (record { refused = 1; found = 0; context = 0; text = 0; prevented = 0 })
+pub nth-first : {bs w : List ℕ} (n i : ℕ) → enough n (length w) ≡ false → RootIs bs w w n i (record { refused = 1; found = 0; context = 0; text = 0; prevented = 0; count = 0 })
 nth-first {bs} {w} n i e = root-is n i false (stopped 1) e (row-one stopped (λ rs. given (nth i rs)) n (length w) bs e) refl refl
 
-pub nth-middle : {bs w u : List ℕ} {x : Ran} (n i m : ℕ) → enough n (length w) ≡ true → FileIs bs w u n x → x ≡ Ran.Refused m → RootIs bs w u n i (record { refused = m; found = 0; context = 0; text = 0; prevented = 0 })
+pub nth-middle : {bs w u : List ℕ} {x : Ran} (n i m : ℕ) → enough n (length w) ≡ true → FileIs bs w u n x → x ≡ Ran.Refused m → RootIs bs w u n i (record { refused = m; found = 0; context = 0; text = 0; prevented = 0; count = 0 })
 nth-middle {bs} {w} {u} {x} n i m e F q =
     let G : FileIs bs w u n (Ran.Refused m) = subst (FileIs bs w u n) q F in
     root-is n i true (stopped m) e (row-middle stopped (λ rs. given (nth i rs)) n m e G) refl (G .words)
 
 -- all bindings, or row 10
-abbrev asRoot : Raw → Bool → Root
-asRoot x b = record { key = x; mark = b }
+abbrev asRoot : Raw → Bool → ℕ → Root
+asRoot x b n = record { key = x; mark = b; count = n }
 
 module _ {bs w u : List ℕ} {a : Ran} {n k : ℕ} {c : Bool} (f : FileIs bs w u n a) (q : a ≡ Ran.Done k c) where
   ran : FileIs bs w u n (Ran.Done k c)
@@ -118,7 +118,7 @@ module _ {bs w u : List ℕ} {a : Ran} {n k : ℕ} {c : Bool} (f : FileIs bs w u
 
   same-roots : rootsIn bs u ≡ map (rootOf (ran .words .script)) (rootMarks (stack u))
   unfolding rootOf
-  same-roots = ap (λ (is : List Raw). map (λ (r : ℕ × Bool). asRoot (getD is (r .0) zeroNode) (r .1)) (rootMarks (stack u))) (ran .words .ids)
+  same-roots = ap (λ (is : List Raw). map (λ (r : Rooted). asRoot (getD is (r .0) zeroNode) (r .1) (r .2)) (rootMarks (stack u))) (ran .words .ids)
 
   pub row-last : {Z : Type 0} (stop : ℕ → Z) (of : List Root → Z) → enough n (length w) ≡ true → overRoots stop of n (length w) bs ≡ of (rootsIn bs u)
   unfolding passF
@@ -145,5 +145,5 @@ module _ {bs w u : List ℕ} {a : Ran} {n k : ℕ} {c : Bool} (f : FileIs bs w u
       root-is n i true (given (nth i (rootsIn bs u))) e (row-last stopped (λ rs. given (nth i rs)) e) (ap tells (sym h ∙ O) ∙ tells-so (nth i (rootsIn bs u))) (words-are C)
 
   -- with the mark as a number
-  pub nth-found : {w′ : List ℕ} {x : RootAt} {text context m : ℕ} {p : Bool} (i : ℕ) → x ≡ nthIs (nth i (rootsIn bs u)) → Cleared u w′ → enough n (length w) ≡ true → x ≡ RootAt.Found text context p → m ≡ toNat p → RootIs bs w w′ n i (record { refused = 0; found = 1; context = context; text = text; prevented = m })
-  nth-found {w′} {x} {text} {context} {m} {p} i O C e h q = subst (λ (v : ℕ). RootIs bs w w′ n i (record { refused = 0; found = 1; context = context; text = text; prevented = v })) (sym q) (nth-row i O C e (RootAt.Found text context p) h)
+  pub nth-found : {w′ : List ℕ} {x : RootAt} {text context m t : ℕ} {p : Bool} (i : ℕ) → x ≡ nthIs (nth i (rootsIn bs u)) → Cleared u w′ → enough n (length w) ≡ true → x ≡ RootAt.Found text context p t → m ≡ toNat p → RootIs bs w w′ n i (record { refused = 0; found = 1; context = context; text = text; prevented = m; count = t })
+  nth-found {w′} {x} {text} {context} {m} {t} {p} i O C e h q = subst (λ (v : ℕ). RootIs bs w w′ n i (record { refused = 0; found = 1; context = context; text = text; prevented = v; count = t })) (sym q) (nth-row i O C e (RootAt.Found text context p t) h)

@@ -75,8 +75,8 @@ pub extern "C" fn negbosun_inline(
     }
 }
 
-// Rows 1 to 10, of the pass over the file. What is written are the root bindings, oldest first, four words for each: text number, context's low
-// and high half, prevented mark.
+// Rows 1 to 10, of the pass over the file. What is written are the root bindings, oldest first, five words for each: text number, context's low
+// and high half, prevented mark, how often an identifier was replaced by its value.
 #[no_mangle]
 pub extern "C" fn negbosun_roots(
     file: &[u8],
@@ -121,6 +121,7 @@ pub extern "C" fn negbosun_root(file: &[u8], words: &mut [u32], runs: u32, n: u3
             context: 0,
             text: 0,
             prevented: 0,
+            count: 0,
         };
     }
     let ran = inline_file(file, words, runs);
@@ -136,12 +137,14 @@ pub extern "C" fn negbosun_root(file: &[u8], words: &mut [u32], runs: u32, n: u3
                     text,
                     context,
                     prevented,
+                    count,
                 } => RootBinding {
                     refused: 0,
                     found: 1,
                     context,
                     text,
                     prevented: number(prevented),
+                    count,
                 },
                 RootAt::Nothing => RootBinding {
                     refused: 0,
@@ -149,6 +152,7 @@ pub extern "C" fn negbosun_root(file: &[u8], words: &mut [u32], runs: u32, n: u3
                     context: 0,
                     text: 0,
                     prevented: 0,
+                    count: 0,
                 },
             }
         }
@@ -158,6 +162,7 @@ pub extern "C" fn negbosun_root(file: &[u8], words: &mut [u32], runs: u32, n: u3
             context: 0,
             text: 0,
             prevented: 0,
+            count: 0,
         },
     }
 }

@@ -78,7 +78,7 @@ module _ {Z : Type 0} (R : Z → Z → Type 0) (stop : ℕ → Z) (of of′ : Li
       go false = stops 1
 
 in-room : (a b : Script) (room room′ : ℕ) (rs ss : List Root) → AlikeRoots a b rs ss → AlikeListing a b (lists.inRoom room rs) (lists.inRoom room′ ss)
-in-room a b room room′ rs ss h = go (leb (4 * length rs) room) (leb (4 * length ss) room′)
+in-room a b room room′ rs ss h = go (leb (5 * length rs) room) (leb (5 * length ss) room′)
   where
     go : (p q : Bool) → AlikeListing a b (elim p [ false ↦ lists.refused 10 | true ↦ lists.listed rs ]) (elim q [ false ↦ lists.refused 10 | true ↦ lists.listed ss ])
     go true true = h
@@ -91,8 +91,8 @@ at-place : (a b : Script) (n : ℕ) (rs ss : List Root) → AlikeRoots a b rs ss
 at-place a b n [] [] h = tt
 at-place a b n [] (s ∷ ss) h = absurd h
 at-place a b n (r ∷ rs) [] h = absurd h
-at-place a b zero (r ∷ rs) (s ∷ ss) h = (h .0, h .1)
-at-place a b (suc n) (r ∷ rs) (s ∷ ss) h = at-place a b n rs ss (h .2)
+at-place a b zero (r ∷ rs) (s ∷ ss) h = (h .0, h .1, h .2)
+at-place a b (suc n) (r ∷ rs) (s ∷ ss) h = at-place a b n rs ss (h .3)
 
 pub demand3-roots : Demand3Roots
 demand3-roots as′ bs a b p q P runs r r′ w w′ x s s′ v v′ y e X Y = record {

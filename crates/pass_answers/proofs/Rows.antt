@@ -86,7 +86,7 @@ r-written room s (yes! k c xs rs) h = go (leb (length (fileOf s xs)) room)
     go false = (omega arith, omega arith)
 
 r-room : (room : ℕ) (rs : List Root) → ListingRow (lists.inRoom room rs)
-r-room room rs = go (leb (4 * length rs) room)
+r-room room rs = go (leb (5 * length rs) room)
   where
     go : (p : Bool) → ListingRow (elim p [ false ↦ lists.refused 10 | true ↦ lists.listed rs ])
     go true = tt

@@ -48,7 +48,7 @@ Demand3Inline = (as′ bs : List ℕ) (a b : Script) → read as′ ≡ script a
     → (runs : ℕ) (r r′ w w′ : List ℕ) (x : Inlined) (s s′ v v′ : List ℕ) (y : Inlined) → leb 16384 (length w) ≡ leb 16384 (length v)
     → InlineIs as′ r r′ w w′ runs x → InlineIs bs s s′ v v′ runs y → AlikeEnds as′ bs runs a b x y r r′ s s′
 
--- the root bindings pair by their places in the two lists: identifiers that stand together, and equal marks; one list may fit its buffer where the other does not
+-- the root bindings pair by their places in the two lists: identifiers that stand together, and equal marks and counts; one list may fit its buffer where the other does not
 abbrev pub AlikeListing : Script → Script → Listing → Listing → Type 0
 AlikeListing a b (lists.refused n) (lists.refused m) = n ≡ m
 AlikeListing a b (lists.refused n) (listed ss) = n ≡ 10
@@ -69,7 +69,7 @@ Demand3Roots = (as′ bs : List ℕ) (a b : Script) → read as′ ≡ script a 
     → (runs : ℕ) (r r′ w w′ : List ℕ) (x : Roots) (s s′ v v′ : List ℕ) (y : Roots) → leb 16384 (length w) ≡ leb 16384 (length v)
     → RootsIs as′ r r′ w w′ runs x → RootsIs bs s s′ v v′ runs y → AlikeLists a b x y r r′ s s′
 
--- the root bindings of one number: none in both, or identifiers that stand together, with equal marks
+-- the root bindings of one number: none in both, or identifiers that stand together, with equal marks and counts
 abbrev pub AlikeNth : Script → Script → NthRoot → NthRoot → Type 0
 AlikeNth a b (stopped n) (stopped m) = n ≡ m
 AlikeNth a b (stopped n) (given s) = ⊥
@@ -77,7 +77,7 @@ AlikeNth a b (given r) (stopped m) = ⊥
 AlikeNth a b (given none) (given none) = Unit {0}
 AlikeNth a b (given none) (given (some s)) = ⊥
 AlikeNth a b (given (some r)) (given none) = ⊥
-AlikeNth a b (given (some r)) (given (some s)) = Together a b (r .key) (s .key) × (r .mark ≡ s .mark)
+AlikeNth a b (given (some r)) (given (some s)) = Together a b (r .key) (s .key) × (r .mark ≡ s .mark) × (r .count ≡ s .count)
 
 pub record AlikeBindings (a b : Script) (x y : RootBinding) : Type 0 where
   pub one : NthRoot

@@ -50,9 +50,9 @@ nthRoot runs words bs n = overRoots stopped (λ rs. given (nth n rs)) runs words
 
 -- the numbers of an answer
 abbrev pub nthNumbers : NthRoot → RootBinding
-nthNumbers (stopped m) = record { refused = m; found = 0; context = 0; text = 0; prevented = 0 }
-nthNumbers (given none) = record { refused = 0; found = 0; context = 0; text = 0; prevented = 0 }
-nthNumbers (given (some r)) = record { refused = 0; found = 1; context = r .key .bits; text = r .key .text; prevented = toNat (r .mark) }
+nthNumbers (stopped m) = record { refused = m; found = 0; context = 0; text = 0; prevented = 0; count = 0 }
+nthNumbers (given none) = record { refused = 0; found = 0; context = 0; text = 0; prevented = 0; count = 0 }
+nthNumbers (given (some r)) = record { refused = 0; found = 1; context = r .key .bits; text = r .key .text; prevented = toNat (r .mark); count = r .count }
 
 -- for all arguments
 pub record RootIs (bs w w′ : List ℕ) (runs n : ℕ) (c : RootBinding) : Type 0 where

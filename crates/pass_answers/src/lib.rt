@@ -16,7 +16,8 @@ pub struct Roots {
     pub count: usize,
 }
 
-// A refusal's number; or 0, and 1 if there is a root binding of the number asked for: then its context, text number and prevented mark.
+// A refusal's number; or 0, and 1 if there is a root binding of the number asked for: then its context, text number and prevented mark, and how
+// often an identifier was replaced by its value.
 #[repr(C)]
 pub struct RootBinding {
     pub refused: u32,
@@ -24,4 +25,5 @@ pub struct RootBinding {
     pub context: u64,
     pub text: u32,
     pub prevented: u32,
+    pub count: u32,
 }

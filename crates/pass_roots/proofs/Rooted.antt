@@ -23,15 +23,15 @@ use Rattle.file_write.specs.declared.Written.the-variants as Written
 use Rattle.file_write.proofs.Stores.{first, then}
 use Rattle.def_pass.specs.Scope.{VarInfo}
 use Rattle.def_pass.specs.Script.{Root}
-use Rattle.def_pass.specs.Walk.{rootMarks}
+use Rattle.def_pass.specs.Walk.{Rooted, rootMarks}
 use Rattle.words_scopes.specs.State.{headAt, headsAt, heads, Fits, bindAt, binds, flags, consts, split, stack, Good}
 use Rattle.pass_roots.specs.declared.RootAt.the-variants as RootAt
 use Rattle.pass_roots.specs.Nth.{nth, nthIs}
 use Rattle.pass_roots.specs.Listing.{marksTo, rootAt, rootsIn, rootWords, rootList, refused, listed, inRoom, WroteRoots}
 
--- identifier and mark of each binding
-abbrev marks : List VarInfo → List (ℕ × Bool)
-marks bs = map (λ (b : VarInfo). (b .id, b .inlinePrevented)) bs
+-- identifier, mark and count of each binding
+abbrev marks : List VarInfo → List Rooted
+marks bs = map (λ (b : VarInfo). (b .id, b .inlinePrevented, b .count)) bs
 
 take-take : (m n : ℕ) (bs : List VarInfo) → m ≤ n → take m (take n bs) ≡ take m bs
 take-take zero n bs l = refl
@@ -66,13 +66,13 @@ root-more w (suc d) fl bs cs f =
     root-more w d (take n fl) (take n bs) (take (headAt w (suc (suc d)) .cstart) cs) (rw z (f .1))
     ∙ ap marks (take-take (second w) n bs (second-low w d n (f .1)))
 
-map-tab : (g : VarInfo → ℕ × Bool) (n : ℕ) (f : ℕ → VarInfo) → map g (tab n f) ≡ tab n (λ k. g (f k))
+map-tab : (g : VarInfo → Rooted) (n : ℕ) (f : ℕ → VarInfo) → map g (tab n f) ≡ tab n (λ k. g (f k))
 unfolding tab
 map-tab g zero f = refl
-map-tab g (suc n) f = map-append g (tab n f) (f n ∷ []) ∙ ap (λ (r : List (ℕ × Bool)). r ++ (g (f n) ∷ [])) (map-tab g n f)
+map-tab g (suc n) f = map-append g (tab n f) (f n ∷ []) ∙ ap (λ (r : List Rooted). r ++ (g (f n) ∷ [])) (map-tab g n f)
 
 marks-to : (w : List ℕ) (n : ℕ) → marks (tab n (λ k. bindAt w k)) ≡ marksTo w n
-marks-to w n = map-tab (λ (b : VarInfo). (b .id, b .inlinePrevented)) n (λ k. bindAt w k)
+marks-to w n = map-tab (λ (b : VarInfo). (b .id, b .inlinePrevented, b .count)) n (λ k. bindAt w k)
 
 module _ {w : List ℕ} (g : Good w) where
   binds-length : length (binds w) ≡ getD w 1 0
@@ -101,7 +101,7 @@ module _ {w : List ℕ} (g : Good w) where
   roots-all l = go (getD w 2 0) refl l
     where
       go : (d : ℕ) → getD w 2 0 ≡ d → d ≤ 1 → rootMarks (stack w) ≡ marksTo w (getD w 1 0)
-      go zero e h = ap rootMarks (stack-at 0 e) ∙ sym (ap (marksTo w) (sym binds-length ∙ fits-at 0 e) ∙ tab-zero (λ k. (getD w (4112 + k * 10) 0, yes (getD w (4112 + k * 10 + 4) 0))))
+      go zero e h = ap rootMarks (stack-at 0 e) ∙ sym (ap (marksTo w) (sym binds-length ∙ fits-at 0 e) ∙ tab-zero (λ k. (getD w (4112 + k * 10) 0, yes (getD w (4112 + k * 10 + 4) 0), getD w (8080 + k) 0)))
       go (suc zero) e h = ap rootMarks (stack-at 1 e) ∙ root-one w (flags w) (binds w) (consts w) (fits-at 1 e) ∙ all-marks
       go (suc (suc d)) e h = absurd (omega (arith, h))
 
@@ -116,16 +116,17 @@ module _ {w : List ℕ} (g : Good w) where
           let q : second w ≤ getD w 1 0 = omega (arith, second-low w d (length (binds w)) (fits-at (suc (suc d)) e), binds-length) in
           (ap rootMarks (stack-at (suc (suc d)) e) ∙ root-more w d (flags w) (binds w) (consts w) (fits-at (suc (suc d)) e) ∙ some-marks (second w) q, omega (arith, q, g .count))
 
--- four words stored one after the other
-pub put-four : (l : List ℕ) (i a b c d : ℕ) {m : ℕ} → m ≡ d → set (set (set (set l i a) (i + 1) b) (i + 2) c) (i + 3) m ≡ sets l i (a ∷ b ∷ c ∷ d ∷ [])
-put-four l i a b c d e =
+-- five words stored one after the other
+pub put-five : (l : List ℕ) (i a b c d f : ℕ) {m : ℕ} → m ≡ d → set (set (set (set (set l i a) (i + 1) b) (i + 2) c) (i + 3) m) (i + 4) f ≡ sets l i (a ∷ b ∷ c ∷ d ∷ f ∷ [])
+put-five l i a b c d f e =
     let p : i + 1 ≡ suc i = omega arith in
     let q : i + 2 ≡ suc (suc i) = omega arith in
     let r : i + 3 ≡ suc (suc (suc i)) = omega arith in
-    rw (e, p, q, r) refl
+    let s : i + 4 ≡ suc (suc (suc (suc i))) = omega arith in
+    rw (e, p, q, r, s) refl
 
 -- the words of some bindings, and of one more
-pub list-length : (rs : List Root) → length (rootList rs) ≡ 4 * length rs
+pub list-length : (rs : List Root) → length (rootList rs) ≡ 5 * length rs
 unfolding rootList
 list-length [] = refl
 list-length (r ∷ rs) = omega (arith, list-length rs)
@@ -139,13 +140,13 @@ pub list-none : (f : ℕ → Root) (l : List ℕ) → l ≡ sets l 0 (rootList (
 unfolding rootList tab
 list-none f l = refl
 
-pub list-more : (f : ℕ → Root) (k : ℕ) (l : List ℕ) {l₁ l₂ : List ℕ} (r : Root) → l₁ ≡ sets l 0 (rootList (tab k f)) → r ≡ f k → l₂ ≡ sets l₁ (4 * k) (rootWords r) → l₂ ≡ sets l 0 (rootList (tab (k + 1) f))
+pub list-more : (f : ℕ → Root) (k : ℕ) (l : List ℕ) {l₁ l₂ : List ℕ} (r : Root) → l₁ ≡ sets l 0 (rootList (tab k f)) → r ≡ f k → l₂ ≡ sets l₁ (5 * k) (rootWords r) → l₂ ≡ sets l 0 (rootList (tab (k + 1) f))
 list-more f k l r p e q =
-    then (first l 0 (rootList (tab k f)) p) (4 * k) (rootWords r) q (omega (arith, list-length (tab k f), length-tab k f)) .is
+    then (first l 0 (rootList (tab k f)) p) (5 * k) (rootWords r) q (omega (arith, list-length (tab k f), length-tab k f)) .is
     ∙ ap (sets l 0) (sym (ap rootList (tab-suc k f) ∙ list-snoc (tab k f) (f k) ∙ ap (λ (y : Root). rootList (tab k f) ++ rootWords y) (sym e)))
 
-pub same-root : {x y : Raw} (b : Bool) → x ≡ y → _≡_ {A = Root} (record { key = x; mark = b }) (record { key = y; mark = b })
-same-root b e = cc
+pub same-root : {x y : Raw} (b : Bool) (n : ℕ) → x ≡ y → _≡_ {A = Root} (record { key = x; mark = b; count = n }) (record { key = y; mark = b; count = n })
+same-root b n e = cc
 
 -- an identifier by its number
 pub no-ident : (bs w : List ℕ) (i : ℕ) → getD w 4 0 ≤ i → zeroNode ≡ getD (idsOf bs w) i zeroNode
@@ -157,7 +158,7 @@ unfolding idsOf
 some-ident bs w i l = sym (getD-tab (getD w 4 0) (λ k. numbered bs (getD w (15504 + k) 0)) i zeroNode l)
 
 -- all root bindings
-map-roots : (g : ℕ × Bool → Root) (n : ℕ) (f : ℕ → ℕ × Bool) → map g (tab n f) ≡ tab n (λ k. g (f k))
+map-roots : (g : Rooted → Root) (n : ℕ) (f : ℕ → Rooted) → map g (tab n f) ≡ tab n (λ k. g (f k))
 unfolding tab
 map-roots g zero f = refl
 map-roots g (suc n) f = map-append g (tab n f) (f n ∷ []) ∙ ap (λ (r : List Root). r ++ (g (f n) ∷ [])) (map-roots g n f)
@@ -165,25 +166,25 @@ map-roots g (suc n) f = map-append g (tab n f) (f n ∷ []) ∙ ap (λ (r : List
 module _ (bs w : List ℕ) (n : ℕ) (h : rootMarks (stack w) ≡ marksTo w n) where
   roots-tab : rootsIn bs w ≡ tab n (λ k. rootAt bs w k)
   roots-tab =
-      let g : ℕ × Bool → Root = λ (r : ℕ × Bool). record { key = getD (idsOf bs w) (r .0) zeroNode; mark = r .1 } in
-      ap (map g) h ∙ map-roots g n (λ k. (getD w (4112 + k * 10) 0, yes (getD w (4112 + k * 10 + 4) 0)))
+      let g : Rooted → Root = λ (r : Rooted). record { key = getD (idsOf bs w) (r .0) zeroNode; mark = r .1; count = r .2 } in
+      ap (map g) h ∙ map-roots g n (λ k. (getD w (4112 + k * 10) 0, yes (getD w (4112 + k * 10 + 4) 0), getD w (8080 + k) 0))
 
   roots-count : length (rootsIn bs w) ≡ n
   roots-count = ap (λ (rs : List Root). length rs) roots-tab ∙ length-tab n (λ k. rootAt bs w k)
 
   -- no room
-  pub roots-short : (r : List ℕ) → length r < 4 * n → WroteRoots r r (inRoom (length r) (rootsIn bs w)) (Written.Refused 10)
+  pub roots-short : (r : List ℕ) → length r < 5 * n → WroteRoots r r (inRoom (length r) (rootsIn bs w)) (Written.Refused 10)
   roots-short r l =
-      let e : leb (4 * length (rootsIn bs w)) (length r) ≡ false = lt-leb (4 * length (rootsIn bs w)) (length r) (omega (arith, roots-count)) in
+      let e : leb (5 * length (rootsIn bs w)) (length r) ≡ false = lt-leb (5 * length (rootsIn bs w)) (length r) (omega (arith, roots-count)) in
       subst (λ (p : Bool). WroteRoots r r (elim p [ false ↦ refused 10 | true ↦ listed (rootsIn bs w) ]) (Written.Refused 10)) (sym e) (record { says = refl; leaves = refl })
 
   -- room
-  pub roots-wrote : (r r′ : List ℕ) → 4 * n ≤ length r → r′ ≡ sets r 0 (rootList (tab n (λ k. rootAt bs w k))) → WroteRoots r r′ (inRoom (length r) (rootsIn bs w)) (Written.Done n)
+  pub roots-wrote : (r r′ : List ℕ) → 5 * n ≤ length r → r′ ≡ sets r 0 (rootList (tab n (λ k. rootAt bs w k))) → WroteRoots r r′ (inRoom (length r) (rootsIn bs w)) (Written.Done n)
   roots-wrote r r′ l q =
       let rs = rootsIn bs w in
-      let e : leb (4 * length rs) (length r) ≡ true = le-leb (4 * length rs) (length r) (omega (arith, roots-count)) in
-      let size : 0 + length (rootList rs) ≡ 4 * length rs = omega (arith, list-length rs) in
-      let whole : sets r 0 (rootList rs) ≡ rootList rs ++ drop (4 * length rs) r = sets-eq (rootList rs) r 0 (omega (arith, list-length rs, roots-count)) ∙ ap (λ (k : ℕ). rootList rs ++ drop k r) size in
+      let e : leb (5 * length rs) (length r) ≡ true = le-leb (5 * length rs) (length r) (omega (arith, roots-count)) in
+      let size : 0 + length (rootList rs) ≡ 5 * length rs = omega (arith, list-length rs) in
+      let whole : sets r 0 (rootList rs) ≡ rootList rs ++ drop (5 * length rs) r = sets-eq (rootList rs) r 0 (omega (arith, list-length rs, roots-count)) ∙ ap (λ (k : ℕ). rootList rs ++ drop k r) size in
       subst (λ (p : Bool). WroteRoots r r′ (elim p [ false ↦ refused 10 | true ↦ listed rs ]) (Written.Done n)) (sym e) (record { says = sym roots-count; leaves = q ∙ ap (λ (ys : List Root). sets r 0 (rootList ys)) (sym roots-tab) ∙ whole })
 
 -- the binding of a number: one of those that a table has, or none behind them
@@ -210,8 +211,8 @@ nth-tab (suc c) f n l = ⊎-elim (λ (e : n ≡ c). at-end e) (λ (h : n < c). n
     at-end e = ap (λ (m : ℕ). nth m (tab c f ++ (f c ∷ []))) (e ∙ sym (length-tab c f)) ∙ nth-last (tab c f) (f c) ∙ ap (λ (m : ℕ). some (f m)) (sym e)
 
 -- as it is answered
-pub found : {x y : Raw} {p q : Bool} → x ≡ y → p ≡ q → RootAt.Found (x .text) (x .bits) p ≡ nthIs (some (record { key = y; mark = q }))
-found e h = cc
+pub found : {x y : Raw} {p q : Bool} (n : ℕ) → x ≡ y → p ≡ q → RootAt.Found (x .text) (x .bits) p n ≡ nthIs (some (record { key = y; mark = q; count = n }))
+found n e h = cc
 
 module _ (bs w : List ℕ) (c : ℕ) (h : rootMarks (stack w) ≡ marksTo w c) (n : ℕ) where
   pub nth-out : c ≤ n → RootAt.Nothing ≡ nthIs (nth n (rootsIn bs w))

@@ -13,20 +13,20 @@ use Rattle.file_read.specs.Idents.{idsOf, Listed}
 use Rattle.file_write.specs.declared.Written.{Written}
 use Rattle.file_write.specs.declared.Written.the-variants.{Done, Refused}
 use Rattle.def_pass.specs.Script.{Root}
-use Rattle.def_pass.specs.Walk.{rootMarks}
+use Rattle.def_pass.specs.Walk.{Rooted, rootMarks}
 use Rattle.words_scopes.specs.State.{stack}
 
--- the first n bindings of all scopes: identifier and mark
-abbrev pub marksTo : List ℕ → ℕ → List (ℕ × Bool)
-marksTo w n = tab n (λ k. (getD w (4112 + k * 10) 0, yes (getD w (4112 + k * 10 + 4) 0)))
+-- the first n bindings of all scopes: identifier, mark and count
+abbrev pub marksTo : List ℕ → ℕ → List Rooted
+marksTo w n = tab n (λ k. (getD w (4112 + k * 10) 0, yes (getD w (4112 + k * 10 + 4) 0), getD w (8080 + k) 0))
 
 -- binding k with its identifier's text and context
 abbrev pub rootAt : List ℕ → List ℕ → ℕ → Root
-rootAt bs w k = record { key = getD (idsOf bs w) (getD w (4112 + k * 10) 0) zeroNode; mark = yes (getD w (4112 + k * 10 + 4) 0) }
+rootAt bs w k = record { key = getD (idsOf bs w) (getD w (4112 + k * 10) 0) zeroNode; mark = yes (getD w (4112 + k * 10 + 4) 0); count = getD w (8080 + k) 0 }
 
 -- the root's bindings
 abbrev pub rootsIn : List ℕ → List ℕ → List Root
-rootsIn bs w = map (λ (r : ℕ × Bool). record { key = getD (idsOf bs w) (r .0) zeroNode; mark = r .1 }) (rootMarks (stack w))
+rootsIn bs w = map (λ (r : Rooted). record { key = getD (idsOf bs w) (r .0) zeroNode; mark = r .1; count = r .2 }) (rootMarks (stack w))
 
 -- the words list identifiers of nodes of the file
 pub record Known (bs w : List ℕ) : Type 0 where
@@ -34,9 +34,9 @@ pub record Known (bs w : List ℕ) : Type 0 where
   pub listed : Listed w nodes
   pub room : 32 + 16 * nodes ≤ length bs
 
--- text number, context's low and high half, mark
+-- text number, context's low and high half, mark, count (request 9)
 abbrev pub rootWords : Root → List ℕ
-rootWords r = r .key .text ∷ r .key .bits % 4294967296 ∷ r .key .bits / 4294967296 ∷ toNat (r .mark) ∷ []
+rootWords r = r .key .text ∷ r .key .bits % 4294967296 ∷ r .key .bits / 4294967296 ∷ toNat (r .mark) ∷ r .count ∷ []
 
 unfoldable pub rootList : List Root → List ℕ
 rootList [] = []
@@ -47,14 +47,14 @@ pub data Listing : Type 0 where
   refused : ℕ → Listing
   listed : List Root → Listing
 
--- row 10: four words for each
+-- row 10: five words for each
 abbrev pub inRoom : ℕ → List Root → Listing
-inRoom room rs = elim (leb (4 * length rs) room) [ false ↦ refused 10 | true ↦ listed rs ]
+inRoom room rs = elim (leb (5 * length rs) room) [ false ↦ refused 10 | true ↦ listed rs ]
 
 -- the buffer r after an answer: a refusal leaves it as it was, and the words behind the bindings stay
 abbrev pub left : List ℕ → Listing → List ℕ
 left r (refused m) = r
-left r (listed rs) = rootList rs ++ drop (4 * length rs) r
+left r (listed rs) = rootList rs ++ drop (5 * length rs) r
 
 -- what writing them answers
 abbrev pub SaysSo : Written → Listing → Type 0

@@ -15,4 +15,4 @@ nth (suc n) (r ∷ rs) = nth n rs
 -- the answer for each of the two cases
 abbrev pub nthIs : Option Root → RootAt
 nthIs none = Nothing
-nthIs (some r) = Found (r .key .text) (r .key .bits) (r .mark)
+nthIs (some r) = Found (r .key .text) (r .key .bits) (r .mark) (r .count)

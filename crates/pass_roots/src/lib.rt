@@ -1,4 +1,4 @@
-// The bindings of the root scope, oldest first: all of them, four words for each, and the one of a number.
+// The bindings of the root scope, oldest first: all of them, five words for each, and the one of a number.
 ghost use mathlib.Core.Path.{_≡_};
 ghost use Prim.Native.Nat.{_+_, _*_, _≤_};
 ghost use lib.ListN.{length, getD};
@@ -17,12 +17,13 @@ use file_fields::fields::raw_at;
 use file_write::Written;
 use words::layout;
 
-// A root binding: its text number, its context, its own prevented mark; or that the root has none of that number.
+// A root binding: its text number, its context, its own prevented mark, and how often an identifier was replaced by its value; or that the root has none of that number.
 pub enum RootAt {
     Found {
         text: u32,
         context: u64,
         prevented: bool,
+        count: u32,
     },
     Nothing,
 }
@@ -62,10 +63,10 @@ fn flag(v: u32) -> u32
     if v == 0 { 0 } else { 1 }
 }
 
-// One binding: text number, context's low and high half, mark.
-fn put_root(roots: &mut [u32], at: usize, x: Raw, mark: u32)
-    requires { ⌜ at + 4 ≤ length (now roots) ⌝ }
-    ensures { λ _. ⌜ now (roots .exit) ≡ sets (now (roots .entry)) at (rootWords (record { key = x; mark = yes mark })) ⌝ }
+// One binding: text number, context's low and high half, mark, count.
+fn put_root(roots: &mut [u32], at: usize, x: Raw, mark: u32, count: u32)
+    requires { ⌜ at + 5 ≤ length (now roots) ⌝ }
+    ensures { λ _. ⌜ now (roots .exit) ≡ sets (now (roots .entry)) at (rootWords (record { key = x; mark = yes mark; count = count })) ⌝ }
 {
     let bits = x.bits;
     let prevented = flag(mark);
@@ -73,11 +74,12 @@ fn put_root(roots: &mut [u32], at: usize, x: Raw, mark: u32)
     roots[at + 1] = (bits % 4294967296) as u32;
     roots[at + 2] = (bits / 4294967296) as u32;
     roots[at + 3] = prevented;
+    roots[at + 4] = count;
 }
 
 // The first n bindings.
 fn put_roots(file: &[u8], words: &[u32], roots: &mut [u32], n: usize)
-    requires { ⌜ Known (now file) (now words) × (n ≤ 256) × (4 * n ≤ length (now roots)) ⌝ }
+    requires { ⌜ Known (now file) (now words) × (n ≤ 256) × (5 * n ≤ length (now roots)) ⌝ }
     ensures { λ _. ⌜ now (roots .exit) ≡ sets (now (roots .entry)) 0 (rootList (tab n (λ k. rootAt (now (file .entry)) (now (words .entry)) k))) ⌝ }
 {
     let mut k: usize = 0;
@@ -85,7 +87,8 @@ fn put_roots(file: &[u8], words: &[u32], roots: &mut [u32], n: usize)
         let i = words[layout::BINDINGS + k * 10] as usize;
         let x = ident(file, words, i);
         let mark = words[layout::BINDINGS + k * 10 + layout::PREVENTED];
-        put_root(roots, 4 * k, x, mark);
+        let count = words[layout::COUNTS + k];
+        put_root(roots, 5 * k, x, mark, count);
         k += 1;
     }
 }
@@ -96,7 +99,7 @@ pub fn write_roots(file: &[u8], words: &[u32], roots: &mut [u32]) -> Written
     ensures { λ r. ⌜ WroteRoots (now (roots .entry)) (now (roots .exit)) (inRoom (length (now (roots .entry))) (rootsIn (now (file .entry)) (now (words .entry)))) r ⌝ }
 {
     let n = root_count(words);
-    if roots.len() < 4 * n {
+    if roots.len() < 5 * n {
         return Written::Refused(10);
     }
     put_roots(file, words, roots, n);
@@ -115,9 +118,11 @@ pub fn root_at(file: &[u8], words: &[u32], n: usize) -> RootAt
     let i = words[layout::BINDINGS + n * 10] as usize;
     let x = ident(file, words, i);
     let mark = words[layout::BINDINGS + n * 10 + layout::PREVENTED];
+    let times = words[layout::COUNTS + n];
     RootAt::Found {
         text: x.text,
         context: x.bits,
         prevented: mark != 0,
+        count: times,
     }
 }

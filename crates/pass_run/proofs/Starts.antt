@@ -31,7 +31,7 @@ use Rattle.words_twice.specs.Twice.{Plain}
 use Rattle.words_twice.proofs.Steps.{flagged-long}
 use Rattle.pass_run.specs.Start.{Loaded, Fields, Started}
 
-pub fields : {w u v y z : List ℕ} → Zeroed w u 1 3 → Put5 u v 5 0 0 1 1 3 → Zeroed v y 10 2 → Zeroed y z 7568 256 → Fields w z
+pub fields : {w u v y z : List ℕ} → Zeroed w u 1 3 → Put5 u v 5 0 0 1 1 3 → Zeroed v y 10 4 → Zeroed y z 7568 256 → Fields w z
 fields {w} {u} {v} {y} {z} a b c d = record {
   size = d .size ∙ c .size ∙ b .size ∙ a .size;
   nodes = d .low 0 (omega arith) ∙ c .low 0 (omega arith) ∙ b .low 0 (omega arith) ∙ a .low 0 (omega arith);
@@ -46,6 +46,8 @@ fields {w} {u} {v} {y} {z} a b c d = record {
   patMode = d .low 9 (omega arith) ∙ c .low 9 (omega arith) ∙ b .at4;
   inTest = d .low 10 (omega arith) ∙ c .here 0 (omega arith);
   conds = d .low 11 (omega arith) ∙ c .here 1 (omega arith);
+  ended = d .low 12 (omega arith) ∙ c .here 2 (omega arith);
+  replaced = d .low 13 (omega arith) ∙ c .here 3 (omega arith);
   index = d .here;
   mid = λ j l h. d .low j h ∙ c .high j (omega arith) ∙ b .high j (omega arith) ∙ a .high j (omega arith);
   high = λ j l. d .high j (omega arith) ∙ c .high j (omega arith) ∙ b .high j (omega arith) ∙ a .high j (omega arith);
@@ -102,7 +104,7 @@ module _ {w u : List ℕ} (l : Loaded w) (f : Fields w u) where
 
     field : st ≡ newScope (fn false) ∷ [] → targeted w ≡ targetsL (tree w) → rest v ≡ startF (getD w 0 0) (targetsL (tree w))
     unfolding rest
-    field e q = becomes-rest planted (count-kept b) b ∙ st-eq e (ap yes (f .changed)) (ap yes (f .inlining)) (ap yes (f .isFirstRun)) (ap varTypeOf (f .varDeclKind)) (ap modeOf (f .patMode)) (ap yes (f .inTest)) (f .conds) (f .nodes) (targeted-same w u (λ j p h. f .high j (omega arith)) ∙ q)
+    field e q = becomes-rest planted (count-kept b) b ∙ st-eq e (ap yes (f .changed)) (ap yes (f .inlining)) (ap yes (f .isFirstRun)) (ap varTypeOf (f .varDeclKind)) (ap modeOf (f .patMode)) (ap yes (f .inTest)) (f .conds) (f .nodes) (targeted-same w u (λ j p h. f .high j (omega arith)) ∙ q) (f .ended) (f .replaced)
 
     begun : st ≡ newScope (fn false) ∷ [] → targeted w ≡ targetsL (tree w) → Opened w v
     begun e q = record {

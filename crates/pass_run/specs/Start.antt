@@ -18,7 +18,7 @@ pub record Loaded (w : List ℕ) : Type 0 where
   pub one : One (tree w)
   pub plain : Plain (tree w) 0
 
--- words 1 to 3, 5 to 11 and the index are stored, and all else is kept
+-- words 1 to 3, 5 to 13 and the index are stored, and all else is kept
 pub record Fields (w u : List ℕ) : Type 0 where
   pub size : length u ≡ length w
   pub nodes : getD u 0 0 ≡ getD w 0 0
@@ -33,8 +33,10 @@ pub record Fields (w u : List ℕ) : Type 0 where
   pub patMode : getD u 9 0 ≡ 3
   pub inTest : getD u 10 0 ≡ 0
   pub conds : getD u 11 0 ≡ 0
+  pub ended : getD u 12 0 ≡ 0
+  pub replaced : getD u 13 0 ≡ 0
   pub index : (x : ℕ) → x < 256 → getD u (7568 + x) 0 ≡ 0
-  pub mid : Agree 12 7568 w u
+  pub mid : Agree 14 7568 w u
   pub high : (j : ℕ) → 7824 ≤ j → getD u j 0 ≡ getD w j 0
 
 -- the same tree, flagged, and the visitor before its first run, with what the tree targets; the identifiers and the words past the first 16,384 are as they were

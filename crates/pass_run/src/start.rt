@@ -12,14 +12,15 @@ use words::wipe;
 use words_targets::mark_targets;
 use words_twice::flag_twice;
 
-// No scope, an empty index, and the visitor's fields: not changed, Analysis, the first run, var, declaring, no test, no right side.
+// No scope, an empty index, and the visitor's fields: not changed, Analysis, the first run, var, declaring, no test, no right side, no count
+// that has ended, no replacement.
 fn set_fields(w: &mut [u32])
     requires { ⌜ 16384 ≤ length (now w) ⌝ }
     ensures { λ _. ⌜ Fields (now (w .entry)) (now (w .exit)) ⌝ }
 {
     wipe(w, layout::BINDING_COUNT, 3);
     put5(w, layout::CHANGED, 0, 0, 1, 1, 3);
-    wipe(w, layout::IN_TEST, 2);
+    wipe(w, layout::IN_TEST, 4);
     wipe(w, layout::INDEX, 256);
 }
 

@@ -3,22 +3,22 @@ use mathlib.Core.Path.{_≡_, refl, sym, ap, _∙_}
 use mathlib.Core.List.{List, [], _∷_, _++_}
 use mathlib.Core.Bool.{Bool, true, false, _||_}
 use mathlib.Core.Logic.{_⊎_, inl, inr, ⊎-elim}
-use Prim.Native.Nat.{ℕ, zero, suc, _+_, _-_, _*_, _≤_, _<_}
+use Prim.Native.Nat.{ℕ, zero, suc, _+_, _-_, _*_, _%_, _≤_, _<_}
 use native.Mathlib.Omega.{arith}
 use lib.ListN.{length, getD, set, drop, length-set, length-drop}
 use lib.Seq.{getD-set-same, getD-set-other, getD-drop, ext-getD}
 use Rattle.def_tree.specs.Base.{pick}
-use Rattle.def_pass.specs.Scope.{VarInfo, Scope, Stack, isFn, isVar, put, hoist, hoistAll, onBindings, close}
-use Rattle.words.specs.Tab.{tab, length-tab, getD-tab, sum-zero}
+use Rattle.def_pass.specs.Scope.{VarInfo, Scope, Stack, isFn, isVar, put, hoist, hoistAll, onBindings, close, wrap, countsIn, countIn, endingAll, ending}
+use Rattle.words.specs.Tab.{tab, tab-zero, tab-suc, length-tab, getD-tab, sum-zero, below-or-not}
 use Rattle.words.specs.Layout.{Agree, tree}
 use Rattle.words.specs.Moved.{Zeroed}
 use Rattle.words.proofs.Nodes.{beyond-same, tree-same}
-use Rattle.words_scopes.specs.State.{Good, Becomes, bindAt, binds, stack, heads, headsAt, scopeKindOf, dropInner, lenAt, clenAt}
+use Rattle.words_scopes.specs.State.{Good, Past, Becomes, bindAt, binds, stack, Fits, heads, headAt, headsAt, scopeKindOf, dropInner, lenAt, clenAt}
 use Rattle.words_scopes.proofs.Index.{beside-none}
 use Rattle.scope_values.proofs.Count.{depth-is}
 use Rattle.scope_values.proofs.Listed.{stack-none}
-use Rattle.scope_child.specs.Hoist.{recordAt, hoistUp}
-use Rattle.scope_redeclare.proofs.Top.{topScope, under, stack-top, under-length, top-fits}
+use Rattle.scope_child.specs.Hoist.{recordAt, hoistUp, endOne, endUp}
+use Rattle.scope_redeclare.proofs.Top.{topScope, under, heads-top, stack-top, under-length, top-fits}
 use Rattle.scope_child.proofs.Hoist.{record-same}
 
 pub fn-yes : (k : ℕ) → 3 ≤ k → isFn (scopeKindOf k) ≡ true
@@ -61,6 +61,37 @@ unfolding tab
 hoist-bare w a zero us bs = refl
 hoist-bare w a (suc n) us bs = rw (hoist-snoc us (tab n (λ j. recordAt w (a + j))) (recordAt w (a + n)) bs, hoist-snoc us (tab n (λ j. bindAt w (a + j))) (bindAt w (a + n)) bs, hoist-bare w a n us bs) refl
 
+-- the same of what ends
+ending-snoc : (us : ℕ → Bool) (xs : List VarInfo) (y : VarInfo) (bs : List VarInfo) → endingAll us (xs ++ (y ∷ [])) bs ≡ endingAll us xs bs + pick (isVar (y .kind)) (countIn (y .id) (hoistAll us xs bs)) (y .count)
+ending-snoc us [] y bs = omega arith
+ending-snoc us (x ∷ xs) y bs = omega (arith, ending-snoc us xs y (pick (isVar (x .kind)) (put (hoist us x) bs) bs))
+
+ending-tab : (f : ℕ → VarInfo) (a n : ℕ) (s : Scope) (st : Stack) → endUp f a n (s ∷ st) ≡ endingAll (s .unresolvedUsages) (tab n (λ j. f (a + j))) (s .bindings)
+unfolding tab
+ending-tab f a zero s st = refl
+ending-tab f a (suc n) s st = rw (ending-tab f a n s st, hoist-tab f a n s st, ending-snoc (s .unresolvedUsages) (tab n (λ j. f (a + j))) (f (a + n)) (s .bindings)) refl
+
+ending-bare : (w : List ℕ) (a n : ℕ) (us : ℕ → Bool) (bs : List VarInfo) → endingAll us (tab n (λ j. recordAt w (a + j))) bs ≡ endingAll us (tab n (λ j. bindAt w (a + j))) bs
+unfolding tab
+ending-bare w a zero us bs = refl
+ending-bare w a (suc n) us bs = rw (ending-snoc us (tab n (λ j. recordAt w (a + j))) (recordAt w (a + n)) bs, ending-snoc us (tab n (λ j. bindAt w (a + j))) (bindAt w (a + n)) bs, hoist-bare w a n us bs, ending-bare w a n us bs) refl
+
+counts-snoc : (xs : List VarInfo) (b : VarInfo) → countsIn (xs ++ (b ∷ [])) ≡ countsIn xs + b .count
+counts-snoc [] b = omega arith
+counts-snoc (x ∷ xs) b = omega (arith, counts-snoc xs b)
+
+-- no count, and a count more
+pub sum-none : (w : List ℕ) (a : ℕ) → 0 ≡ countsIn (tab (a - a) (λ i. bindAt w (a + i))) % 4294967296
+sum-none w a = (let e : a - a ≡ 0 = omega arith in rw e (sym (ap (λ (bs : List VarInfo). countsIn bs % 4294967296) (tab-zero (λ i. bindAt w (a + i))))))
+
+pub sum-more : (w : List ℕ) (a j s : ℕ) → a ≤ j → s ≡ countsIn (tab (j - a) (λ i. bindAt w (a + i))) % 4294967296 → (s + getD w (8080 + j) 0) % 4294967296 ≡ countsIn (tab (j + 1 - a) (λ i. bindAt w (a + i))) % 4294967296
+sum-more w a j s h e =
+    let n : j + 1 - a ≡ j - a + 1 = omega arith in
+    let q : a + (j - a) ≡ j = omega arith in
+    let t : countsIn (tab (j + 1 - a) (λ i. bindAt w (a + i))) ≡ countsIn (tab (j - a) (λ i. bindAt w (a + i))) + getD w (8080 + j) 0 =
+    rw n (ap countsIn (tab-suc (j - a) (λ i. bindAt w (a + i))) ∙ counts-snoc (tab (j - a) (λ i. bindAt w (a + i))) (bindAt w (a + (j - a))) ∙ rw q refl) in
+    omega (arith, e, t)
+
 drop-tab : (f : ℕ → VarInfo) (a e : ℕ) → a ≤ e → drop a (tab e f) ≡ tab (e - a) (λ j. f (a + j))
 drop-tab f a e h =
     let l : length (drop a (tab e f)) ≡ e - a = length-drop a (tab e f) ∙ ap (λ (n : ℕ). n - a) (length-tab e f) in
@@ -76,9 +107,41 @@ close-var w a c (s ∷ st) h b l e =
     let s′ : Scope = record { kind = s .kind; inlineBarriers = s .inlineBarriers; bindings = s .bindings; unresolvedUsages = us; constants = s .constants } in
     hoist-tab (λ j. recordAt w j) a (n - a) s′ st ∙ rw (e, b, drop-tab (λ j. bindAt w j) a n h, hoist-bare w a (n - a) us (s .bindings)) refl
 
+pub ending-var : (w : List ℕ) (a : ℕ) (c : Scope) (u : Stack) → a ≤ getD w 1 0 → c .bindings ≡ drop a (binds w) → 0 < length u → isFn (c .kind) ≡ false → endUp (λ j. recordAt w j) a (getD w 1 0 - a) (dropInner (c ∷ u)) ≡ ending (c ∷ u)
+unfolding ending binds
+ending-var w a c [] h b l e = absurd (omega arith)
+ending-var w a c (s ∷ st) h b l e =
+    let us : ℕ → Bool = λ j. c .unresolvedUsages j || s .unresolvedUsages j in
+    let n : ℕ = getD w 1 0 in
+    let s′ : Scope = record { kind = s .kind; inlineBarriers = s .inlineBarriers; bindings = s .bindings; unresolvedUsages = us; constants = s .constants } in
+    ending-tab (λ j. recordAt w j) a (n - a) s′ st ∙ rw (e, b, drop-tab (λ j. bindAt w j) a n h, ending-bare w a (n - a) us (s .bindings)) refl
+
+ending-fn : (c : Scope) (u : Stack) → 0 < length u → isFn (c .kind) ≡ true → ending (c ∷ u) ≡ countsIn (c .bindings)
+unfolding ending
+ending-fn c [] h e = absurd (omega arith)
+ending-fn c (s ∷ st) h e = rw e refl
+
+ending-one : (c : Scope) (u : Stack) → length u ≡ 0 → ending (c ∷ u) ≡ countsIn (c .bindings)
+unfolding ending
+ending-one c [] h = refl
+ending-one c (s ∷ st) h = absurd (omega arith)
+
+-- the counts of the innermost scope are those of the bindings from its first on
+module _ (w : List ℕ) (g : Good w) (z : 0 < getD w 2 0) where
+  top-counts : countsIn (topScope w g z .bindings) ≡ countsIn (tab (getD w 1 0 - getD w (7184 + (getD w 2 0 - 1) * 4 + 1) 0) (λ j. bindAt w (getD w (7184 + (getD w 2 0 - 1) * 4 + 1) 0 + j)))
+  unfolding binds
+  top-counts = ap countsIn (drop-tab (λ j. bindAt w j) (getD w (7184 + (getD w 2 0 - 1) * 4 + 1) 0) (getD w 1 0) (top-fits w g z))
+
+  pub ends-fn : 1 < getD w 2 0 → 3 ≤ getD w (7184 + (getD w 2 0 - 1) * 4) 0 → ending (stack w) ≡ countsIn (tab (getD w 1 0 - getD w (7184 + (getD w 2 0 - 1) * 4 + 1) 0) (λ j. bindAt w (getD w (7184 + (getD w 2 0 - 1) * 4 + 1) 0 + j)))
+  ends-fn m h = ap ending (stack-top w g z) ∙ ending-fn (topScope w g z) (under w g z) (omega (arith, under-length w g z)) (fn-yes (getD w (7184 + (getD w 2 0 - 1) * 4) 0) h) ∙ top-counts
+
 pub up-same : (f g : ℕ → VarInfo) (a n : ℕ) (st : Stack) → ((j : ℕ) → j < n → f (a + j) ≡ g (a + j)) → hoistUp f a n st ≡ hoistUp g a n st
 up-same f g a zero st h = refl
 up-same f g a (suc n) st h = rw (h n (omega arith), up-same f g a n st (λ j l. h j (omega arith))) refl
+
+end-same : (f g : ℕ → VarInfo) (a n : ℕ) (st : Stack) → ((j : ℕ) → j < n → f (a + j) ≡ g (a + j)) → endUp f a n st ≡ endUp g a n st
+end-same f g a zero st h = refl
+end-same f g a (suc n) st h = rw (h n (omega arith), up-same f g a n st (λ j l. h j (omega arith)), end-same f g a n st (λ j l. h j (omega arith))) refl
 
 -- no scope, no record
 module _ (w u : List ℕ) (g : Good w) (zeroth : Zeroed w u 7568 256) where
@@ -162,11 +225,45 @@ module _ (w u : List ℕ) (g : Good w) (z : 1 < getD w 2 0) (is : stack u ≡ dr
   pub closed-fn : 3 ≤ getD w (7184 + (getD w 2 0 - 1) * 4) 0 → dropInner (stack w) ≡ close (stack w)
   closed-fn h = ap dropInner (stack-top w g deep) ∙ sym (close-fn (topScope w g deep) (under w g deep) more (fn-yes (getD w (7184 + (getD w 2 0 - 1) * 4) 0) h)) ∙ ap close (sym (stack-top w g deep))
 
-  pub closed-var : getD w (7184 + (getD w 2 0 - 1) * 4) 0 < 3 → Agree 4112 6672 w u → hoistUp (λ j. recordAt u j) (getD w (7184 + (getD w 2 0 - 1) * 4 + 1) 0) (getD w 1 0 - getD w (7184 + (getD w 2 0 - 1) * 4 + 1) 0) (stack u) ≡ close (stack w)
+  pub closed-var : getD w (7184 + (getD w 2 0 - 1) * 4) 0 < 3 → Past 0 w u → hoistUp (λ j. recordAt u j) (getD w (7184 + (getD w 2 0 - 1) * 4 + 1) 0) (getD w 1 0 - getD w (7184 + (getD w 2 0 - 1) * 4 + 1) 0) (stack u) ≡ close (stack w)
   closed-var h k =
       let a : ℕ = getD w (7184 + (getD w 2 0 - 1) * 4 + 1) 0 in
       let n : ℕ = getD w 1 0 - a in
-      up-same (λ j. recordAt u j) (λ j. recordAt w j) a n (stack u) (λ j l. record-same w u (a + j) (λ q c b. k q (omega arith) (omega (arith, g .count))))
+      up-same (λ j. recordAt u j) (λ j. recordAt w j) a n (stack u) (λ j l. record-same w u (a + j) (λ q c b. k .0 q (omega arith) (omega (arith, g .count))) (k .1 (8080 + (a + j)) (omega arith) (omega (arith, g .count))))
       ∙ ap (hoistUp (λ j. recordAt w j) a n) (is ∙ ap dropInner (stack-top w g deep))
       ∙ close-var w a (topScope w g deep) (under w g deep) (top-fits w g deep) refl more (fn-no (getD w (7184 + (getD w 2 0 - 1) * 4) 0) h)
       ∙ ap close (sym (stack-top w g deep))
+
+  pub ended-var : getD w (7184 + (getD w 2 0 - 1) * 4) 0 < 3 → Past 0 w u → endUp (λ j. recordAt u j) (getD w (7184 + (getD w 2 0 - 1) * 4 + 1) 0) (getD w 1 0 - getD w (7184 + (getD w 2 0 - 1) * 4 + 1) 0) (stack u) ≡ ending (stack w)
+  ended-var h k =
+      let a : ℕ = getD w (7184 + (getD w 2 0 - 1) * 4 + 1) 0 in
+      let n : ℕ = getD w 1 0 - a in
+      end-same (λ j. recordAt u j) (λ j. recordAt w j) a n (stack u) (λ j l. record-same w u (a + j) (λ q c b. k .0 q (omega arith) (omega (arith, g .count))) (k .1 (8080 + (a + j)) (omega arith) (omega (arith, g .count))))
+      ∙ ap (endUp (λ j. recordAt w j) a n) (is ∙ ap dropInner (stack-top w g deep))
+      ∙ ending-var w a (topScope w g deep) (under w g deep) (top-fits w g deep) refl more (fn-no (getD w (7184 + (getD w 2 0 - 1) * 4) 0) h)
+      ∙ ap ending (sym (stack-top w g deep))
+
+-- one scope or none: every count ends
+ending-none : ending [] ≡ 0
+unfolding ending
+ending-none = refl
+
+module _ (w : List ℕ) (g : Good w) (h : getD w 2 0 < 2) where
+  first-zero : (z : 0 < getD w 2 0) → getD w (7184 + (getD w 2 0 - 1) * 4 + 1) 0 ≡ 0
+  unfolding headsAt
+  first-zero z = (let f : Fits (headAt w (getD w 2 0 - 1) ∷ headsAt w (getD w 2 0 - 1)) (getD w 1 0) = rw (heads-top w g z) at (g .fits) in go (getD w 2 0 - 1) (omega arith) (f .1))
+    where
+      go : (d : ℕ) → d ≡ 0 → Fits (headsAt w d) (getD w (7184 + d * 4 + 1) 0) → getD w (7184 + d * 4 + 1) 0 ≡ 0
+      go zero e f = f
+      go (suc d) e f = absurd (omega arith)
+
+  none-zero : getD w 2 0 ≡ 0 → getD w 1 0 ≡ 0
+  unfolding heads headsAt
+  none-zero z = (let f : Fits (headsAt w 0) (getD w 1 0) = rw z at (g .fits) in f)
+
+  pub ends-few : ending (stack w) ≡ countsIn (tab (getD w 1 0 - 0) (λ j. bindAt w (0 + j)))
+  ends-few = ⊎-elim
+      (λ (z : 0 < getD w 2 0). ap ending (stack-top w g z) ∙ ending-one (topScope w g z) (under w g z) (omega (arith, under-length w g z)) ∙ top-counts w g z ∙ ap (λ (a : ℕ). countsIn (tab (getD w 1 0 - a) (λ j. bindAt w (a + j)))) (first-zero z))
+      (λ (l : getD w 2 0 ≤ 0). let e : getD w 2 0 ≡ 0 = omega arith in
+      ap ending (stack-none w e) ∙ ending-none ∙ sym (ap (λ (n : ℕ). countsIn (tab (n - 0) (λ j. bindAt w (0 + j)))) (none-zero e) ∙ ap countsIn (tab-zero (λ j. bindAt w (0 + j)))))
+      (below-or-not 0 (getD w 2 0))

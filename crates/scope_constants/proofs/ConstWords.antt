@@ -59,7 +59,7 @@ module _ {w w′ : List ℕ} (g : Good w) (t : CKept w w′) where
 
   ckept-binds : binds w′ ≡ binds w
   unfolding binds
-  ckept-binds = rw n1 (part-binds w′ g (getD w 1 0) (omega arith) bs bt)
+  ckept-binds = rw n1 (part-binds w′ g (getD w 1 0) (omega arith) bs bt (λ j a b. t .tail j (omega arith) (omega (arith, g .count))))
 
   module _ (c : ℕ) (is : getD w′ 3 0 ≡ c) where
     pub ckept-good : getD w 1 0 + c ≤ 256 → off w (getD w 1 0) + coff w′ c ≤ 512 → CFits (heads w) c → ((k : ℕ) → k < c → getD w′ (6672 + k * 2) 0 < 256) → ((k : ℕ) → k < c → Whole (crunAt w′ k)) → ((k : ℕ) → k < c → Free (targeted w) (valueOf (crunAt w′ k))) → Good w′

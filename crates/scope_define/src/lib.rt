@@ -94,7 +94,7 @@ fn declare_new(
         return Step::Refused(9);
     }
     let n = w[layout::BINDING_COUNT] as usize;
-    append_record(w, x, kind, alias, 0, prevented, undef, 0, 0);
+    append_record(w, x, kind, alias, 0, prevented, undef, 0, 0, 0);
     if m == 0 {
         return Step::Done;
     }

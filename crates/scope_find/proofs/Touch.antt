@@ -76,7 +76,7 @@ module _ {w w′ : List ℕ} (g : Good w) (t : Touched w w′) where
       (run-same w w′ 2064 (off w k) (lenAt w k) 512 (omega (arith, sum-part (λ j. lenAt w j) k (getD w 1 0) h, g .vals)) (plain 2064 3088 (omega arith)))
 
   bind-at : (k : ℕ) → k < getD w 1 0 → bindAt w′ k ≡ bindAt w k
-  bind-at k h = let l = g .count in bind-same w w′ k (λ j a b. t .low j (omega arith) (λ i n e. omega arith)) (run-at k h)
+  bind-at k h = let l = g .count in bind-same w w′ k (λ j a b. t .low j (omega arith) (λ i n e. omega arith)) (run-at k h) (t .high (8080 + k) (omega arith) (omega arith))
 
   fits-same : (k n : ℕ) → k ≤ 32 → Fits (headsAt w k) n → Fits (headsAt w′ k) n
   unfolding headsAt

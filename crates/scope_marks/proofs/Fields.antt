@@ -49,12 +49,13 @@ module _ (w : List ℕ) (g : Good w) (k : ℕ) (h : k < getD w 1 0) where
       value = bindAt w k .value;
       thisSensitive = yes (now-at 6);
       hoisted = yes (now-at 7);
+      count = bindAt w k .count;
     }
 
     pub store-this : bindAt w′ k ≡ stored
     store-this =
         words.bind-eq (words.field-name w g k h q v lo hi k) (ap varTypeOf (word 1 (omega arith))) (ap aliasAt (word 2 (omega arith))) (word 3 (omega arith))
-        (ap yes (word 4 (omega arith))) (ap yes (word 5 (omega arith))) (ap valueOf (words.runs-at g (words.field-runs w g k h q v lo hi) k h)) (ap yes (word 6 (omega arith))) (ap yes (word 7 (omega arith)))
+        (ap yes (word 4 (omega arith))) (ap yes (word 5 (omega arith))) (ap valueOf (words.runs-at g (words.field-runs w g k h q v lo hi) k h)) (ap yes (word 6 (omega arith))) (ap yes (word 7 (omega arith))) (words.field-count w g k h q v lo hi k)
 
     pub store-becomes : (f : VarInfo → VarInfo) → stored ≡ f (bindAt w k) → (x : ℕ) → place x (heads w) (binds w) ≡ suc k → Becomes w w′ (change x f (stack w))
     store-becomes f e = words.changed g (words.field-kept w g k h q v lo hi) k h f (store-this ∙ e) (words.field-other w g k h q v lo hi) (words.field-good w g k h q v lo hi)
@@ -67,7 +68,7 @@ module _ (w : List ℕ) (g : Good w) (k : ℕ) (h : k < getD w 1 0) where
 
 -- two fields
 abbrev with-mark : Bool → VarInfo → VarInfo
-with-mark m b = record { id = b .id; kind = b .kind; aliasOf = b .aliasOf; readCnt = b .readCnt; inlinePrevented = m; isUndefined = b .isUndefined; value = b .value; thisSensitive = b .thisSensitive; hoisted = b .hoisted }
+with-mark m b = record { id = b .id; kind = b .kind; aliasOf = b .aliasOf; readCnt = b .readCnt; inlinePrevented = m; isUndefined = b .isUndefined; value = b .value; thisSensitive = b .thisSensitive; hoisted = b .hoisted; count = b .count }
 
 module _ (w : List ℕ) (g : Good w) (k : ℕ) (h : k < getD w 1 0) where
   pub read-now : (n p : ℕ) → n ≡ oneMore (bindAt w k .readCnt) → yes p ≡ (bindAt w k .hoisted || bindAt w k .inlinePrevented) → (x : ℕ) → place x (heads w) (binds w) ≡ suc k

@@ -7,11 +7,11 @@ use native.Mathlib.Omega.{arith}
 use lib.ListN.{length, getD, set, length-set}
 use lib.Seq.{getD-set-same, getD-set-other}
 use Rattle.words.specs.Tab.{below-or-not}
-use Rattle.words.specs.Layout.{yes, Agree}
+use Rattle.words.specs.Layout.{yes}
 use Rattle.words.specs.Moved.{Put5}
 use Rattle.words.proofs.Nodes.{beyond-same}
-use Rattle.words_scopes.specs.State.{Good, binds, consts, bindAt, varTypeOf, aliasAt, valueOf}
-use Rattle.words_scopes.proofs.Words.{Kept, Runs, runs-good, runs-at, bind-eq, bind-same}
+use Rattle.words_scopes.specs.State.{Good, Past, binds, consts, bindAt, withCount, varTypeOf, aliasAt, valueOf}
+use Rattle.words_scopes.proofs.Words.{Kept, Runs, runs-good, runs-at, bind-eq, bind-same, count-apart, count-kept, count-good, count-this, count-other}
 use Rattle.scope_values.specs.Steps.{Listed, refill}
 use Rattle.scope_values.proofs.Listed.{kept-listed, set-binds}
 
@@ -57,6 +57,7 @@ module _ (w v : List ℕ) (g : Good w) (k : ℕ) (h : k < getD w 1 0) (kind alia
     nodes = λ j a b. out j (inl (omega arith));
     cstore = λ j a b. out j (inl (omega arith));
     tail = λ j a b. out j (inr (omega arith));
+    high = λ j a b. out j (inr (omega arith));
     flag = λ j a. aside j 9 (omega arith) (inr (omega arith));
     rest = beyond-same w x size (λ j a. out j (inr (omega arith)));
   }
@@ -66,6 +67,9 @@ module _ (w v : List ℕ) (g : Good w) (k : ℕ) (h : k < getD w 1 0) (kind alia
 
   re-good : Good x
   re-good = runs-good g re-runs re-kept
+
+  times : (j : ℕ) → getD x (8080 + j) 0 ≡ getD w (8080 + j) 0
+  times j = out (8080 + j) (inr (omega (arith, g .count)))
 
   at : (q y : ℕ) → q < 6 → getD v (p + q) 0 ≡ y → getD x (p + q) 0 ≡ y
   at q y l e = two (p + q) (λ s. omega arith) (λ s. omega arith) ∙ e
@@ -81,14 +85,24 @@ module _ (w v : List ℕ) (g : Good w) (k : ℕ) (h : k < getD w 1 0) (kind alia
       bind-eq (name k) (ap varTypeOf (at 1 kind (omega arith) (one .at0))) (ap aliasAt (at 2 alias (omega arith) (put 1 alias (one .at1)))) (at 3 reads (omega arith) (put 2 reads (one .at2)))
       (ap yes (at 4 prevented (omega arith) (put 3 prevented (one .at3)))) (ap yes (at 5 undef (omega arith) (put 4 undef (one .at4)))) (ap valueOf (runs-at g re-runs k h))
       (ap yes (getD-set-other (set v (p + 6) sensitive) (p + 7) (p + 6) hoisted 0 (λ e. omega arith) ∙ getD-set-same v (p + 6) sensitive 0 (omega (arith, room))))
-      (ap yes (getD-set-same (set v (p + 6) sensitive) (p + 7) hoisted 0 (simp length-set (omega (arith, room)))))
+      (ap yes (getD-set-same (set v (p + 6) sensitive) (p + 7) hoisted 0 (simp length-set (omega (arith, room))))) (times k)
 
   pub rewritten : Listed w x (set (binds w) k (refill kind alias reads prevented undef sensitive hoisted (bindAt w k))) (consts w)
   rewritten = kept-listed g re-kept re-good (set-binds w k h x (refill kind alias reads prevented undef sensitive hoisted (bindAt w k)) (re-kept .counts 1 (omega arith) (omega arith)) this
-      (λ j l e. bind-same w x j (λ q a b. ⊎-elim (λ (s : j < k). out q (inl (omega arith))) (λ (s : k ≤ j). out q (inr (other q j k a s e))) (below-or-not j k)) (runs-at g re-runs j l)))
+      (λ j l e. bind-same w x j (λ q a b. ⊎-elim (λ (s : j < k). out q (inl (omega arith))) (λ (s : k ≤ j). out q (inr (other q j k a s e))) (below-or-not j k)) (runs-at g re-runs j l) (times j)))
     where
       other : (q j k : ℕ) → 4112 + j * 10 ≤ q → k ≤ j → (j ≡ k → ⊥) → 4112 + k * 10 + 8 ≤ q
       other q j k a s e = omega arith
 
-  pub rewritten-past : Agree (4112 + k * 10 + 10) 6672 w x
-  rewritten-past j a b = out j (inr (omega arith))
+  pub rewritten-past : Past (k + 1) w x
+  rewritten-past = (λ j a b. out j (inr (omega arith)), λ j a b. out j (inr (omega (arith, g .count))))
+
+-- the count of binding k is overwritten
+module _ (w : List ℕ) (g : Good w) (k : ℕ) (h : k < getD w 1 0) (count : ℕ) where
+  pub recounted : Listed w (set w (8080 + k) count) (set (binds w) k (withCount count (bindAt w k))) (consts w)
+  recounted =
+      let t = count-kept w g k h count in
+      kept-listed g t (count-good w g k h count) (set-binds w k h (set w (8080 + k) count) (withCount count (bindAt w k)) (t .counts 1 (omega arith) (omega arith)) (count-this w g k h count) (count-other w g k h count))
+
+  pub recounted-past : Past (k + 1) w (set w (8080 + k) count)
+  recounted-past = let l = g .count in (λ j a b. count-apart w g k h count j (λ e. omega arith), λ j a b. count-apart w g k h count j (λ e. omega arith))

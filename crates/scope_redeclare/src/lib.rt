@@ -3,8 +3,8 @@ ghost use mathlib.Core.Path.{_≡_};
 ghost use Prim.Native.Nat.{_+_, _*_, _-_, _≤_, _<_};
 ghost use lib.ListN.{getD, set};
 ghost use Rattle.def_pass.specs.Scope.{redeclare};
-ghost use Rattle.words.specs.Layout.{yes, Agree, run};
-ghost use Rattle.words_scopes.specs.State.{Good, binds, consts, bindAt, valueOf, runOf};
+ghost use Rattle.words.specs.Layout.{yes, run};
+ghost use Rattle.words_scopes.specs.State.{Good, Past, binds, consts, bindAt, withCount, valueOf, runOf};
 ghost use Rattle.scope_values.specs.Steps.{Listed, refill, Grown, putAt};
 ghost use Rattle.scope_redeclare.specs.Own.{Own};
 use scope_values::Step;
@@ -27,7 +27,7 @@ pub fn rewrite(
     hoisted: u32,
 )
     requires { ⌜ (Good (now w)) × (k < getD (now w) 1 0) ⌝ }
-    ensures { λ _. ⌜ (Listed (now (w .entry)) (now (w .exit)) (set (binds (now (w .entry))) k (refill kind alias reads prevented undef sensitive hoisted (bindAt (now (w .entry)) k))) (consts (now (w .entry)))) × (Agree (4112 + k * 10 + 10) 6672 (now (w .entry)) (now (w .exit))) ⌝ }
+    ensures { λ _. ⌜ (Listed (now (w .entry)) (now (w .exit)) (set (binds (now (w .entry))) k (refill kind alias reads prevented undef sensitive hoisted (bindAt (now (w .entry)) k))) (consts (now (w .entry)))) × (Past (k + 1) (now (w .entry)) (now (w .exit))) ⌝ }
 {
     put5(
         w,
@@ -40,6 +40,14 @@ pub fn rewrite(
     );
     w[layout::BINDINGS + k * 10 + layout::SENSITIVE] = sensitive;
     w[layout::BINDINGS + k * 10 + layout::HOISTED] = hoisted;
+}
+
+// Overwrites the count of binding k.
+pub fn set_count(w: &mut [u32], k: usize, count: u32)
+    requires { ⌜ (Good (now w)) × (k < getD (now w) 1 0) ⌝ }
+    ensures { λ _. ⌜ (Listed (now (w .entry)) (now (w .exit)) (set (binds (now (w .entry))) k (withCount count (bindAt (now (w .entry)) k))) (consts (now (w .entry)))) × (Past (k + 1) (now (w .entry)) (now (w .exit))) ⌝ }
+{
+    w[layout::COUNTS + k] = count;
 }
 
 // The binding of x in the innermost scope, by its place among all; their count if there is none.

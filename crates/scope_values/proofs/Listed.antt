@@ -15,7 +15,7 @@ use Rattle.def_pass.specs.Scope.{VarInfo, Stack, change, withValue, recordedNod
 use Rattle.words.specs.Tab.{tab, tab-ext, length-tab, getD-tab, set-tab, same-or-not, sum-part}
 use Rattle.words.specs.Layout.{yes, Agree, run, nodeOf, tree}
 use Rattle.words.proofs.Nodes.{run-length, tree-length, tree-at}
-use Rattle.words_scopes.specs.State.{Good, Others, Becomes, split, heads, flags, binds, consts, stack, bindAt, lenAt, off, coff, runAt, valueOf, runOf, varTypeOf, aliasAt, place}
+use Rattle.words_scopes.specs.State.{Good, Past, Others, Becomes, split, heads, flags, binds, consts, stack, bindAt, lenAt, off, coff, runAt, valueOf, runOf, varTypeOf, aliasAt, place}
 use Rattle.words_scopes.proofs.Split as laws
 use Rattle.words_scopes.proofs.Words.{Kept, kept-heads, kept-flags, kept-consts, kept-tree, kept-good, bind-eq}
 use Rattle.scope_values.specs.Steps.{Listed, Still, Spliced, over, putAt, Grown}
@@ -64,7 +64,7 @@ kept-listed g t good e = record {
   binds = e;
   consts = kept-consts g t;
   tree = kept-tree g t;
-  others = record { low = λ j a b. t .counts j (omega arith) b; high = λ j a b. t .tail j (omega arith) b };
+  others = record { low = λ j a b. t .counts j (omega arith) b; high = t .high };
   rest = t .rest;
 }
 
@@ -163,6 +163,7 @@ module _ (w v : List ℕ) (g : Good w) (k i m : ℕ) (h : k < getD w 1 0) (hi : 
     nodes = λ j a b. out j (inl (omega arith)) (λ e. omega arith);
     cstore = λ j a b. out j (inr (omega arith)) (λ e. omega arith);
     tail = λ j a b. out j (inr (omega arith)) (λ e. omega arith);
+    high = λ j a b. out j (inr (omega arith)) (λ e. omega arith);
     flag = λ j a. aside j 9 (omega arith) (λ e. omega arith);
     rest = store.stored-rest 2064 len (omega arith) (omega arith) above alone w v (getD w 1 0) k i m h within (g .long) tree-long (g .vals) own s;
   }
@@ -179,7 +180,7 @@ module _ (w v : List ℕ) (g : Good w) (k i m : ℕ) (h : k < getD w 1 0) (hi : 
   bind-with : (j : ℕ) (t : List Core) → runAt w′ j ≡ t → bindAt w′ j ≡ withValue (valueOf t) (bindAt w j)
   bind-with j t r =
       bind-eq (named j) (ap varTypeOf (aside j 1 (omega arith) (λ e. omega arith))) (ap aliasAt (aside j 2 (omega arith) (λ e. omega arith))) (aside j 3 (omega arith) (λ e. omega arith))
-      (ap yes (aside j 4 (omega arith) (λ e. omega arith))) (ap yes (aside j 5 (omega arith) (λ e. omega arith))) (ap valueOf r) (ap yes (aside j 6 (omega arith) (λ e. omega arith))) (ap yes (aside j 7 (omega arith) (λ e. omega arith)))
+      (ap yes (aside j 4 (omega arith) (λ e. omega arith))) (ap yes (aside j 5 (omega arith) (λ e. omega arith))) (ap valueOf r) (ap yes (aside j 6 (omega arith) (λ e. omega arith))) (ap yes (aside j 7 (omega arith) (λ e. omega arith))) (out (8080 + j) (inr (omega arith)) (λ e. omega (arith, g .count)))
 
   value-good : runOf (valueOf (run w 16 i m)) ≡ run w 16 i m → Good w′
   value-good q =
@@ -189,8 +190,8 @@ module _ (w v : List ℕ) (g : Good w) (k i m : ℕ) (h : k < getD w 1 0) (hi : 
   pub valued : runOf (valueOf (run w 16 i m)) ≡ run w 16 i m → Listed w w′ (set (binds w) k (withValue (valueOf (run w 16 i m)) (bindAt w k))) (consts w)
   valued q = kept-listed g value-kept (value-good q) (set-binds w k h w′ (withValue (valueOf (run w 16 i m)) (bindAt w k)) (value-kept .counts 1 (omega arith) (omega arith)) (bind-with k (run w 16 i m) run-this) (λ j l d. bind-with j (runAt w j) (run-other j l d)))
 
-  pub valued-past : Agree (4112 + k * 10 + 10) 6672 w w′
-  valued-past j a b = out j (inr (omega arith)) (λ e. omega arith)
+  pub valued-past : Past (k + 1) w w′
+  valued-past = (λ j a b. out j (inr (omega arith)) (λ e. omega arith), λ j a b. out j (inr (omega arith)) (λ e. omega (arith, g .count)))
 
 -- the same tree: its nodes, and a run of them
 pub same-nodes : (w w′ : List ℕ) → tree w′ ≡ tree w → getD w′ 0 0 ≡ getD w 0 0

@@ -39,7 +39,7 @@ putAt w k c = split (heads w) (flags w) (set (binds w) k c) (consts w)
 
 -- a binding's words but its name and its value
 abbrev pub refill : (kind alias reads prevented undef sensitive hoisted : ℕ) → VarInfo → VarInfo
-refill k a r p u s h b = record { id = b .id; kind = varTypeOf k; aliasOf = aliasAt a; readCnt = r; inlinePrevented = yes p; isUndefined = yes u; value = b .value; thisSensitive = yes s; hoisted = yes h }
+refill k a r p u s h b = record { id = b .id; kind = varTypeOf k; aliasOf = aliasAt a; readCnt = r; inlinePrevented = yes p; isUndefined = yes u; value = b .value; thisSensitive = yes s; hoisted = yes h; count = b .count }
 
 -- the number of a refusal
 abbrev pub refusalOf : Step → Option ℕ

@@ -7,8 +7,8 @@ ghost use lib.ListN.{getD, length, set};
 ghost use lib.Dec.{ltb};
 ghost use Rattle.def_pass.specs.Scope.{recordedNodes, live, change, withValue};
 ghost use Rattle.words.specs.Tab.{sum};
-ghost use Rattle.words.specs.Layout.{Agree, run};
-ghost use Rattle.words_scopes.specs.State.{Good, stack, binds, consts, bindAt, off, coff, valueOf, runOf};
+ghost use Rattle.words.specs.Layout.{run};
+ghost use Rattle.words_scopes.specs.State.{Good, Past, stack, binds, consts, bindAt, off, coff, valueOf, runOf};
 ghost use Rattle.scope_values.specs.Outwards.{stopOf, stopsAt};
 ghost use Rattle.scope_values.specs.Steps.{Spliced, Listed, Grown};
 use words::layout;
@@ -165,7 +165,7 @@ pub fn passes(w: &[u32], old: usize, m: usize, more: usize) -> bool
 // Binding k gets as its value the m nodes of the tree from node i on, which are one tree or none.
 pub fn set_run(w: &mut [u32], k: usize, i: usize, m: usize)
     requires { ⌜ (Good (now w)) × (k < getD (now w) 1 0) × (i + m ≤ getD (now w) 0 0) × (m + (off (now w) (getD (now w) 1 0) + coff (now w) (getD (now w) 3 0)) ≤ 512 + getD (now w) (4112 + k * 10 + 8) 0) × (runOf (valueOf (run (now w) 16 i m)) ≡ run (now w) 16 i m) ⌝ }
-    ensures { λ _. ⌜ (Listed (now (w .entry)) (now (w .exit)) (set (binds (now (w .entry))) k (withValue (valueOf (run (now (w .entry)) 16 i m)) (bindAt (now (w .entry)) k))) (consts (now (w .entry)))) × (Agree (4112 + k * 10 + 10) 6672 (now (w .entry)) (now (w .exit))) ⌝ }
+    ensures { λ _. ⌜ (Listed (now (w .entry)) (now (w .exit)) (set (binds (now (w .entry))) k (withValue (valueOf (run (now (w .entry)) 16 i m)) (bindAt (now (w .entry)) k))) (consts (now (w .entry)))) × (Past (k + 1) (now (w .entry)) (now (w .exit))) ⌝ }
 {
     let n = w[layout::BINDING_COUNT] as usize;
     let at = offset(w, k);

@@ -13,7 +13,7 @@ use Rattle.def_tree.specs.Tree.{Tree, kind, form, num}
 use Rattle.def_tree.specs.Combine.{Res, stop, done, M, Nothing, andThen, iff, Flat, nodeAt, treeAt, act, onRest, skip, put}
 use Rattle.def_pass.specs.Tree.{voidZero}
 use Rattle.def_pass.specs.Scope.{VarInfo, Stack, findBinding, preventInline, addRead, varInlinePrevented}
-use Rattle.def_pass.specs.Walk.{St, when, modify, mark, replace, setStack, setChanged, sameIdent, cheapO}
+use Rattle.def_pass.specs.Walk.{St, when, modify, mark, replace, setStack, setChanged, tally, sameIdent, cheapO}
 use Rattle.laws_flat.specs.WalkF.{WalksF, testRead, identAnalysisF, logicalF, inlineValueF, foundF, identInliningF, byConstF, afterIdentF}
 use Rattle.scope_find.specs.Look.{kindO}
 use Rattle.words.specs.Layout.{yes, nodeOf, tree}
@@ -114,7 +114,7 @@ module _ (v : WalksF) (p i : ℕ) (st : Flat St) where
 
   by-value : (b : VarInfo) (o : Option Tree) → inlineValueF v p b o i st ≡ byFate (fateBy (b .isUndefined) o)
   by-value b none = by-undefined (b .isUndefined)
-  by-value b (some e) = then-assoc-3 (act (λ t. when (not (sameIdent t e)) (modify (setChanged true))) i st) (λ a. act (λ t. replace p t e) i) (λ a. put e i) (λ j. logicalF v p i)
+  by-value b (some e) = then-assoc-3 (act (λ t. when (not (sameIdent t e)) (modify (λ s. tally (num t) (setChanged true s)))) i st) (λ a. act (λ t. replace p t e) i) (λ a. put e i) (λ j. logicalF v p i)
 
   by-mark : (b : VarInfo) (q : Bool) → iff q (skip i) (inlineValueF v p b (b .value) i) st ≡ byFate (pick q stays (fateBy (b .isUndefined) (b .value)))
   by-mark b true = refl

@@ -9,7 +9,7 @@ use Rattle.def_tree.specs.Base.{pick}
 use Rattle.def_tree.specs.Tree.{Tree, form, num}
 use Rattle.def_tree.specs.Combine.{Res, stop, done, M as MS, Nothing, _>>_, Flat, nodeAt, act, onRest, put, Walk as One}
 use Rattle.def_pass.specs.Scope.{VarInfo, Stack, varInlinePrevented, findBinding, findConstant, valueO, preventInline, addRead, change, defined, withValue}
-use Rattle.def_pass.specs.Walk.{St, when, modify, mark, grow, replace, restore, setChanged, sameIdent, cheapO}
+use Rattle.def_pass.specs.Walk.{St, when, modify, mark, grow, replace, restore, setChanged, tally, sameIdent, cheapO}
 use Rattle.laws_flat.specs.WalkF.{testRead}
 use Rattle.words.specs.Layout.{yes}
 use Rattle.words_scopes.specs.State.{stack, varTypeOf}
@@ -74,12 +74,12 @@ Fated w i found.Nothing = fateAt (abs w) i ≡ stays
 Fated w i found.Void = fateAt (abs w) i ≡ undefined
 Fated w i (found.Value b) = (fateAt (abs w) i ≡ inlined (valueBy w b)) × Has w b
 
--- e, with rows 8 and 9, in the place of the tree at i; by a value with the mark of a change; by a constant
+-- e, with rows 8 and 9, in the place of the tree at i; by a value with the mark of a change, counted; by a constant
 abbrev pub swapF : ℕ → Tree → One St
 swapF p e i = act (λ t. replace p t e) i >> put e i
 
 abbrev pub valueF : ℕ → Tree → One St
-valueF p e i = act (λ t. when (not (sameIdent t e)) (modify (setChanged true))) i >> swapF p e i
+valueF p e i = act (λ t. when (not (sameIdent t e)) (modify (λ s. tally (num t) (setChanged true s)))) i >> swapF p e i
 
 abbrev pub constF : ℕ → Tree → One St
 constF p e i = onRest (modify (setChanged true)) >> swapF p e i
@@ -92,14 +92,28 @@ firstTest (some b) q = b .isUndefined && not (varInlinePrevented b) && not q
 abbrev pub firstF : ℕ → ℕ → Tree → One St
 firstF p x r i = onRest (grow (change x (λ c. defined (withValue (some r) c)))) >> swapF p r i
 
--- the end of a replacement, marked as a change or not
-abbrev pub markIf : Bool → St → St
-markIf true s = setChanged true s
-markIf false s = s
+-- what the end of a replacement notes: nothing, a change, or a change that is counted at the binding of an identifier
+pub data Note : Type 0 where
+  quiet : Note
+  changes : Note
+  counts : ℕ → Note
 
-pub record Landed (w u : List ℕ) (j : ℕ) (changed : Bool) (a : Next) : Type 0 where
+abbrev pub noted : Note → St → St
+noted quiet s = s
+noted changes s = setChanged true s
+noted (counts x) s = tally x (setChanged true s)
+
+abbrev pub changesIf : Bool → Note
+changesIf true = changes
+changesIf false = quiet
+
+abbrev pub countsIf : Bool → ℕ → Note
+countsIf true x = counts x
+countsIf false x = quiet
+
+pub record Landed (w u : List ℕ) (j : ℕ) (n : Note) (a : Next) : Type 0 where
   pub at : a ≡ At j
-  pub turns : Turns w u (markIf changed (rest w))
+  pub turns : Turns w u (noted n (rest w))
 
 -- with_child's end, where the four words are the visitor's fields before
 pub record Restored (w u : List ℕ) (inl decl mode test : ℕ) : Type 0 where

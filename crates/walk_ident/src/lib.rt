@@ -11,7 +11,7 @@ ghost use Rattle.words_scopes.specs.State.{Good, Becomes, stack, scopeKindOf};
 ghost use Rattle.words_nodes.specs.Nodes.{Planted, Child, treeFrom, size};
 ghost use Rattle.words_state.specs.State.{abs, Act};
 ghost use Rattle.scope_var_info.specs.Handles.{held};
-ghost use Rattle.walk_ident.specs.Steps.{Goes, analysisF, costly, testStack, Fated, valueBy, Has, constantAt, Landed, swapF, valueF, constF, Restored};
+ghost use Rattle.walk_ident.specs.Steps.{Goes, analysisF, costly, testStack, Fated, valueBy, Has, constantAt, changesIf, countsIf, Landed, swapF, valueF, constF, Restored};
 
 pub mod assign;
 
@@ -29,17 +29,21 @@ use scope::value_kind;
 use scope::value_len;
 use scope::var_inline_prevented;
 use scope_find::ident_at;
+use std::num::wrapping_add_u32;
 use words::form_at;
 use words::layout;
 use words_nodes::Step;
 use words_nodes::put_void;
 use words_nodes::skip;
 use words_nodes::unwrap;
+use words_scopes::count_one;
 use words_state::set_changed;
 use words_state::set_conds;
+use words_state::set_ended;
 use words_state::set_in_test;
 use words_state::set_inlining;
 use words_state::set_pat_mode;
+use words_state::set_replaced;
 use words_state::set_var_decl_kind;
 
 // Where the next tree begins, or the number of a refusal.
@@ -129,7 +133,7 @@ fn same_ident(w: &[u32], i: usize, b: usize) -> bool
 // The end of a replacement, whose tree ends before node j: marked as a change or not.
 fn landed(w: &mut [u32], j: usize, changed: bool) -> Next
     requires { ⌜ Planted (now w) ⌝ }
-    ensures { λ r. ⌜ Landed (now (w .entry)) (now (w .exit)) j changed r ⌝ }
+    ensures { λ r. ⌜ Landed (now (w .entry)) (now (w .exit)) j (changesIf changed) r ⌝ }
 {
     if changed {
         set_changed(w, 1);
@@ -137,16 +141,31 @@ fn landed(w: &mut [u32], j: usize, changed: bool) -> Next
     Next::At(j)
 }
 
-// The value of binding b takes the place of the identifier at node i, a change unless it is the same identifier.
+// The end of a replacement by the value of the innermost binding of x, whose tree ends before node j: a change, and counted (request 9), or neither.
+fn counted(w: &mut [u32], j: usize, x: u8, changed: bool) -> Next
+    requires { ⌜ Planted (now w) ⌝ }
+    ensures { λ r. ⌜ Landed (now (w .entry)) (now (w .exit)) j (countsIf changed x) r ⌝ }
+{
+    if changed {
+        set_changed(w, 1);
+        count_one(w, x);
+        let n = w[layout::REPLACED];
+        set_replaced(w, wrapping_add_u32(n, 1));
+    }
+    Next::At(j)
+}
+
+// The value of binding b takes the place of the identifier at node i, a change that is counted unless it is the same identifier.
 pub fn inline_value(w: &mut [u32], i: usize, p: u32, b: usize) -> Next
     requires { ⌜ (Planted (now w)) × (i < size (now w)) × (nodeOf (now w) i .kind ≡ 21) × (Has (now w) b) ⌝ }
     ensures { λ r. ⌜ Goes (now (w .entry)) (now (w .exit)) r (valueF p (valueBy (now (w .entry)) b) i (abs (now (w .entry)))) ⌝ }
 {
+    let x = ident_at(w, i);
     let same = same_ident(w, i, b);
     let m = value_len(w, b);
     match put_value(w, i, p, b) {
         Step::Refused(n) => Next::Refused(n),
-        Step::Done => landed(w, i + m, !same),
+        Step::Done => counted(w, i + m, x, !same),
     }
 }
 
@@ -211,12 +230,14 @@ pub fn enter(w: &mut [u32], kind: u32) -> u32
     }
 }
 
-// Closes the innermost scope, and gives the visitor back the fields that it had before.
+// Closes the innermost scope, adds the counts that end to their total, and gives the visitor back the fields that it had before.
 pub fn leave(w: &mut [u32], inl: u32, decl: u32, mode: u32, test: u32)
     requires { ⌜ Planted (now w) ⌝ }
     ensures { λ _. ⌜ Restored (now (w .entry)) (now (w .exit)) inl decl mode test ⌝ }
 {
-    close(w);
+    let n = close(w);
+    let ended = w[layout::ENDED];
+    set_ended(w, wrapping_add_u32(ended, n));
     set_inlining(w, inl);
     set_var_decl_kind(w, decl);
     set_pat_mode(w, mode);

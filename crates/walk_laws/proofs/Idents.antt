@@ -14,7 +14,7 @@ use Rattle.def_tree.proofs.Sims.{sim-act, sim-put}
 use Rattle.words.specs.Layout.{tree}
 use Rattle.def_pass.specs.Tree.{voidZero, countO}
 use Rattle.def_pass.specs.Scope.{VarInfo, varInlinePrevented, findBinding, addRead}
-use Rattle.def_pass.specs.Walk.{St, modify, mark, when, setChanged, sameIdent, replace}
+use Rattle.def_pass.specs.Walk.{St, modify, mark, when, setChanged, tally, sameIdent, replace}
 use Rattle.shape.specs.Shape.{Room}
 use Rattle.words_state.specs.State.{rest, abs, Acts, Act}
 use Rattle.laws_flat.specs.WalkF.{WalksF, testRead, inlineValueF, foundF, identInliningF, identAnalysisF, afterIdentF}
@@ -44,7 +44,7 @@ module _ {w u : List ℕ} {a : Next} {i p d j : ℕ} (q : ℕ) (e : Tree) (h : H
   here-const x = here-still (sim-act (λ t. modify (setChanged true)) (λ b. sim-act (λ t. replace q t e) (λ b. sim-put e))) h z refl x
 
   pub here-value : Did w u a (valueF q e i (abs w)) → Here u 1 i p d
-  here-value x = here-still (sim-act (λ t. when (not (sameIdent t e)) (modify (setChanged true))) (λ b. sim-act (λ t. replace q t e) (λ b. sim-put e))) h z refl x
+  here-value x = here-still (sim-act (λ t. when (not (sameIdent t e)) (modify (λ s. tally (num t) (setChanged true s)))) (λ b. sim-act (λ t. replace q t e) (λ b. sim-put e))) h z refl x
 
 pub here-lower : {w : List ℕ} {n i p d : ℕ} → Here w n i p (d + 1) → Here w n i p d
 here-lower h = record { planted = h .planted; room = h .room; depth = omega (arith, h .depth) }

@@ -17,7 +17,7 @@ use Rattle.words.specs.Layout.{yes, tree, nodeOf}
 use Rattle.words.proofs.Nodes.{tree-at}
 use Rattle.words_scopes.specs.State.{varTypeOf, scopeKindOf}
 use Rattle.def_pass.specs.Scope.{VarType, ScopeKind, fn, VarInfo, preventInline, addRead, findConstant}
-use Rattle.def_pass.specs.Walk.{St, modify, opening, restore, deeper, shallower, setInlining, setInTest, setConds, setVarDeclKind, setPatMode, asParam, declKindOf, setChanged, sameIdent, replace, when, mark, Handler, handlers, hPlain, hWhile, hForIn}
+use Rattle.def_pass.specs.Walk.{St, modify, opening, restore, deeper, shallower, setInlining, setInTest, setConds, setVarDeclKind, setPatMode, asParam, declKindOf, setChanged, tally, sameIdent, replace, when, mark, Handler, handlers, hPlain, hWhile, hForIn}
 use Rattle.words_nodes.specs.Nodes.{Planted, treeFrom}
 use Rattle.words_state.specs.State.{rest, abs, Ok, Acts, Act, Turns}
 use Rattle.words_state.proofs.Fields.{ok-self}
@@ -360,11 +360,11 @@ module _ (v : WalksF) (p i : ℕ) {w : List ℕ} where
   const-then e {j = j} q d n = did-to (swap-then p e i (λ j. v .full p i) (record { nodes = tree w; rest = setChanged true (rest w) })) (did-then j (λ j. v .full p i) q d n)
 
   -- a value, and its right side again
-  pub value-stop : (b : VarInfo) (e : Tree) {u : List ℕ} {a : Next} {m : ℕ} → a ≡ Refused m → Did w u a (andThen (act (λ t. when (not (sameIdent t e)) (modify (setChanged true))) i (abs w)) (λ x. swapsF p e i)) → Did w u a (inlineValueF v p b (some e) i (abs w))
-  value-stop b e {m = m} q d = did-to (value-is p i e (λ j. logicalF v p i) (act (λ t. when (not (sameIdent t e)) (modify (setChanged true))) i (abs w))) (did-stop m (λ j. logicalF v p i) q d)
+  pub value-stop : (b : VarInfo) (e : Tree) {u : List ℕ} {a : Next} {m : ℕ} → a ≡ Refused m → Did w u a (andThen (act (λ t. when (not (sameIdent t e)) (modify (λ s. tally (num t) (setChanged true s)))) i (abs w)) (λ x. swapsF p e i)) → Did w u a (inlineValueF v p b (some e) i (abs w))
+  value-stop b e {m = m} q d = did-to (value-is p i e (λ j. logicalF v p i) (act (λ t. when (not (sameIdent t e)) (modify (λ s. tally (num t) (setChanged true s)))) i (abs w))) (did-stop m (λ j. logicalF v p i) q d)
 
-  pub value-then : (b : VarInfo) (e : Tree) {u x : List ℕ} {a c : Next} {j : ℕ} → a ≡ At j → Did w u a (andThen (act (λ t. when (not (sameIdent t e)) (modify (setChanged true))) i (abs w)) (λ y. swapsF p e i)) → Did u x c (logicalF v p i (abs u)) → Did w x c (inlineValueF v p b (some e) i (abs w))
-  value-then b e {j = j} q d n = did-to (value-is p i e (λ j. logicalF v p i) (act (λ t. when (not (sameIdent t e)) (modify (setChanged true))) i (abs w))) (did-then j (λ j. logicalF v p i) q d n)
+  pub value-then : (b : VarInfo) (e : Tree) {u x : List ℕ} {a c : Next} {j : ℕ} → a ≡ At j → Did w u a (andThen (act (λ t. when (not (sameIdent t e)) (modify (λ s. tally (num t) (setChanged true s)))) i (abs w)) (λ y. swapsF p e i)) → Did u x c (logicalF v p i (abs u)) → Did w x c (inlineValueF v p b (some e) i (abs w))
+  value-then b e {j = j} q d n = did-to (value-is p i e (λ j. logicalF v p i) (act (λ t. when (not (sameIdent t e)) (modify (λ s. tally (num t) (setChanged true s)))) i (abs w))) (did-then j (λ j. logicalF v p i) q d n)
 
 -- Analysis
 pub analysis-then : (i : ℕ) {w u x : List ℕ} {a : Next} → Act w u 0 (andThen (act testRead i (abs w)) (λ y. act (λ t. mark (addRead (num t) (eqb (form t) 1))) i)) → Did u x a (skip i (abs u)) → Did w x a (identAnalysisF i (abs w))

@@ -3,7 +3,8 @@
 -- words             what                                       record
 -- 0 to 4            counts: nodes, bindings, scopes, constants, identifiers
 -- 5 to 11           the visitor's fields: changed, inlining, is_first_run, var_decl_kind, pat_mode, in_test, right sides of && and || open in their Cond scopes
--- 12 to 15          free
+-- 12, 13            the visitor's totals: ended, replaced (request 9)
+-- 14, 15            free
 -- 16 to 2063        the tree's nodes, at most 1,024            2: kind + 64 * (form + 32 * arity); number
 -- 2064 to 3087      nodes of the bindings' values, 512         2: the same. The values stand in the order of the bindings, with no gap
 -- 3088 to 4111      nodes of the constants' values, 512        2: the same, in the order of the constants
@@ -13,7 +14,8 @@
 -- 7312 to 7567      unresolved: a bit for each identifier      8 for each scope
 -- 7568 to 7823      index: of each identifier, 256             1: 1 + the number of its innermost binding, 0 where there is none
 -- 7824 to 8079      shadowed: of each binding, 256            1: what the index had of its identifier when it was appended
--- 8080 to 15503     free
+-- 8080 to 8335      counts: of each binding, 256               1: how often an identifier was replaced by its value (request 9)
+-- 8336 to 15503     free
 -- 15504 to 15759    identifiers, 256                           1: the number of the first node that has it
 -- 15760 to 16015    the first identifier of each text, 256     1: its number from 1, or 0 where there is none; reading alone uses it
 -- 16016 to 16023    targeted: a bit for each identifier         a set in 8 words; the script as read fills it (request 8)

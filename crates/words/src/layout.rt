@@ -26,6 +26,10 @@ pub const IN_TEST: usize = 10;
 
 pub const CONDS: usize = 11;
 
+pub const ENDED: usize = 12;
+
+pub const REPLACED: usize = 13;
+
 // Nodes, two words each: the tree's, those of the bindings' values, and those of the constants' values.
 pub const NODES: usize = 16;
 
@@ -79,6 +83,9 @@ pub const INDEX: usize = 7568;
 
 // Of each binding what the index had of its identifier when it was appended, one word each.
 pub const SHADOWED: usize = 7824;
+
+// Of each binding how often an identifier was replaced by its value, one word each.
+pub const COUNTS: usize = 8080;
 
 // The number of the first node of each identifier, one word each.
 pub const IDENTS: usize = 15504;

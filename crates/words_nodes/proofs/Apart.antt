@@ -49,7 +49,7 @@ module _ {w w′ : List ℕ} (g : Good w) (a : Beside w w′) where
 
   binds-same : binds w′ ≡ binds w
   unfolding binds
-  binds-same = rw (count-same 1 (omega arith) (omega arith)) (tab-ext (getD w 1 0) (λ k. bindAt w′ k) (λ k. bindAt w k) (λ k l. bind-same w w′ k (λ j x y. a .high j (omega arith)) (runs-at g runs-same k l)))
+  binds-same = rw (count-same 1 (omega arith) (omega arith)) (tab-ext (getD w 1 0) (λ k. bindAt w′ k) (λ k. bindAt w k) (λ k l. bind-same w w′ k (λ j x y. a .high j (omega arith)) (runs-at g runs-same k l) (a .high (8080 + k) (omega arith))))
 
   consts-same : consts w′ ≡ consts w
   unfolding consts

@@ -15,7 +15,7 @@ use Rattle.words.specs.Moved.{Put4, Put5, Zeroed}
 use Rattle.words.proofs.Nodes.{run-same, beyond-same}
 use Rattle.words.specs.Flags.{flagAt}
 use Rattle.words.proofs.Flags.{flag-none}
-use Rattle.words_scopes.specs.State.{valueOf, varTypeOf, aliasAt, scopeKindOf, bareOf, lenAt, off, runAt, constAt, bindAt, Head, unresAt, headAt, headsAt, heads, flags, binds, consts, split, stack, Fits, Good, Becomes, Beside, place}
+use Rattle.words_scopes.specs.State.{valueOf, varTypeOf, aliasAt, scopeKindOf, bareOf, lenAt, off, runAt, constAt, bindAt, Head, unresAt, headAt, headsAt, heads, flags, binds, consts, split, stack, Fits, Good, Past, Becomes, Beside, place}
 use Rattle.words_scopes.specs.Index.{Entered}
 use Rattle.words_scopes.proofs.Split as laws
 use Rattle.words_scopes.proofs.Index.{place-past, place-other, place-again, place-last}
@@ -36,33 +36,42 @@ pub top-begins : (w : List ℕ) → Good w → 0 < getD w 2 0 → getD w (7184 +
 unfolding heads
 top-begins w g z = let f : Fits (headAt w (getD w 2 0 - 1) ∷ headsAt w (getD w 2 0 - 1)) (getD w 1 0) = rw (some-head w (getD w 2 0) z) at (g .fits) in f .0
 
-module _ (w t u v : List ℕ) (g : Good w) (h : getD w 1 0 + getD w 3 0 < 256) (z : 0 < getD w 2 0) (id kind alias reads prevented undef sensitive hoisted : ℕ) (small : id < 256)
+module _ (w t u v : List ℕ) (g : Good w) (h : getD w 1 0 + getD w 3 0 < 256) (z : 0 < getD w 2 0) (id kind alias reads prevented undef sensitive hoisted times : ℕ) (small : id < 256)
     (zeroth : Entered w t (getD w 1 0) id (getD w (7184 + (getD w 2 0 - 1) * 4 + 1) 0)) (one : Put5 t u (4112 + getD w 1 0 * 10) id kind alias reads prevented) (two : Put5 u v (4112 + getD w 1 0 * 10 + 5) undef sensitive hoisted 0 0) where
   abbrev n : ℕ
   n = getD w 1 0
 
   abbrev w′ : List ℕ
-  w′ = set v 1 (n + 1)
+  w′ = set (set v (8080 + n) times) 1 (n + 1)
 
-  tail : (j : ℕ) → 6672 ≤ j → getD w′ j 0 ≡ getD t j 0
-  tail j l = getD-set-other v 1 j (n + 1) 0 (λ e. omega arith) ∙ two .high j (omega arith) ∙ one .high j (omega arith)
+  last : (j : ℕ) → (j ≡ 1 → ⊥) → (j ≡ 8080 + n → ⊥) → getD w′ j 0 ≡ getD v j 0
+  last j d e = getD-set-other (set v (8080 + n) times) 1 j (n + 1) 0 d ∙ getD-set-other v (8080 + n) j times 0 e
 
-  out : (j : ℕ) → (j < 4112 + n * 10) ⊎ (((4112 + n * 10 + 10 ≤ j) × (j < 7568)) ⊎ (8080 ≤ j)) → (j ≡ 1 → ⊥) → getD w′ j 0 ≡ getD w j 0
+  tail : (j : ℕ) → 6672 ≤ j → (j ≡ 8080 + n → ⊥) → getD w′ j 0 ≡ getD t j 0
+  tail j l d = last j (λ e. omega arith) d ∙ two .high j (omega arith) ∙ one .high j (omega arith)
+
+  out : (j : ℕ) → (j < 4112 + n * 10) ⊎ (((4112 + n * 10 + 10 ≤ j) × (j < 7568)) ⊎ ((8080 ≤ j) × (j ≡ 8080 + n → ⊥))) → (j ≡ 1 → ⊥) → getD w′ j 0 ≡ getD w j 0
   out j o d = ⊎-elim
-      (λ (l : j < 4112 + n * 10). getD-set-other v 1 j (n + 1) 0 d ∙ two .low j (omega arith) ∙ one .low j l ∙ zeroth .other j (λ e. omega arith) (λ e. omega arith))
+      (λ (l : j < 4112 + n * 10). last j d (λ e. omega arith) ∙ two .low j (omega arith) ∙ one .low j l ∙ zeroth .other j (λ e. omega arith) (λ e. omega arith))
       (λ o′. ⊎-elim
-      (λ (l : (4112 + n * 10 + 10 ≤ j) × (j < 7568)). getD-set-other v 1 j (n + 1) 0 d ∙ two .high j (omega arith) ∙ one .high j (omega arith) ∙ zeroth .other j (λ e. omega arith) (λ e. omega arith))
-      (λ (l : 8080 ≤ j). tail j (omega arith) ∙ zeroth .other j (λ e. omega arith) (λ e. omega arith)) o′) o
+      (λ (l : (4112 + n * 10 + 10 ≤ j) × (j < 7568)). last j d (λ e. omega arith) ∙ two .high j (omega arith) ∙ one .high j (omega arith) ∙ zeroth .other j (λ e. omega arith) (λ e. omega arith))
+      (λ (l : (8080 ≤ j) × (j ≡ 8080 + n → ⊥)). tail j (omega arith) (l .1) ∙ zeroth .other j (λ e. omega arith) (λ e. omega arith)) o′) o
+
+  times-old : (j : ℕ) → j < 256 → (j ≡ n → ⊥) → getD w′ (8080 + j) 0 ≡ getD w (8080 + j) 0
+  times-old j l d = out (8080 + j) (inr (inr (omega arith, λ e. d (omega arith)))) (λ e. omega arith)
+
+  times-new : getD w′ (8080 + n) 0 ≡ times
+  times-new = let l = g .long in getD-set-other (set v (8080 + n) times) 1 (8080 + n) (n + 1) 0 (λ e. omega arith) ∙ getD-set-same v (8080 + n) times 0 (omega (arith, two .size, one .size, zeroth .size))
 
   pub count : getD w′ 1 0 ≡ n + 1
-  count = let l = g .long in getD-set-same v 1 (n + 1) 0 (omega (arith, two .size, one .size, zeroth .size))
+  count = let l = g .long in getD-set-same (set v (8080 + n) times) 1 (n + 1) 0 (simp length-set (omega (arith, two .size, one .size, zeroth .size)))
 
   -- the new record
   first : (j : ℕ) → 4112 + n * 10 ≤ j → j < 4112 + n * 10 + 5 → getD w′ j 0 ≡ getD u j 0
-  first j a b = getD-set-other v 1 j (n + 1) 0 (λ e. omega arith) ∙ two .low j (omega arith)
+  first j a b = last j (λ e. omega arith) (λ e. omega arith) ∙ two .low j (omega arith)
 
   second : (q : ℕ) → q < 5 → getD w′ (4112 + n * 10 + 5 + q) 0 ≡ getD v (4112 + n * 10 + 5 + q) 0
-  second q a = getD-set-other v 1 (4112 + n * 10 + 5 + q) (n + 1) 0 (λ e. omega arith)
+  second q a = last (4112 + n * 10 + 5 + q) (λ e. omega arith) (λ e. omega arith)
 
   at : (q s x : ℕ) → q < 5 → s ≡ 4112 + n * 10 + 5 + q → getD v (4112 + n * 10 + 5 + q) 0 ≡ x → getD w′ s 0 ≡ x
   at q s x l e f = rw e (second q l ∙ f)
@@ -84,16 +93,16 @@ module _ (w t u v : List ℕ) (g : Good w) (h : getD w 1 0 + getD w 3 0 < 256) (
   run-new = rw len-new (tab-zero (λ j. coreFrom w′ (2064 + (off w′ n + j) * 2)))
 
   bind-old : (j : ℕ) → j < n → bindAt w′ j ≡ bindAt w j
-  bind-old j l = bind-same w w′ j (λ q a b. out q (inl (omega arith)) (λ e. omega arith)) (run-old j l)
+  bind-old j l = bind-same w w′ j (λ q a b. out q (inl (omega arith)) (λ e. omega arith)) (run-old j l) (times-old j (omega arith) (λ e. omega arith))
 
   abbrev new : VarInfo
-  new = bareOf id kind alias reads prevented undef sensitive hoisted
+  new = bareOf id kind alias reads prevented undef sensitive hoisted times
 
   bind-new : bindAt w′ n ≡ new
   bind-new =
       let at₁ : (s x : ℕ) → 4112 + n * 10 ≤ s → s < 4112 + n * 10 + 5 → getD u s 0 ≡ x → getD w′ s 0 ≡ x = λ s x a b e. first s a b ∙ e in
       bind-eq (at₁ (4112 + n * 10) id (omega arith) (omega arith) (one .at0)) (ap varTypeOf (at₁ (4112 + n * 10 + 1) kind (omega arith) (omega arith) (one .at1))) (ap aliasAt (at₁ (4112 + n * 10 + 2) alias (omega arith) (omega arith) (one .at2))) (at₁ (4112 + n * 10 + 3) reads (omega arith) (omega arith) (one .at3))
-      (ap yes (at₁ (4112 + n * 10 + 4) prevented (omega arith) (omega arith) (one .at4))) (ap yes (getD-set-other v 1 (4112 + n * 10 + 5) (n + 1) 0 (λ e. omega arith) ∙ two .at0)) (ap valueOf run-new) (ap yes (at 1 (4112 + n * 10 + 6) sensitive (omega arith) (omega arith) (two .at1))) (ap yes (at 2 (4112 + n * 10 + 7) hoisted (omega arith) (omega arith) (two .at2)))
+      (ap yes (at₁ (4112 + n * 10 + 4) prevented (omega arith) (omega arith) (one .at4))) (ap yes (last (4112 + n * 10 + 5) (λ e. omega arith) (λ e. omega arith) ∙ two .at0)) (ap valueOf run-new) (ap yes (at 1 (4112 + n * 10 + 6) sensitive (omega arith) (omega arith) (two .at1))) (ap yes (at 2 (4112 + n * 10 + 7) hoisted (omega arith) (omega arith) (two .at2))) times-new
 
   flag-new : getD w′ (4112 + n * 10 + 9) 0 ≡ 0
   flag-new = at 4 (4112 + n * 10 + 9) 0 (omega arith) (omega arith) (two .at4)
@@ -148,13 +157,13 @@ module _ (w t u v : List ℕ) (g : Good w) (h : getD w 1 0 + getD w 3 0 < 256) (
       let a : ℕ = getD w (7184 + (getD w 2 0 - 1) * 4 + 1) 0 in
       let m : a ≤ length (binds w) = omega (arith, begins-in, lengths .1) in
       let was : getD w (7568 + id) 0 ≡ place id (headAt w (getD w 2 0 - 1) ∷ headsAt w (getD w 2 0 - 1)) (binds w) = g .beside .index id small ∙ ap (λ (l : List Head). place id l (binds w)) top in
-      tail (7568 + id) (omega arith) ∙ ⊎-elim
+      tail (7568 + id) (omega arith) (λ e. omega arith) ∙ ⊎-elim
       (λ (l : a < getD w (7568 + id) 0). zeroth .again l ∙ was ∙ sym (rw top (place-again id (headAt w (getD w 2 0 - 1)) (headsAt w (getD w 2 0 - 1)) (binds w) new refl m (omega (arith, was)))))
       (λ (l : getD w (7568 + id) 0 ≤ a). zeroth .first l ∙ sym (rw top (place-last id (headAt w (getD w 2 0 - 1)) (headsAt w (getD w 2 0 - 1)) (binds w) new refl m (omega (arith, was)) ∙ omega (arith, lengths .1))))
       (below-or-not a (getD w (7568 + id) 0))
 
   index-other : (x : ℕ) → x < 256 → (x ≡ id → ⊥) → getD w′ (7568 + x) 0 ≡ place x (heads w) (binds w ++ (new ∷ []))
-  index-other x l d = tail (7568 + x) (omega arith) ∙ zeroth .other (7568 + x) (λ e. omega arith) (λ e. d (omega arith)) ∙ g .beside .index x l ∙ sym (place-other x new (λ e. d (sym e)) (heads w) (binds w))
+  index-other x l d = tail (7568 + x) (omega arith) (λ e. omega arith) ∙ zeroth .other (7568 + x) (λ e. omega arith) (λ e. d (omega arith)) ∙ g .beside .index x l ∙ sym (place-other x new (λ e. d (sym e)) (heads w) (binds w))
 
   upto-old : (k : ℕ) → k ≤ n → tab k (λ j. bindAt w′ j) ≡ tab k (λ j. bindAt w j)
   upto-old k l = tab-ext k (λ j. bindAt w′ j) (λ j. bindAt w j) (λ j m. bind-old j (omega arith))
@@ -164,10 +173,10 @@ module _ (w t u v : List ℕ) (g : Good w) (h : getD w 1 0 + getD w 3 0 < 256) (
 
   shadow-new : getD w′ (7824 + n) 0 ≡ place (getD w′ (4112 + n * 10) 0) (heads w) (tab n (λ j. bindAt w j))
   unfolding binds
-  shadow-new = tail (7824 + n) (omega arith) ∙ zeroth .shadow ∙ g .beside .index id small ∙ ap (λ (i : ℕ). place i (heads w) (tab n (λ j. bindAt w j))) (sym name-new)
+  shadow-new = tail (7824 + n) (omega arith) (λ e. omega arith) ∙ zeroth .shadow ∙ g .beside .index id small ∙ ap (λ (i : ℕ). place i (heads w) (tab n (λ j. bindAt w j))) (sym name-new)
 
   shadow-old : (k : ℕ) → k < n → getD w′ (7824 + k) 0 ≡ place (getD w′ (4112 + k * 10) 0) (heads w) (tab k (λ j. bindAt w j))
-  shadow-old k l = tail (7824 + k) (omega arith) ∙ zeroth .other (7824 + k) (λ e. omega arith) (λ e. omega arith) ∙ g .beside .shadow k l ∙ ap (λ (i : ℕ). place i (heads w) (tab k (λ j. bindAt w j))) (sym (out (4112 + k * 10) (inl (omega arith)) (λ e. omega arith)))
+  shadow-old k l = tail (7824 + k) (omega arith) (λ e. omega arith) ∙ zeroth .other (7824 + k) (λ e. omega arith) (λ e. omega arith) ∙ g .beside .shadow k l ∙ ap (λ (i : ℕ). place i (heads w) (tab k (λ j. bindAt w j))) (sym (out (4112 + k * 10) (inl (omega arith)) (λ e. omega arith)))
 
   push-beside : Beside w′
   push-beside = record {
@@ -197,7 +206,7 @@ module _ (w t u v : List ℕ) (g : Good w) (h : getD w 1 0 + getD w 3 0 < 256) (
     whole = rw count (λ k l. ⊎-elim (λ (e : k ≡ n). rw (e, run-new) whole-none) (λ (q : k < n). rw (run-old k q) (g .whole k q)) (eq-or-lt-of-le (omega arith)));
     cwhole = rw (out 3 (inl (omega arith)) (λ e. omega arith)) (λ k l. rw (part-crun w′ g (getD w 3 0) (omega arith) cs ct k l) (g .cwhole k l));
     beside = push-beside;
-    cfree = rw (out 3 (inl (omega arith)) (λ e. omega arith)) (λ k l. free-same w w′ k (λ j a b. out j (inr (inr (omega arith))) (λ e. omega arith)) (part-crun w′ g (getD w 3 0) (omega arith) cs ct k l) (g .cfree k l));
+    cfree = rw (out 3 (inl (omega arith)) (λ e. omega arith)) (λ k l. free-same w w′ k (λ j a b. out j (inr (inr (omega arith, λ e. omega arith))) (λ e. omega arith)) (part-crun w′ g (getD w 3 0) (omega arith) cs ct k l) (g .cfree k l));
   }
 
   on-top : split (heads w) (flags w ++ (0 ∷ [])) (binds w ++ (new ∷ [])) (consts w) ≡ append new (split (heads w) (flags w) (binds w) (consts w))
@@ -207,8 +216,8 @@ module _ (w t u v : List ℕ) (g : Good w) (h : getD w 1 0 + getD w 3 0 < 256) (
       let f : Fits (headAt w (getD w 2 0 - 1) ∷ headsAt w (getD w 2 0 - 1)) n = rw e at (g .fits) in
       rw e (laws.append-split new (headAt w (getD w 2 0 - 1)) (headsAt w (getD w 2 0 - 1)) (flags w) (binds w) (consts w) (omega (arith, f .0, lengths .1)) (lengths .0 ∙ sym (lengths .1)))
 
-  pub pushed-past : Agree (4112 + n * 10 + 10) 6672 w w′
-  pushed-past j a b = out j (inr (inl (omega arith, omega arith))) (λ e. omega arith)
+  pub pushed-past : Past (n + 1) w w′
+  pushed-past = (λ j a b. out j (inr (inl (omega arith, omega arith))) (λ e. omega arith), λ j a b. out j (inr (inr (omega arith, λ e. omega arith))) (λ e. omega arith))
 
   pub pushed : Becomes w w′ (append new (stack w))
   unfolding stack
@@ -216,8 +225,8 @@ module _ (w t u v : List ℕ) (g : Good w) (h : getD w 1 0 + getD w 3 0 < 256) (
     good = push-good;
     is = rw (heads-new, parts .0, parts .1, parts .2) on-top;
     tree = push-tree;
-    others = record { low = λ j a b. out j (inl (omega arith)) (λ e. omega arith); high = λ j a b. out j (inr (inr (omega arith))) (λ e. omega arith) };
-    rest = beyond-same w w′ size (λ j a. out j (inr (inr (omega arith))) (λ e. omega arith));
+    others = record { low = λ j a b. out j (inl (omega arith)) (λ e. omega arith); high = λ j a b. out j (inr (inr (omega arith, λ e. omega arith))) (λ e. omega arith) };
+    rest = beyond-same w w′ size (λ j a. out j (inr (inr (omega arith, λ e. omega arith))) (λ e. omega arith));
   }
 
 -- the first n bindings are kept
@@ -230,11 +239,11 @@ module _ {w : List ℕ} (y : List ℕ) (g : Good w) (n : ℕ) (h : n ≤ getD w 
       rw (part-off k (omega arith), bt (4112 + k * 10 + 8) (omega arith) (omega arith))
       (run-same w y 2064 (off w k) (lenAt w k) 512 (omega (arith, sum-part (λ j. lenAt w j) k (getD w 1 0) (omega arith), g .vals)) (λ j a b. bs j a (omega arith)))
 
-  pub part-bind : (k : ℕ) → k < n → bindAt y k ≡ bindAt w k
-  part-bind j l = bind-same w y j (λ q a b. bt q (omega arith) (omega arith)) (part-run j l)
+  pub part-bind : Agree 8080 (8080 + n) w y → (k : ℕ) → k < n → bindAt y k ≡ bindAt w k
+  part-bind c j l = bind-same w y j (λ q a b. bt q (omega arith) (omega arith)) (part-run j l) (c (8080 + j) (omega arith) (omega arith))
 
-  pub part-binds : tab n (λ k. bindAt y k) ≡ tab n (λ k. bindAt w k)
-  part-binds = tab-ext n (λ k. bindAt y k) (λ k. bindAt w k) part-bind
+  pub part-binds : Agree 8080 (8080 + n) w y → tab n (λ k. bindAt y k) ≡ tab n (λ k. bindAt w k)
+  part-binds c = tab-ext n (λ k. bindAt y k) (λ k. bindAt w k) (part-bind c)
 
   pub part-flags : tab n (λ k. getD y (4112 + k * 10 + 9) 0) ≡ tab n (λ k. getD w (4112 + k * 10 + 9) 0)
   part-flags = tab-ext n (λ k. getD y (4112 + k * 10 + 9) 0) (λ k. getD w (4112 + k * 10 + 9) 0) (λ k l. bt (4112 + k * 10 + 9) (omega arith) (omega arith))
@@ -286,6 +295,9 @@ module _ (w u v : List ℕ) (g : Good w) (h : getD w 2 0 < 32) (kind : ℕ) (one
   abbrev ow : Agree 3088 4112 w x
   ow = λ j a b. low j (omega arith) (λ e. omega arith)
 
+  abbrev oq : Agree 8080 (8080 + getD w 1 0) w x
+  oq = λ j a b. keeps j (inr (inr (omega arith))) (λ e. omega arith)
+
   kind-at : getD x (7184 + d * 4) 0 ≡ kind
   kind-at = getD-set-other v 2 (7184 + d * 4) (d + 1) 0 (λ z. omega arith) ∙ two .at0
 
@@ -308,7 +320,7 @@ module _ (w u v : List ℕ) (g : Good w) (h : getD w 2 0 < 32) (kind : ℕ) (one
   unfolding flags binds consts
   open-parts = (
     rw n1 (part-flags x g (getD w 1 0) (omega arith) ov ob),
-    rw n1 (part-binds x g (getD w 1 0) (omega arith) ov ob),
+    rw n1 (part-binds x g (getD w 1 0) (omega arith) ov ob oq),
     rw n3 (part-consts x g (getD w 3 0) (omega arith) ow oc),
   )
 
@@ -324,7 +336,7 @@ module _ (w u v : List ℕ) (g : Good w) (h : getD w 2 0 < 32) (kind : ℕ) (one
     index = λ y l. beside-kept (7568 + y) (omega arith) ∙ g .beside .index y l ∙ sym (rw (heads-open, open-parts .1) (place-past y (headAt x d) (heads w) (binds w) (omega (arith, start-at, open-lengths .1))));
     shadow = rw n1 (λ k l.
         let i = getD w (4112 + k * 10) 0 in
-        let same : tab k (λ j. bindAt x j) ≡ tab k (λ j. bindAt w j) = tab-ext k (λ j. bindAt x j) (λ j. bindAt w j) (λ j m. part-bind x g (getD w 1 0) (omega arith) ov ob j (omega arith)) in
+        let same : tab k (λ j. bindAt x j) ≡ tab k (λ j. bindAt w j) = tab-ext k (λ j. bindAt x j) (λ j. bindAt w j) (λ j m. part-bind x g (getD w 1 0) (omega arith) ov ob oq j (omega arith)) in
         beside-kept (7824 + k) (omega arith) ∙ g .beside .shadow k l
         ∙ sym (rw (heads-open, same, ob (4112 + k * 10) (omega arith) (omega arith)) (place-past i (headAt x d) (heads w) (tab k (λ j. bindAt w j)) (omega (arith, start-at, length-tab k (λ j. bindAt w j))))));
   }

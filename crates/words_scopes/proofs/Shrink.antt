@@ -13,7 +13,7 @@ use Rattle.words.specs.Moved.{Merged}
 use Rattle.words.proofs.Nodes.{beyond-same}
 use Rattle.words.specs.Flags.{flagAt}
 use Rattle.words.proofs.Flags.{flag-or}
-use Rattle.words_scopes.specs.State.{scopeKindOf, lenAt, clenAt, constAt, bindAt, Head, unresAt, headAt, headsAt, heads, flags, binds, consts, stack, Fits, CFits, Good, Becomes, Beside, place, dropInner}
+use Rattle.words_scopes.specs.State.{scopeKindOf, lenAt, clenAt, constAt, bindAt, Head, unresAt, headAt, headsAt, heads, flags, binds, consts, stack, Fits, CFits, Good, Past, Becomes, Beside, place, dropInner}
 use Rattle.words_scopes.specs.Index.{Restored}
 use Rattle.words_scopes.proofs.Split as laws
 use Rattle.words_scopes.proofs.Index.{named, begins, place-past, place-same, map-tab-same}
@@ -106,6 +106,9 @@ module _ (w t u : List ℕ) (g : Good w) (d : ℕ) (is : getD w 2 0 ≡ d + 1) (
   abbrev ow : Agree 3088 4112 w x
   ow = λ j a b. low j (omega arith) (inl (omega arith))
 
+  abbrev oq : Agree 8080 (8080 + n) w x
+  oq = λ j a b. keeps j (inr (omega arith)) (λ e. omega arith) (λ e. omega arith) (λ e. omega arith)
+
   drop-tree : tree x ≡ tree w
   drop-tree = part-tree x g (low 0 (omega arith) (inr refl)) (λ j a b. low j (omega arith) (inl (omega arith)))
 
@@ -113,7 +116,7 @@ module _ (w t u : List ℕ) (g : Good w) (d : ℕ) (is : getD w 2 0 ≡ d + 1) (
   unfolding flags binds consts
   drop-parts = (
     rw n1 (part-flags x g n (fits .0) ov ob ∙ sym (take-tab n (getD w 1 0) (λ k. getD w (4112 + k * 10 + 9) 0) (fits .0))),
-    rw n1 (part-binds x g n (fits .0) ov ob ∙ sym (take-tab n (getD w 1 0) (λ k. bindAt w k) (fits .0))),
+    rw n1 (part-binds x g n (fits .0) ov ob oq ∙ sym (take-tab n (getD w 1 0) (λ k. bindAt w k) (fits .0))),
     rw n3 (part-consts x g c (cfits .0) ow oc ∙ sym (take-tab c (getD w 3 0) (λ k. constAt w k) (cfits .0))),
   )
 
@@ -159,8 +162,8 @@ module _ (w t u : List ℕ) (g : Good w) (d : ℕ) (is : getD w 2 0 ≡ d + 1) (
   pub dropped-consts : getD x 3 0 ≤ getD w 3 0
   dropped-consts = omega (arith, n3, cfits .0)
 
-  pub dropped-past : Agree 4112 6672 w x
-  dropped-past j a b = low j (omega arith) (inl (omega arith))
+  pub dropped-past : Past 0 w x
+  dropped-past = (λ j a b. low j (omega arith) (inl (omega arith)), λ j a b. keeps j (inr (omega arith)) (λ e. omega arith) (λ e. omega arith) (λ e. omega arith))
 
   pub dropped : Becomes w x (dropInner (stack w))
   unfolding stack

@@ -17,7 +17,7 @@ use Rattle.words.specs.Layout.{yes}
 use Rattle.words_scopes.specs.State.{Head, split, scopeOf, indexIn, place, dropInner}
 
 abbrev pub noBind : VarInfo
-noBind = record { id = 0; kind = param; aliasOf = none; readCnt = 0; inlinePrevented = false; isUndefined = false; value = none; thisSensitive = false; hoisted = false }
+noBind = record { id = 0; kind = param; aliasOf = none; readCnt = 0; inlinePrevented = false; isUndefined = false; value = none; thisSensitive = false; hoisted = false; count = 0 }
 
 -- the element at k changed by f
 abbrev pub touch : ℕ → (VarInfo → VarInfo) → List VarInfo → List VarInfo

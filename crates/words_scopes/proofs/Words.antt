@@ -16,13 +16,13 @@ use Rattle.words_prevent.specs.declared.Binding.{Binding}
 use Rattle.def_tree.specs.Base.{pick}
 use Rattle.def_tree.specs.Tree.{Tree, Core, noCore}
 use Rattle.def_pass.specs.Tree.{isIdent, num}
-use Rattle.def_pass.specs.Scope.{VarType, VarInfo, Stack, Free, change, prevent, preventInline, preventOne, valueIs, hasIn}
+use Rattle.def_pass.specs.Scope.{VarType, VarInfo, Stack, Free, change, prevent, countOne, preventInline, preventOne, valueIs, hasIn}
 use Rattle.words.specs.Tab.{tab, length-tab, getD-tab, tab-ext, set-tab, take-tab, sum-ext, sum-part, below-or-not}
 use Rattle.words.specs.Flags.{flagAt}
 use Rattle.words.specs.Layout.{yes, Agree, coreFrom, tree, beyond}
 use Rattle.words.proofs.Flags.{flag-same}
 use Rattle.words.proofs.Nodes.{run-same, run-length, run-at, tree-same}
-use Rattle.words_scopes.specs.State.{scopeKindOf, split, varTypeOf, aliasAt, valueOf, lenAt, off, runAt, bindAt, clenAt, coff, crunAt, constAt, targeted, Head, unresAt, headAt, headsAt, heads, flags, binds, consts, stack, Fits, Good, Becomes, place, indexIn, hitAt, nameOf, recordAt, noRecord, Window, Whole, Others}
+use Rattle.words_scopes.specs.State.{scopeKindOf, split, varTypeOf, aliasAt, valueOf, lenAt, off, runAt, bindAt, withCount, clenAt, coff, crunAt, constAt, targeted, Head, unresAt, headAt, headsAt, heads, flags, binds, consts, stack, Fits, Good, Becomes, place, indexIn, hitAt, nameOf, recordAt, noRecord, Window, Whole, Others}
 use Rattle.words_scopes.proofs.Split as laws
 use Rattle.words_scopes.proofs.Index.{begins, beside-same}
 
@@ -76,7 +76,8 @@ pub record Kept (w w′ : List ℕ) : Type 0 where
   pub counts : Agree 0 16 w w′
   pub nodes : Agree 16 2064 w w′
   pub cstore : Agree 3088 4112 w w′
-  pub tail : Agree 6672 16384 w w′
+  pub tail : Agree 6672 8080 w w′
+  pub high : Agree 8336 16384 w w′
   pub flag : (k : ℕ) → k < 256 → getD w′ (4112 + k * 10 + 9) 0 ≡ getD w (4112 + k * 10 + 9) 0
   pub rest : beyond w′ ≡ beyond w
 
@@ -84,7 +85,7 @@ pub others-self : (w : List ℕ) → Others w w
 others-self w = record { low = λ j a b. refl; high = λ j a b. refl }
 
 pub kept-self : (w : List ℕ) → Kept w w
-kept-self w = record { size = refl; counts = λ j a b. refl; nodes = λ j a b. refl; cstore = λ j a b. refl; tail = λ j a b. refl; flag = λ k a. refl; rest = refl }
+kept-self w = record { size = refl; counts = λ j a b. refl; nodes = λ j a b. refl; cstore = λ j a b. refl; tail = λ j a b. refl; high = λ j a b. refl; flag = λ k a. refl; rest = refl }
 
 pub kept-then : {u v w : List ℕ} → Kept u v → Kept v w → Kept u w
 kept-then a b = record {
@@ -93,6 +94,7 @@ kept-then a b = record {
   nodes = λ j l h. b .nodes j l h ∙ a .nodes j l h;
   cstore = λ j l h. b .cstore j l h ∙ a .cstore j l h;
   tail = λ j l h. b .tail j l h ∙ a .tail j l h;
+  high = λ j l h. b .high j l h ∙ a .high j l h;
   flag = λ k l. b .flag k l ∙ a .flag k l;
   rest = b .rest ∙ a .rest;
 }
@@ -159,7 +161,7 @@ module _ {w w′ : List ℕ} (g : Good w) (t : Kept w w′) where
   kept-tree = part-tree w′ g (t .counts 0 (omega arith) (omega arith)) (t .nodes)
 
   kept-others : Others w w′
-  kept-others = record { low = λ j a b. t .counts j (omega arith) b; high = λ j a b. t .tail j (omega arith) b }
+  kept-others = record { low = λ j a b. t .counts j (omega arith) b; high = t .high }
 
   -- the values are within their limit, those of bindings whole, and the bindings' names are kept
   pub kept-good : off w′ (getD w 1 0) + coff w (getD w 3 0) ≤ 512 → ((k : ℕ) → k < getD w 1 0 → getD w′ (4112 + k * 10) 0 ≡ getD w (4112 + k * 10) 0) → ((k : ℕ) → k < getD w 1 0 → Whole (runAt w′ k)) → Good w′
@@ -181,7 +183,7 @@ module _ {w w′ : List ℕ} (g : Good w) (t : Kept w w′) where
     whole = rw (t .counts 1 (omega arith) (omega arith)) v;
     cwhole = rw (t .counts 3 (omega arith) (omega arith)) (λ k h. rw (part-crun w′ g (getD w 3 0) (omega arith) (t .cstore) kept-const k h) (g .cwhole k h));
     beside = beside-same (g .beside) (t .counts 1 (omega arith) (omega arith)) (ap (map begins) kept-heads) i (λ j a b. t .tail j (omega arith) (omega arith)) (g .count);
-    cfree = rw (t .counts 3 (omega arith) (omega arith)) (λ k h. free-same w w′ k (λ j a b. t .tail j (omega arith) (omega arith)) (part-crun w′ g (getD w 3 0) (omega arith) (t .cstore) kept-const k h) (g .cfree k h));
+    cfree = rw (t .counts 3 (omega arith) (omega arith)) (λ k h. free-same w w′ k (λ j a b. t .high j (omega arith) (omega arith)) (part-crun w′ g (getD w 3 0) (omega arith) (t .cstore) kept-const k h) (g .cfree k h));
   }
 
   -- the bindings changed to bs
@@ -215,16 +217,16 @@ module _ {w w′ : List ℕ} (g : Good w) (r : Runs w w′) where
   runs-good t = kept-good g t (rw (runs-off (getD w 1 0) (g .count)) (g .recorded)) (λ k h. let l = g .count in r .ids k (omega arith)) (λ k h. rw (runs-at k h) (g .whole k h))
 
 -- a binding by its fields, and by its words
-pub bind-eq : {a a′ d d′ : ℕ} {b b′ : VarType} {c c′ : Option VarType} {e e′ f f′ h h′ i i′ : Bool} {v v′ : Option Tree} → a ≡ a′ → b ≡ b′ → c ≡ c′ → d ≡ d′ → e ≡ e′ → f ≡ f′ → v ≡ v′ → h ≡ h′ → i ≡ i′
-    → _≡_ {A = VarInfo} (record { id = a; kind = b; aliasOf = c; readCnt = d; inlinePrevented = e; isUndefined = f; value = v; thisSensitive = h; hoisted = i })
-    (record { id = a′; kind = b′; aliasOf = c′; readCnt = d′; inlinePrevented = e′; isUndefined = f′; value = v′; thisSensitive = h′; hoisted = i′ })
-bind-eq p q r s t u v x y = cc
+pub bind-eq : {a a′ d d′ : ℕ} {b b′ : VarType} {c c′ : Option VarType} {e e′ f f′ h h′ i i′ : Bool} {v v′ : Option Tree} {n n′ : ℕ} → a ≡ a′ → b ≡ b′ → c ≡ c′ → d ≡ d′ → e ≡ e′ → f ≡ f′ → v ≡ v′ → h ≡ h′ → i ≡ i′ → n ≡ n′
+    → _≡_ {A = VarInfo} (record { id = a; kind = b; aliasOf = c; readCnt = d; inlinePrevented = e; isUndefined = f; value = v; thisSensitive = h; hoisted = i; count = n })
+    (record { id = a′; kind = b′; aliasOf = c′; readCnt = d′; inlinePrevented = e′; isUndefined = f′; value = v′; thisSensitive = h′; hoisted = i′; count = n′ })
+bind-eq p q r s t u v x y z = cc
 
-pub bind-same : (w w′ : List ℕ) (j : ℕ) → Agree (4112 + j * 10) (4112 + j * 10 + 8) w w′ → runAt w′ j ≡ runAt w j → bindAt w′ j ≡ bindAt w j
-bind-same w w′ j f r =
+pub bind-same : (w w′ : List ℕ) (j : ℕ) → Agree (4112 + j * 10) (4112 + j * 10 + 8) w w′ → runAt w′ j ≡ runAt w j → getD w′ (8080 + j) 0 ≡ getD w (8080 + j) 0 → bindAt w′ j ≡ bindAt w j
+bind-same w w′ j f r c =
     let at : (q : ℕ) → q < 8 → getD w′ (4112 + j * 10 + q) 0 ≡ getD w (4112 + j * 10 + q) 0 = λ q l. f (4112 + j * 10 + q) (omega arith) (omega arith) in
     bind-eq (f (4112 + j * 10) (omega arith) (omega arith)) (ap varTypeOf (at 1 (omega arith))) (ap aliasAt (at 2 (omega arith))) (at 3 (omega arith))
-    (ap yes (at 4 (omega arith))) (ap yes (at 5 (omega arith))) (ap valueOf r) (ap yes (at 6 (omega arith))) (ap yes (at 7 (omega arith)))
+    (ap yes (at 4 (omega arith))) (ap yes (at 5 (omega arith))) (ap valueOf r) (ap yes (at 6 (omega arith))) (ap yes (at 7 (omega arith))) c
 
 -- binding k changed by f, and no other: the innermost one of x, if that is its place
 module _ {w w′ : List ℕ} (g : Good w) (t : Kept w w′) (k : ℕ) (h : k < getD w 1 0) (f : VarInfo → VarInfo) (this : bindAt w′ k ≡ f (bindAt w k)) (other : (j : ℕ) → j < getD w 1 0 → (j ≡ k → ⊥) → bindAt w′ j ≡ bindAt w j) where
@@ -258,6 +260,9 @@ module _ (w : List ℕ) (g : Good w) (k : ℕ) (h : k < getD w 1 0) (q v : ℕ) 
   pub field-name : (j : ℕ) → getD w′ (4112 + j * 10) 0 ≡ getD w (4112 + j * 10) 0
   field-name j = keeps (4112 + j * 10) (λ e. omega arith)
 
+  pub field-count : (j : ℕ) → getD w′ (8080 + j) 0 ≡ getD w (8080 + j) 0
+  field-count j = keeps (8080 + j) (λ e. omega (arith, g .count))
+
   pub field-here : getD w′ (4112 + k * 10 + q) 0 ≡ v
   field-here = let l = g .count in let m = g .long in getD-set-same w (4112 + k * 10 + q) v 0 (omega arith)
 
@@ -271,6 +276,7 @@ module _ (w : List ℕ) (g : Good w) (k : ℕ) (h : k < getD w 1 0) (q v : ℕ) 
         nodes = λ j a b. keeps j (λ e. omega arith);
         cstore = λ j a b. keeps j (λ e. omega arith);
         tail = λ j a b. keeps j (λ e. omega arith);
+        high = λ j a b. keeps j (λ e. omega arith);
         flag = λ j a. field-same j 9 (omega arith) (λ e. omega arith);
         rest = drop-set-lt 16384 w (4112 + k * 10 + q) v (omega arith);
       }
@@ -282,7 +288,7 @@ module _ (w : List ℕ) (g : Good w) (k : ℕ) (h : k < getD w 1 0) (q v : ℕ) 
   field-good = runs-good g field-runs field-kept
 
   pub field-other : (j : ℕ) → j < getD w 1 0 → (j ≡ k → ⊥) → bindAt w′ j ≡ bindAt w j
-  field-other j a d = bind-same w w′ j (λ i l m. keeps i (λ e. d (omega arith))) (runs-at g field-runs j a)
+  field-other j a d = bind-same w w′ j (λ i l m. keeps i (λ e. d (omega arith))) (runs-at g field-runs j a) (field-count j)
 
 -- binding k is marked
 module _ (w : List ℕ) (g : Good w) (k : ℕ) (h : k < getD w 1 0) where
@@ -290,10 +296,55 @@ module _ (w : List ℕ) (g : Good w) (k : ℕ) (h : k < getD w 1 0) where
   mark-this =
       let at : (p : ℕ) → p < 10 → (p ≡ 4 → ⊥) → getD (set w (4112 + k * 10 + 4) 1) (4112 + k * 10 + p) 0 ≡ getD w (4112 + k * 10 + p) 0 = field-same w g k h 4 1 (omega arith) (omega arith) k in
       bind-eq (field-name w g k h 4 1 (omega arith) (omega arith) k) (ap varTypeOf (at 1 (omega arith) (λ e. omega arith))) (ap aliasAt (at 2 (omega arith) (λ e. omega arith))) (at 3 (omega arith) (λ e. omega arith))
-      (ap yes (field-here w g k h 4 1 (omega arith) (omega arith))) (ap yes (at 5 (omega arith) (λ e. omega arith))) (ap valueOf (runs-at g (field-runs w g k h 4 1 (omega arith) (omega arith)) k h)) (ap yes (at 6 (omega arith) (λ e. omega arith))) (ap yes (at 7 (omega arith) (λ e. omega arith)))
+      (ap yes (field-here w g k h 4 1 (omega arith) (omega arith))) (ap yes (at 5 (omega arith) (λ e. omega arith))) (ap valueOf (runs-at g (field-runs w g k h 4 1 (omega arith) (omega arith)) k h)) (ap yes (at 6 (omega arith) (λ e. omega arith))) (ap yes (at 7 (omega arith) (λ e. omega arith))) (field-count w g k h 4 1 (omega arith) (omega arith) k)
 
   pub marked : (x : ℕ) → place x (heads w) (binds w) ≡ suc k → Becomes w (set w (4112 + k * 10 + 4) 1) (change x prevent (stack w))
   marked = changed g (field-kept w g k h 4 1 (omega arith) (omega arith)) k h prevent mark-this (field-other w g k h 4 1 (omega arith) (omega arith)) (field-good w g k h 4 1 (omega arith) (omega arith))
+
+-- the count of binding k is stored
+module _ (w : List ℕ) (g : Good w) (k : ℕ) (h : k < getD w 1 0) (v : ℕ) where
+  abbrev w″ : List ℕ
+  w″ = set w (8080 + k) v
+
+  pub count-apart : (j : ℕ) → (j ≡ 8080 + k → ⊥) → getD w″ j 0 ≡ getD w j 0
+  count-apart j d = getD-set-other w (8080 + k) j v 0 d
+
+  pub count-kept : Kept w w″
+  unfolding beyond
+  count-kept =
+      let l = g .count in
+      record {
+        size = simp length-set;
+        counts = λ j a b. count-apart j (λ e. omega arith);
+        nodes = λ j a b. count-apart j (λ e. omega arith);
+        cstore = λ j a b. count-apart j (λ e. omega arith);
+        tail = λ j a b. count-apart j (λ e. omega arith);
+        high = λ j a b. count-apart j (λ e. omega arith);
+        flag = λ j a. count-apart (4112 + j * 10 + 9) (λ e. omega arith);
+        rest = drop-set-lt 16384 w (8080 + k) v (omega arith);
+      }
+
+  count-runs : Runs w w″
+  count-runs = record { lens = λ j a. count-apart (4112 + j * 10 + 8) (λ e. omega arith); ids = λ j a. count-apart (4112 + j * 10) (λ e. omega arith); store = λ j a b. count-apart j (λ e. omega arith) }
+
+  pub count-good : Good w″
+  count-good = runs-good g count-runs count-kept
+
+  pub count-this : bindAt w″ k ≡ withCount v (bindAt w k)
+  count-this =
+      let l = g .count in
+      let m = g .long in
+      let at : (q : ℕ) → q < 8 → getD w″ (4112 + k * 10 + q) 0 ≡ getD w (4112 + k * 10 + q) 0 = λ q a. count-apart (4112 + k * 10 + q) (λ e. omega arith) in
+      bind-eq (count-apart (4112 + k * 10) (λ e. omega arith)) (ap varTypeOf (at 1 (omega arith))) (ap aliasAt (at 2 (omega arith))) (at 3 (omega arith))
+      (ap yes (at 4 (omega arith))) (ap yes (at 5 (omega arith))) (ap valueOf (runs-at g count-runs k h)) (ap yes (at 6 (omega arith))) (ap yes (at 7 (omega arith)))
+      (getD-set-same w (8080 + k) v 0 (omega arith))
+
+  pub count-other : (j : ℕ) → j < getD w 1 0 → (j ≡ k → ⊥) → bindAt w″ j ≡ bindAt w j
+  count-other j a d = let l = g .count in bind-same w w″ j (λ i p q. count-apart i (λ e. omega arith)) (runs-at g count-runs j a) (count-apart (8080 + j) (λ e. d (omega arith)))
+
+-- a replacement is counted at binding k
+pub counted : (w : List ℕ) (g : Good w) (k : ℕ) (h : k < getD w 1 0) (x : ℕ) → place x (heads w) (binds w) ≡ suc k → Becomes w (set w (8080 + k) ((getD w (8080 + k) 0 + 1) % 4294967296)) (change x countOne (stack w))
+counted w g k h = (let v = (getD w (8080 + k) 0 + 1) % 4294967296 in changed g (count-kept w g k h v) k h countOne (count-this w g k h v) (count-other w g k h v) (count-good w g k h v))
 
 -- the identifier that a value is: by its first node
 pub name-is : (xs : List Core) → 0 < length xs → nameOf (valueOf xs) ≡ pick (eqb (getD xs 0 noCore .kind) 21) (getD xs 0 noCore .num) 256
@@ -360,7 +411,7 @@ mark-or w k x l =
 
 -- a binding that has its mark is as if it were marked
 prevent-same : (b : VarInfo) → true ≡ b .inlinePrevented → prevent b ≡ b
-prevent-same b e = ap (λ (m : Bool). record { id = b .id; kind = b .kind; aliasOf = b .aliasOf; readCnt = b .readCnt; inlinePrevented = m; isUndefined = b .isUndefined; value = b .value; thisSensitive = b .thisSensitive; hoisted = b .hoisted }) e
+prevent-same b e = ap (λ (m : Bool). record { id = b .id; kind = b .kind; aliasOf = b .aliasOf; readCnt = b .readCnt; inlinePrevented = m; isUndefined = b .isUndefined; value = b .value; thisSensitive = b .thisSensitive; hoisted = b .hoisted; count = b .count }) e
 
 one-hit : (b : VarInfo) (p t : Bool) → p ≡ b .inlinePrevented → true ≡ (p || t) → prevent b ≡ pick t (prevent b) b
 one-hit b true true q e = refl

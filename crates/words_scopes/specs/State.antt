@@ -65,11 +65,16 @@ bindAt w k = record {
   value = valueOf (runAt w k);
   thisSensitive = yes (getD w (4112 + k * 10 + 6) 0);
   hoisted = yes (getD w (4112 + k * 10 + 7) 0);
+  count = getD w (8080 + k) 0;
 }
 
 -- a binding without a value, by its words
-abbrev pub bareOf : (id kind alias reads prevented undef sensitive hoisted : ℕ) → VarInfo
-bareOf i k a r p u s h = record { id = i; kind = varTypeOf k; aliasOf = aliasAt a; readCnt = r; inlinePrevented = yes p; isUndefined = yes u; value = none; thisSensitive = yes s; hoisted = yes h }
+abbrev pub bareOf : (id kind alias reads prevented undef sensitive hoisted count : ℕ) → VarInfo
+bareOf i k a r p u s h c = record { id = i; kind = varTypeOf k; aliasOf = aliasAt a; readCnt = r; inlinePrevented = yes p; isUndefined = yes u; value = none; thisSensitive = yes s; hoisted = yes h; count = c }
+
+-- its count alone changed
+abbrev pub withCount : ℕ → VarInfo → VarInfo
+withCount c b = record { id = b .id; kind = b .kind; aliasOf = b .aliasOf; readCnt = b .readCnt; inlinePrevented = b .inlinePrevented; isUndefined = b .isUndefined; value = b .value; thisSensitive = b .thisSensitive; hoisted = b .hoisted; count = c }
 
 -- the constants, in the same way
 abbrev pub clenAt : List ℕ → ℕ → ℕ
@@ -206,7 +211,11 @@ pub record Good (w : List ℕ) : Type 0 where
 -- the words that no scope has, among the first 16,384: the count of identifiers and what is reserved; what is free, and the first nodes of the identifiers
 pub record Others (w w′ : List ℕ) : Type 0 where
   pub low : Agree 4 16 w w′
-  pub high : Agree 8080 16384 w w′
+  pub high : Agree 8336 16384 w w′
+
+-- the words of the records from k on, and their counts, are as they were
+abbrev pub Past : ℕ → List ℕ → List ℕ → Type 0
+Past k w w′ = Agree (4112 + k * 10) 6672 w w′ × Agree (8080 + k) 8336 w w′
 
 -- w became w′, whose scopes are st: all else is as it was
 pub record Becomes (w w′ : List ℕ) (st : Stack) : Type 0 where

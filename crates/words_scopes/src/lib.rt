@@ -5,11 +5,12 @@ ghost use mathlib.Core.List.{_∷_};
 ghost use mathlib.Core.Option.{none};
 ghost use mathlib.Core.Bool.{not, _&&_};
 ghost use lib.ListN.{getD, length};
-ghost use Rattle.def_pass.specs.Scope.{prevent, change, preventOne, preventInline, append, fresh, newScope};
-ghost use Rattle.words.specs.Layout.{yes, Agree};
+ghost use Rattle.def_pass.specs.Scope.{prevent, countOne, change, preventOne, preventInline, append, fresh, newScope};
+ghost use Rattle.words.specs.Layout.{yes};
 ghost use Rattle.words_prevent.specs.Mark.{marked};
-ghost use Rattle.words_scopes.specs.State.{Good, Becomes, stack, heads, binds, place, off, bindAt, nameOf, hitAt, Window, varTypeOf, aliasAt, scopeKindOf, bareOf, dropInner};
+ghost use Rattle.words_scopes.specs.State.{Good, Past, Becomes, stack, heads, binds, place, off, bindAt, nameOf, hitAt, Window, varTypeOf, aliasAt, scopeKindOf, bareOf, dropInner};
 ghost use Rattle.words_scopes.specs.Index.{Entered, Restored};
+use std::num::wrapping_add_u32;
 use words::layout;
 use words::merge;
 use words::put4;
@@ -70,6 +71,19 @@ pub fn prevent_found(w: &mut [u32], x: u8)
         return;
     }
     w[layout::BINDINGS + (k - 1) * 10 + layout::PREVENTED] = 1;
+}
+
+// Counts a replacement at the innermost binding of x, if there is one (request 9).
+pub fn count_one(w: &mut [u32], x: u8)
+    requires { ⌜ Good (now w) ⌝ }
+    ensures { λ _. ⌜ Becomes (now (w .entry)) (now (w .exit)) (change x countOne (stack (now (w .entry)))) ⌝ }
+{
+    let k = find_binding(w, x);
+    if k == 0 {
+        return;
+    }
+    let n = w[layout::COUNTS + (k - 1)];
+    w[layout::COUNTS + (k - 1)] = wrapping_add_u32(n, 1);
 }
 
 // The identifier that the value of binding k is, 256 if it is none; the value begins at node at of the store.
@@ -244,9 +258,10 @@ pub fn append_record(
     undef: u32,
     sensitive: u32,
     hoisted: u32,
+    count: u32,
 )
     requires { ⌜ (Good (now w)) × (getD (now w) 1 0 + getD (now w) 3 0 < 256) × (0 < getD (now w) 2 0) ⌝ }
-    ensures { λ _. ⌜ (Becomes (now (w .entry)) (now (w .exit)) (append (bareOf id kind alias reads prevented undef sensitive hoisted) (stack (now (w .entry))))) × (Agree (4112 + getD (now (w .entry)) 1 0 * 10 + 10) 6672 (now (w .entry)) (now (w .exit))) × (getD (now (w .exit)) 1 0 ≡ getD (now (w .entry)) 1 0 + 1) × (getD (now (w .exit)) 3 0 ≡ getD (now (w .entry)) 3 0) ⌝ }
+    ensures { λ _. ⌜ (Becomes (now (w .entry)) (now (w .exit)) (append (bareOf id kind alias reads prevented undef sensitive hoisted count) (stack (now (w .entry))))) × (Past (getD (now (w .entry)) 1 0 + 1) (now (w .entry)) (now (w .exit))) × (getD (now (w .exit)) 1 0 ≡ getD (now (w .entry)) 1 0 + 1) × (getD (now (w .exit)) 3 0 ≡ getD (now (w .entry)) 3 0) ⌝ }
 {
     let n = w[layout::BINDING_COUNT] as usize;
     let d = w[layout::SCOPE_COUNT] as usize - 1;
@@ -270,6 +285,7 @@ pub fn append_record(
         0,
         0,
     );
+    w[layout::COUNTS + n] = count;
     w[layout::BINDING_COUNT] = (n + 1) as u32;
 }
 
@@ -278,7 +294,7 @@ pub fn push(w: &mut [u32], id: u8, kind: u32, alias: u32, prevented: u32, undef:
     requires { ⌜ (Good (now w)) × (getD (now w) 1 0 + getD (now w) 3 0 < 256) × (0 < getD (now w) 2 0) ⌝ }
     ensures { λ _. ⌜ Becomes (now (w .entry)) (now (w .exit)) (append (fresh id (varTypeOf kind) (aliasAt alias) (yes prevented) (yes undef) none) (stack (now (w .entry)))) ⌝ }
 {
-    append_record(w, id, kind, alias, 0, prevented, undef, 0, 0);
+    append_record(w, id, kind, alias, 0, prevented, undef, 0, 0, 0);
 }
 
 // Opens a scope of a kind.
@@ -297,7 +313,7 @@ pub fn open(w: &mut [u32], kind: u32)
 // Drops the innermost of two or more scopes with its records; what was unresolved in it is unresolved above.
 pub fn drop_scope(w: &mut [u32])
     requires { ⌜ (Good (now w)) × (1 < getD (now w) 2 0) ⌝ }
-    ensures { λ _. ⌜ (Becomes (now (w .entry)) (now (w .exit)) (dropInner (stack (now (w .entry))))) × (Agree 4112 6672 (now (w .entry)) (now (w .exit))) × (getD (now (w .exit)) 1 0 ≡ getD (now (w .entry)) (7184 + (getD (now (w .entry)) 2 0 - 1) * 4 + 1) 0) × (getD (now (w .exit)) 3 0 ≤ getD (now (w .entry)) 3 0) ⌝ }
+    ensures { λ _. ⌜ (Becomes (now (w .entry)) (now (w .exit)) (dropInner (stack (now (w .entry))))) × (Past 0 (now (w .entry)) (now (w .exit))) × (getD (now (w .exit)) 1 0 ≡ getD (now (w .entry)) (7184 + (getD (now (w .entry)) 2 0 - 1) * 4 + 1) 0) × (getD (now (w .exit)) 3 0 ≤ getD (now (w .entry)) 3 0) ⌝ }
 {
     let d = w[layout::SCOPE_COUNT] as usize - 1;
     let n = w[layout::SCOPES + d * 4 + layout::FIRST_BINDING];

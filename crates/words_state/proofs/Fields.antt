@@ -19,8 +19,8 @@ use Rattle.words_nodes.specs.Nodes.{Planted, Replants}
 use Rattle.words_nodes.proofs.Apart.{Beside, beside-stack, beside-good, becomes-planted}
 use Rattle.words_state.specs.State.{modeOf, rest, abs, Ok, Turns}
 
--- one word of 5 to 11 stored
-module _ (w : List ℕ) (P : Planted w) (k v : ℕ) (lo : 5 ≤ k) (hi : k ≤ 11) where
+-- one word of 5 to 13 stored
+module _ (w : List ℕ) (P : Planted w) (k v : ℕ) (lo : 5 ≤ k) (hi : k ≤ 13) where
   abbrev w′ : List ℕ
   w′ = set w k v
 
@@ -56,16 +56,16 @@ module _ (w : List ℕ) (P : Planted w) (k v : ℕ) (lo : 5 ≤ k) (hi : k ≤ 1
   field-other j e = other j e
 
 -- a visitor, field by field
-pub st-eq : {a a′ : Stack} {b b′ c c′ d d′ g g′ : Bool} {e e′ : VarType} {f f′ : PatMode} {h h′ i i′ : ℕ} {k k′ : ℕ → Bool} → a ≡ a′ → b ≡ b′ → c ≡ c′ → d ≡ d′ → e ≡ e′ → f ≡ f′ → g ≡ g′ → h ≡ h′ → i ≡ i′ → k ≡ k′
-    → _≡_ {A = St} (record { stack = a; changed = b; inlining = c; isFirstRun = d; varDeclKind = e; patMode = f; inTest = g; conds = h; nodes = i; targeted = k })
-    (record { stack = a′; changed = b′; inlining = c′; isFirstRun = d′; varDeclKind = e′; patMode = f′; inTest = g′; conds = h′; nodes = i′; targeted = k′ })
-st-eq p q r s t u v x y z = cc
+pub st-eq : {a a′ : Stack} {b b′ c c′ d d′ g g′ : Bool} {e e′ : VarType} {f f′ : PatMode} {h h′ i i′ : ℕ} {k k′ : ℕ → Bool} {m m′ n n′ : ℕ} → a ≡ a′ → b ≡ b′ → c ≡ c′ → d ≡ d′ → e ≡ e′ → f ≡ f′ → g ≡ g′ → h ≡ h′ → i ≡ i′ → k ≡ k′ → m ≡ m′ → n ≡ n′
+    → _≡_ {A = St} (record { stack = a; changed = b; inlining = c; isFirstRun = d; varDeclKind = e; patMode = f; inTest = g; conds = h; nodes = i; targeted = k; ended = m; replaced = n })
+    (record { stack = a′; changed = b′; inlining = c′; isFirstRun = d′; varDeclKind = e′; patMode = f′; inTest = g′; conds = h′; nodes = i′; targeted = k′; ended = m′; replaced = n′ })
+st-eq p q r s t u v x y z b c = cc
 
 -- the scopes became st, and nothing else changed
 pub becomes-rest : {w u : List ℕ} {st : Stack} → Planted w → getD u 0 0 ≡ getD w 0 0 → Becomes w u st → rest u ≡ setStack st (rest w)
 unfolding rest
 becomes-rest {w} {u} g n b = (let o : (j : ℕ) → 4 ≤ j → j < 16 → getD u j 0 ≡ getD w j 0 = b .others .low in
-    st-eq (b .is) (ap yes (o 5 (omega arith) (omega arith))) (ap yes (o 6 (omega arith) (omega arith))) (ap yes (o 7 (omega arith) (omega arith))) (ap varTypeOf (o 8 (omega arith) (omega arith))) (ap modeOf (o 9 (omega arith) (omega arith))) (ap yes (o 10 (omega arith) (omega arith))) (o 11 (omega arith) (omega arith)) n (targeted-same w u (λ j l h. b .others .high j (omega arith) (omega arith))))
+    st-eq (b .is) (ap yes (o 5 (omega arith) (omega arith))) (ap yes (o 6 (omega arith) (omega arith))) (ap yes (o 7 (omega arith) (omega arith))) (ap varTypeOf (o 8 (omega arith) (omega arith))) (ap modeOf (o 9 (omega arith) (omega arith))) (ap yes (o 10 (omega arith) (omega arith))) (o 11 (omega arith) (omega arith)) n (targeted-same w u (λ j l h. b .others .high j (omega arith) (omega arith))) (o 12 (omega arith) (omega arith)) (o 13 (omega arith) (omega arith)))
 
 pub count-kept : {w u : List ℕ} {st : Stack} → Becomes w u st → getD u 0 0 ≡ getD w 0 0
 count-kept {w} {u} b = sym (tree-length u) ∙ ap length (b .tree) ∙ tree-length w
@@ -111,4 +111,4 @@ replants-ok b = record {
 pub replants-rest : {w u : List ℕ} {xs : List Core} → Replants w u xs → rest u ≡ setNodes (length xs) (rest w)
 unfolding rest
 replants-rest {w} {u} {xs} b = (let o : (j : ℕ) → 4 ≤ j → j < 16 → getD u j 0 ≡ getD w j 0 = b .others .low in
-    st-eq (b .stack) (ap yes (o 5 (omega arith) (omega arith))) (ap yes (o 6 (omega arith) (omega arith))) (ap yes (o 7 (omega arith) (omega arith))) (ap varTypeOf (o 8 (omega arith) (omega arith))) (ap modeOf (o 9 (omega arith) (omega arith))) (ap yes (o 10 (omega arith) (omega arith))) (o 11 (omega arith) (omega arith)) (sym (tree-length u) ∙ ap length (b .is)) (targeted-same w u (λ j l h. b .others .high j (omega arith) (omega arith))))
+    st-eq (b .stack) (ap yes (o 5 (omega arith) (omega arith))) (ap yes (o 6 (omega arith) (omega arith))) (ap yes (o 7 (omega arith) (omega arith))) (ap varTypeOf (o 8 (omega arith) (omega arith))) (ap modeOf (o 9 (omega arith) (omega arith))) (ap yes (o 10 (omega arith) (omega arith))) (o 11 (omega arith) (omega arith)) (sym (tree-length u) ∙ ap length (b .is)) (targeted-same w u (λ j l h. b .others .high j (omega arith) (omega arith))) (o 12 (omega arith) (omega arith)) (o 13 (omega arith) (omega arith)))

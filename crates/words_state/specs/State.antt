@@ -1,4 +1,4 @@
--- The whole state of the pass behind the working words: the tree's nodes, the scopes, the visitor's fields, which stand in words 5 to 11, and what is
+-- The whole state of the pass behind the working words: the tree's nodes, the scopes, the visitor's fields, which stand in words 5 to 13, and what is
 -- targeted, in words 16016 to 16023.
 -- Assumes nothing: these are definitions.
 use mathlib.Core.Path.{_≡_}
@@ -18,7 +18,8 @@ modeOf (suc zero) = asParam
 modeOf (suc (suc zero)) = asCatch
 modeOf (suc (suc (suc n))) = declaring
 
--- word 5 changed, 6 phase Inlining, 7 is_first_run, 8 var_decl_kind, 9 pat_mode, 10 in_test, 11 right sides open in their Cond scopes
+-- word 5 changed, 6 phase Inlining, 7 is_first_run, 8 var_decl_kind, 9 pat_mode, 10 in_test, 11 right sides open in their Cond scopes, 12 the ended
+-- total, 13 the replacements made
 unfoldable pub rest : List ℕ → St
 rest w = record {
   stack = stack w;
@@ -31,7 +32,13 @@ rest w = record {
   conds = getD w 11 0;
   nodes = getD w 0 0;
   targeted = targeted w;
+  ended = getD w 12 0;
+  replaced = getD w 13 0;
 }
+
+-- the ended total alone changed
+abbrev pub setEnded : ℕ → St → St
+setEnded x s = record { stack = s .stack; changed = s .changed; inlining = s .inlining; isFirstRun = s .isFirstRun; varDeclKind = s .varDeclKind; patMode = s .patMode; inTest = s .inTest; conds = s .conds; nodes = s .nodes; targeted = s .targeted; ended = x; replaced = s .replaced }
 
 -- the state of the walk on the list of nodes
 abbrev pub abs : List ℕ → Flat St
@@ -42,8 +49,8 @@ pub record Ok (w u : List ℕ) : Type 0 where
   pub planted : Planted u
   pub size : length u ≡ length w
   pub idents : getD u 4 0 ≡ getD w 4 0
-  pub reserved : Agree 12 16 w u
-  pub high : Agree 8080 16384 w u
+  pub reserved : Agree 14 16 w u
+  pub high : Agree 8336 16384 w u
   pub rest : beyond u ≡ beyond w
 
 -- a step's answer: 0, and the state is that of the result, or document 01's number of its refusal, of which nothing is said

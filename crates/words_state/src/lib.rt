@@ -1,10 +1,10 @@
 // The visitor's fields in the working words.
 ghost use Prim.Native.Nat.{ℕ};
-ghost use Rattle.def_pass.specs.Walk.{setChanged, setInlining, setIsFirstRun, setVarDeclKind, setPatMode, setInTest, setConds};
+ghost use Rattle.def_pass.specs.Walk.{setChanged, setInlining, setIsFirstRun, setVarDeclKind, setPatMode, setInTest, setConds, setReplaced};
 ghost use Rattle.words.specs.Layout.{yes};
 ghost use Rattle.words_scopes.specs.State.{varTypeOf};
 ghost use Rattle.words_nodes.specs.Nodes.{Planted};
-ghost use Rattle.words_state.specs.State.{modeOf, rest, Turns};
+ghost use Rattle.words_state.specs.State.{modeOf, rest, setEnded, Turns};
 use words::layout;
 
 pub fn set_changed(w: &mut [u32], v: u32)
@@ -54,4 +54,18 @@ pub fn set_conds(w: &mut [u32], v: u32)
     ensures { λ _. ⌜ Turns (now (w .entry)) (now (w .exit)) (setConds v (rest (now (w .entry)))) ⌝ }
 {
     w[layout::CONDS] = v;
+}
+
+pub fn set_ended(w: &mut [u32], v: u32)
+    requires { ⌜ Planted (now w) ⌝ }
+    ensures { λ _. ⌜ Turns (now (w .entry)) (now (w .exit)) (setEnded v (rest (now (w .entry)))) ⌝ }
+{
+    w[layout::ENDED] = v;
+}
+
+pub fn set_replaced(w: &mut [u32], v: u32)
+    requires { ⌜ Planted (now w) ⌝ }
+    ensures { λ _. ⌜ Turns (now (w .entry)) (now (w .exit)) (setReplaced v (rest (now (w .entry)))) ⌝ }
+{
+    w[layout::REPLACED] = v;
 }

@@ -61,6 +61,18 @@ mul-print-root-8 c = search needs
 shared-slice-read-print-root-4 : tie.Need-shared-slice-read-print-root-4 Inv-loop μ-loop
 shared-slice-read-print-root-4 c = search needs
 
+mul-print-root-9 : tie.Need-mul-print-root-9 Inv-loop μ-loop
+mul-print-root-9 c = search needs
+
+add-print-root-4 : tie.Need-add-print-root-4 Inv-loop μ-loop
+add-print-root-4 c = search needs
+
+mul-print-root-10 : tie.Need-mul-print-root-10 Inv-loop μ-loop
+mul-print-root-10 c = search needs
+
+shared-slice-read-print-root-5 : tie.Need-shared-slice-read-print-root-5 Inv-loop μ-loop
+shared-slice-read-print-root-5 c = search needs
+
 print-root-requires : tie.Need-print-root-requires Inv-loop μ-loop
 print-root-requires c κs = search needs
 
@@ -98,6 +110,10 @@ print-roots-spec =
     add-print-root-3
     mul-print-root-8
     shared-slice-read-print-root-4
+    mul-print-root-9
+    add-print-root-4
+    mul-print-root-10
+    shared-slice-read-print-root-5
     print-root-requires
     add-k
     loop-less

@@ -55,13 +55,24 @@ slice-write-roots-4 c =
     let at-entry = c .before .before in
     simp length-set (omega (arith, at-entry .pre))
 
+add-roots-4 : tie.Need-add-roots-4
+add-roots-4 c = search needs
+
+mul-roots-5 : tie.Need-mul-roots-5
+mul-roots-5 c = search needs
+
+slice-write-roots-5 : tie.Need-slice-write-roots-5
+slice-write-roots-5 c =
+    let at-entry = c .before .before in
+    simp length-set (omega (arith, at-entry .pre))
+
 same-length : tie.Need-same-length
 same-length c = simp length-set refl
 
 returns : tie.Need-returns
 returns c =
     let at-entry = c .before .before in
-    rooted.put-four (at-entry .args .roots .now) (at-entry .args .at) (at-entry .args .x .text) _ _ _ (c .flag .ensures)
+    rooted.put-five (at-entry .args .roots .now) (at-entry .args .at) (at-entry .args .x .text) _ _ _ (at-entry .args .count) (c .flag .ensures)
 
 pub put-root-spec : {M : Type 1} → statement M
 put-root-spec =
@@ -81,5 +92,8 @@ put-root-spec =
     add-roots-3
     mul-roots-4
     slice-write-roots-4
+    add-roots-4
+    mul-roots-5
+    slice-write-roots-5
     same-length
     returns)

@@ -63,6 +63,17 @@ shared-slice-read-mark c =
     let at-entry = c .before .before .before .before .before .before .before .before in
     omega (arith, at-entry .pre .0 .listed .long, at-entry .pre .1)
 
+add-count : tie.Need-add-count Inv-loop μ-loop
+add-count c = search needs
+
+mul-count : tie.Need-mul-count Inv-loop μ-loop
+mul-count c = search needs
+
+shared-slice-read-count : tie.Need-shared-slice-read-count Inv-loop μ-loop
+shared-slice-read-count c =
+    let at-entry = c .before .before .before .before .before .before .before .before .before in
+    omega (arith, at-entry .pre .0 .listed .long, at-entry .pre .1)
+
 mul-put-root : tie.Need-mul-put-root Inv-loop μ-loop
 mul-put-root c = search needs
 
@@ -78,10 +89,10 @@ loop-less c = search needs
 loop-again : tie.Need-loop-again Inv-loop μ-loop
 loop-again c =
     let at-put-root = c .before .before in
-    let at-ident = at-put-root .before .before .before in
+    let at-ident = at-put-root .before .before .before .before in
     let at-loop = at-ident .before .before .before in
     let at-entry = at-loop .before .before .before .before in
-    (omega arith, at-put-root .put-root .kept .0 ∙ at-loop .loop .inv .1, rooted.list-more (λ j. rootAt (at-entry .args .file .now) (at-entry .args .words .now) j) (at-loop .loop .k) (at-entry .args .roots .now) _ (at-loop .loop .inv .2) (rooted.same-root _ (at-ident .ident .ensures)) (at-put-root .put-root .ensures))
+    (omega arith, at-put-root .put-root .kept .0 ∙ at-loop .loop .inv .1, rooted.list-more (λ j. rootAt (at-entry .args .file .now) (at-entry .args .words .now) j) (at-loop .loop .k) (at-entry .args .roots .now) _ (at-loop .loop .inv .2) (rooted.same-root _ _ (at-ident .ident .ensures)) (at-put-root .put-root .ensures))
 
 same-length : tie.Need-same-length Inv-loop μ-loop
 same-length c = search needs
@@ -110,6 +121,9 @@ put-roots-spec =
     add-mark-2
     mul-mark-2
     shared-slice-read-mark
+    add-count
+    mul-count
+    shared-slice-read-count
     mul-put-root
     put-root-requires
     add-k

@@ -53,15 +53,24 @@ mul-mark-2 c = search needs
 shared-slice-read-mark : tie.Need-shared-slice-read-mark
 shared-slice-read-mark c = search needs
 
+add-times : tie.Need-add-times
+add-times c = search needs
+
+mul-times : tie.Need-mul-times
+mul-times c = search needs
+
+shared-slice-read-times : tie.Need-shared-slice-read-times
+shared-slice-read-times c = search needs
+
 returns-2 : tie.Need-returns-2
 returns-2 c =
-    let at-ident = c .before in
+    let at-ident = c .before .before in
     let at-if1 = at-ident .before .before in
     let at-root-count = at-if1 .before in
     let at-entry = at-root-count .before .before .before in
     let w = at-entry .args .words .now in
     let n = at-entry .args .n in
-    rooted.found (at-ident .ident .ensures) (laws.not-zero (getD w (4112 + n * 10 + 4) 0))
+    rooted.found (getD w (8080 + n) 0) (at-ident .ident .ensures) (laws.not-zero (getD w (4112 + n * 10 + 4) 0))
     ∙ rooted.nth-in (at-entry .args .file .now) w (at-root-count .root-count .result) (at-root-count .root-count .ensures .0) n (omega (arith, at-if1 .if1 .left))
 
 pub root-at-spec : {M : Type 1} → statement M
@@ -81,4 +90,7 @@ root-at-spec =
     add-mark-2
     mul-mark-2
     shared-slice-read-mark
+    add-times
+    mul-times
+    shared-slice-read-times
     returns-2)

@@ -6,7 +6,7 @@ use lib.ListN.{getD}
 use Rattle.words_scopes.specs.State.{stack}
 use Rattle.scope_values.proofs.Listed.{becomes-self}
 use Rattle.scope_child.specs.Hoist.{recordAt, hoistOne}
-use Rattle.scope_child.proofs.Hoist.{hoist-none-is, no-var}
+use Rattle.scope_child.proofs.Hoist.{hoist-none-is, end-other, no-var}
 use borrow.Author.Needs.{needs}
 use Rattle.scope_child.proofs.hoist_one.Statement.{statement}
 use Rattle.scope_child.proofs.hoist_one.Tie as tie
@@ -35,11 +35,21 @@ same-length c = search needs
 returns : tie.Need-returns
 returns c = search needs
 
+add-result : tie.Need-add-result
+add-result c = search needs
+
+mul-result : tie.Need-mul-result
+mul-result c = search needs
+
+slice-read-result : tie.Need-slice-read-result
+slice-read-result c = search needs
+
 returns-2 : tie.Need-returns-2
 returns-2 c =
-    let at-entry = c .before .before .before in
+    let at-if1 = c .before in
+    let at-entry = at-if1 .before .before .before in
     let w = at-entry .args .w .now in
-    (becomes-self w (hoistOne (recordAt w (at-entry .args .j)) (stack w)) (at-entry .pre .0) (sym (hoist-none-is (recordAt w (at-entry .args .j)) (stack w) (no-var (getD w (4112 + at-entry .args .j * 10 + 1) 0) (c .if1 .left)))), λ i a b. refl, omega arith, refl)
+    (becomes-self w (hoistOne (recordAt w (at-entry .args .j)) (stack w)) (at-entry .pre .0) (sym (hoist-none-is (recordAt w (at-entry .args .j)) (stack w) (no-var (getD w (4112 + at-entry .args .j * 10 + 1) 0) (at-if1 .if1 .left)))), (λ i a b. refl, λ i a b. refl), omega arith, refl, sym (end-other (recordAt w (at-entry .args .j)) (stack w) (no-var (getD w (4112 + at-entry .args .j * 10 + 1) 0) (at-if1 .if1 .left))))
 
 pub hoist-one-spec : {M : Type 1} → statement M
 hoist-one-spec =
@@ -53,4 +63,7 @@ hoist-one-spec =
     hoist-var-requires
     same-length
     returns
+    add-result
+    mul-result
+    slice-read-result
     returns-2)

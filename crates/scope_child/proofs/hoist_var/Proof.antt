@@ -7,11 +7,11 @@ use mathlib.Core.Bool.{Bool, _||_}
 use mathlib.Core.Option.{none}
 use Rattle.words.specs.Layout.{yes}
 use Rattle.def_pass.specs.Scope.{VarInfo, withValue, append}
-use Rattle.words_scopes.specs.State.{bindAt, stack}
+use Rattle.words_scopes.specs.State.{bindAt, withCount, stack}
 use Rattle.scope_values.specs.Steps.{refill}
 use Rattle.scope_redeclare.proofs.Top as top
 use Rattle.scope_redeclare.proofs.Again.{run-none, twice, listed-count, listed-ccount}
-use Rattle.scope_child.proofs.Hoist.{gone, bare-gone, refill-gone, gone-there, gone-absent}
+use Rattle.scope_child.proofs.Hoist.{gone, bare-gone, refill-gone, gone-there, gone-absent, ends-there, ends-absent}
 use borrow.Author.Needs.{needs}
 use Rattle.scope_child.proofs.hoist_var.Statement.{statement}
 use Rattle.scope_child.proofs.hoist_var.Tie as tie
@@ -118,13 +118,31 @@ slice-read-n c = search needs
 cast-n : tie.Need-cast-n
 cast-n c = search needs
 
+add-count : tie.Need-add-count
+add-count c = search needs
+
+mul-count : tie.Need-mul-count
+mul-count c = search needs
+
+slice-read-count : tie.Need-slice-read-count
+slice-read-count c = search needs
+
 own-binding-requires : tie.Need-own-binding-requires
 own-binding-requires c κs = search needs
 
+add-old : tie.Need-add-old
+add-old c = search needs
+
+mul-old : tie.Need-mul-old
+mul-old c = search needs
+
+slice-read-old : tie.Need-slice-read-old
+slice-read-old c = search needs
+
 set-run-requires : tie.Need-set-run-requires
 set-run-requires c κs =
-    let at-if1 = c .before in
-    let at-entry = at-if1 .before .before .before .before .before .before .before .before .before .before .before .before .before .before in
+    let at-if1 = c .before .before in
+    let at-entry = at-if1 .before .before .before .before .before .before .before .before .before .before .before .before .before .before .before in
     let w = at-entry .args .w .now in
     let g = at-entry .pre .0 in
     (g, at-if1 .if1 .taken, omega arith, omega (arith, g .recorded), rw (run-none w 0) refl)
@@ -132,29 +150,44 @@ set-run-requires c κs =
 rewrite-requires : tie.Need-rewrite-requires
 rewrite-requires c κs =
     let at-set-run = c .before .before .before in
-    let at-if1 = at-set-run .before .before in
+    let at-if1 = at-set-run .before .before .before in
     let at-own-binding = at-if1 .before in
-    let at-entry = at-own-binding .before .before .before .before .before .before .before .before .before .before .before .before .before in
+    let at-entry = at-own-binding .before .before .before .before .before .before .before .before .before .before .before .before .before .before in
     let l = at-set-run .set-run .ensures .0 in
     let n = listed-count (at-own-binding .own-binding .result) _ (at-entry .pre .0) l in
     (l .good, omega (arith, at-if1 .if1 .taken))
+
+set-count-requires : tie.Need-set-count-requires
+set-count-requires c κs =
+    let at-rewrite = c .before .before .before in
+    let at-set-run = at-rewrite .before .before .before .before in
+    let at-if1 = at-set-run .before .before .before in
+    let at-own-binding = at-if1 .before in
+    let at-entry = at-own-binding .before .before .before .before .before .before .before .before .before .before .before .before .before .before in
+    let l = at-set-run .set-run .ensures .0 in
+    let m = at-rewrite .rewrite .ensures .0 in
+    let n = listed-count (at-own-binding .own-binding .result) _ (at-entry .pre .0) l in
+    let k = listed-count (at-own-binding .own-binding .result) _ (l .good) m in
+    (m .good, omega (arith, at-if1 .if1 .taken))
 
 append-record-requires : tie.Need-append-record-requires
 append-record-requires c κs = search needs
 
 same-length : tie.Need-same-length
 same-length c =
-    let at-rewrite = c .before .before in
+    let at-set-count = c .before .before in
+    let at-rewrite = at-set-count .before .before .before .before in
     let at-set-run = at-rewrite .before .before .before .before in
-    at-rewrite .rewrite .kept .0 ∙ at-set-run .set-run .kept .0
+    at-set-count .set-count .kept .0 ∙ at-rewrite .rewrite .kept .0 ∙ at-set-run .set-run .kept .0
 
 returns : tie.Need-returns
 returns c =
-    let at-rewrite = c .before .before in
+    let at-set-count = c .before .before in
+    let at-rewrite = at-set-count .before .before .before .before in
     let at-set-run = at-rewrite .before .before .before .before in
-    let at-if1 = at-set-run .before .before in
+    let at-if1 = at-set-run .before .before .before in
     let at-own-binding = at-if1 .before in
-    let at-either = at-own-binding .before .before .before in
+    let at-either = at-own-binding .before .before .before .before in
     let at-entry = at-either .before .before .before .before .before .before .before .before .before .before in
     let w = at-entry .args .w .now in
     let g = at-entry .pre .0 in
@@ -167,11 +200,16 @@ returns c =
     let h = at-if1 .if1 .taken in
     let one = rw (run-none w 0) at (at-set-run .set-run .ensures .0) in
     let both = twice r (withValue none (bindAt w r)) (refill 1 (getD w (4112 + j * 10 + 2) 0) (getD w (4112 + j * 10 + 3) 0) p 0 (getD w (4112 + j * 10 + 6) 0) 1) h g one (at-rewrite .rewrite .ensures .0) in
-    let all = rw (refill-gone w j x p refl (at-entry .pre .5) mark (bindAt w r) (at-own-binding .own-binding .ensures .there h .2)) at both in (
+    let three = twice r (refill 1 (getD w (4112 + j * 10 + 2) 0) (getD w (4112 + j * 10 + 3) 0) p 0 (getD w (4112 + j * 10 + 6) 0) 1 (withValue none (bindAt w r))) (withCount (getD w (8080 + j) 0)) h g both (at-set-count .set-count .ensures .0) in
+    let all = rw (refill-gone w j x p refl (at-entry .pre .5) mark (bindAt w r) (at-own-binding .own-binding .ensures .there h .2)) at three in (
       gone-there w j x p refl (at-entry .pre .5) mark r h (at-own-binding .own-binding .ensures) all,
-      λ i a b. at-rewrite .rewrite .ensures .1 i (omega arith) b ∙ at-set-run .set-run .ensures .1 i (omega arith) b,
+      (
+        λ i a b. at-set-count .set-count .ensures .1 .0 i (omega arith) b ∙ at-rewrite .rewrite .ensures .1 .0 i (omega arith) b ∙ at-set-run .set-run .ensures .1 .0 i (omega arith) b,
+        λ i a b. at-set-count .set-count .ensures .1 .1 i (omega arith) b ∙ at-rewrite .rewrite .ensures .1 .1 i (omega arith) b ∙ at-set-run .set-run .ensures .1 .1 i (omega arith) b,
+      ),
       omega (arith, listed-count r (gone w j x p refl (at-entry .pre .5) mark) g all, at-entry .pre .2),
       listed-ccount g all,
+      ends-there w j x p refl (at-entry .pre .5) mark r h (at-own-binding .own-binding .ensures),
     )
 
 same-length-2 : tie.Need-same-length-2
@@ -182,7 +220,7 @@ returns-2 c =
     let at-append-record = c .before .before in
     let at-if1 = at-append-record .before .before in
     let at-own-binding = at-if1 .before in
-    let at-either = at-own-binding .before .before .before in
+    let at-either = at-own-binding .before .before .before .before in
     let at-entry = at-either .before .before .before .before .before .before .before .before .before .before in
     let w = at-entry .args .w .now in
     let g = at-entry .pre .0 in
@@ -193,7 +231,7 @@ returns-2 c =
     let mark = at-either .either .ensures ∙ ap (λ (b : Bool). b || yes (getD w (4112 + j * 10 + 4) 0)) (ap yes (at-either .before .before .flag-at .ensures) ∙ sym (top.unres-at w g (at-entry .pre .1) x (at-entry .pre .4))) in
     let e = at-append-record .append-record .ensures in
     let s = gone-absent w j x p refl (at-entry .pre .5) mark r (at-if1 .if1 .left) (at-own-binding .own-binding .ensures) ∙ ap (λ (c : VarInfo). append c (stack w)) (sym (bare-gone w j x p refl (at-entry .pre .5) mark)) in
-    (rw s (e .0), λ i a b. e .1 i (omega arith) b, omega (arith, e .2), e .3)
+    (rw s (e .0), (λ i a b. e .1 .0 i (omega arith) b, λ i a b. e .1 .1 i (omega arith) b), omega (arith, e .2), e .3, ends-absent w j x p refl (at-entry .pre .5) mark r (at-if1 .if1 .left) (at-own-binding .own-binding .ensures))
 
 pub hoist-var-spec : {M : Type 1} → statement M
 hoist-var-spec =
@@ -233,11 +271,18 @@ hoist-var-spec =
     either-requires
     slice-read-n
     cast-n
+    add-count
+    mul-count
+    slice-read-count
     own-binding-requires
+    add-old
+    mul-old
+    slice-read-old
     set-run-requires
     rewrite-requires
-    append-record-requires
+    set-count-requires
     same-length
     returns
+    append-record-requires
     same-length-2
     returns-2)

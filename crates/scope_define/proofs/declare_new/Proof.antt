@@ -81,7 +81,7 @@ set-run-requires c κs =
     let r = listed.room (recordedNodes (stack w) - 0 + a .m) (live (stack w) + 1) (sym (at-passes .passes .ensures) ∙ at-if1 .if1 .left) in
     let u = at-append-record .append-record .last .0 in
     let e = at-append-record .append-record .ensures in
-    let bare = bareOf (a .x) (a .kind) (a .alias) 0 (a .prevented) (a .undef) 0 0 in
+    let bare = bareOf (a .x) (a .kind) (a .alias) 0 (a .prevented) (a .undef) 0 0 0 in
     let same = listed.same-run w u (a .i) (a .m) (e .0 .tree) (at-entry .pre .2) in
     (e .0 .good, omega (arith, e .2), omega (arith, listed.same-nodes w u (e .0 .tree), at-entry .pre .2), omega (arith, r .0, declares.vals-after w g (at-entry .pre .1) bare u (e .0) (e .2)), rw same (at-entry .pre .3))
 
@@ -105,7 +105,7 @@ returns-3 c =
     let new = fresh (a .x) (varTypeOf (a .kind)) (aliasAt (a .alias)) (yes (a .prevented)) (yes (a .undef)) v in
     let u = at-append-record .append-record .last .0 in
     let e = at-append-record .append-record .ensures in
-    let bare = bareOf (a .x) (a .kind) (a .alias) 0 (a .prevented) (a .undef) 0 0 in
+    let bare = bareOf (a .x) (a .kind) (a .alias) 0 (a .prevented) (a .undef) 0 0 0 in
     let same = listed.same-run w u (a .i) (a .m) (e .0 .tree) (at-entry .pre .2) in
     let s : append new (stack w) ≡ putAt u (getD w 1 0) (withValue (valueOf (run u 16 (a .i) (a .m))) (bindAt u (getD w 1 0))) = rw same (sym (declares.last-valued w g (at-entry .pre .1) bare u (e .0) (e .2) v)) in
     listed.done-under (becomes-then (e .0) (listed.listed-becomes (append new (stack w)) s (at-set-run .set-run .ensures .0)))

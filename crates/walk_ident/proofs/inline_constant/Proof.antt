@@ -8,10 +8,9 @@ use Rattle.def_pass.specs.Tree.{countO}
 use Prim.Native.Nat.{ℕ, _+_}
 use Rattle.words_scopes.specs.State.{stack}
 use mathlib.Core.Logic.{inr}
-use mathlib.Core.Bool.{true}
 use Rattle.def_pass.specs.Scope.{findConstant}
 use Rattle.words_state.specs.State.{abs}
-use Rattle.walk_ident.specs.Steps.{constantAt}
+use Rattle.walk_ident.specs.Steps.{changes, constantAt}
 use borrow.Author.Needs.{needs}
 use Rattle.walk_ident.proofs.inline_constant.Statement.{statement}
 use Rattle.walk_ident.proofs.inline_constant.Tie as tie
@@ -54,7 +53,7 @@ returns c =
     let at-put-constant = at-n .before .before .before .before in
     let at-ident-at = at-put-constant .before .before in
     let at-entry = at-ident-at .before .before .before in
-    laws.goes-stop (at-entry .args .w .now) _ (at-entry .args .p) (at-entry .args .i) (held (constantAt (abs (at-entry .args .w .now)) (at-entry .args .i))) (at-entry .pre .0) (at-entry .pre .1) true refl (rw (at-n .n .given .1) at (numbers.puts-swapped (at-entry .args .w .now) (at-entry .args .p) (at-entry .args .i) (held (constantAt (abs (at-entry .args .w .now)) (at-entry .args .i))) (at-put-constant .put-constant .result) _ (findConstant (at-ident-at .ident-at .result) (stack (at-entry .args .w .now))) (at-entry .pre .1) (fates.const-now (at-entry .args .w .now) (at-entry .args .i) (at-ident-at .ident-at .result) (at-entry .pre .1) (at-ident-at .ident-at .ensures) (omega (arith, at-entry .pre .3, at-entry .pre .4))) (at-put-constant .put-constant .ensures .0)))
+    laws.goes-stop (at-entry .args .w .now) _ (at-entry .args .p) (at-entry .args .i) (held (constantAt (abs (at-entry .args .w .now)) (at-entry .args .i))) (at-entry .pre .0) (at-entry .pre .1) changes refl (rw (at-n .n .given .1) at (numbers.puts-swapped (at-entry .args .w .now) (at-entry .args .p) (at-entry .args .i) (held (constantAt (abs (at-entry .args .w .now)) (at-entry .args .i))) (at-put-constant .put-constant .result) _ (findConstant (at-ident-at .ident-at .result) (stack (at-entry .args .w .now))) (at-entry .pre .1) (fates.const-now (at-entry .args .w .now) (at-entry .args .i) (at-ident-at .ident-at .result) (at-entry .pre .1) (at-ident-at .ident-at .ensures) (omega (arith, at-entry .pre .3, at-entry .pre .4))) (at-put-constant .put-constant .ensures .0)))
 
 same-length-2 : tie.Need-same-length-2
 same-length-2 c = search needs
@@ -66,7 +65,7 @@ returns-2 c =
     let at-put-constant = at-enum-told .before .before .before .before in
     let at-ident-at = at-put-constant .before .before in
     let at-entry = at-ident-at .before .before .before in
-    laws.goes-on (at-entry .args .w .now) _ (at-entry .args .p) (at-entry .args .i) (held (constantAt (abs (at-entry .args .w .now)) (at-entry .args .i))) (at-entry .pre .0) (at-entry .pre .1) true refl (rw (at-enum-told .enum-told .given .1) at (numbers.puts-swapped (at-entry .args .w .now) (at-entry .args .p) (at-entry .args .i) (held (constantAt (abs (at-entry .args .w .now)) (at-entry .args .i))) (at-put-constant .put-constant .result) _ (findConstant (at-ident-at .ident-at .result) (stack (at-entry .args .w .now))) (at-entry .pre .1) (fates.const-now (at-entry .args .w .now) (at-entry .args .i) (at-ident-at .ident-at .result) (at-entry .pre .1) (at-ident-at .ident-at .ensures) (omega (arith, at-entry .pre .3, at-entry .pre .4))) (at-put-constant .put-constant .ensures .0))) (at-landed .landed .ensures) (ap (λ (n : ℕ). (at-entry .args .i) + n) (at-entry .pre .4 ∙ ap countO (numbers.held-some (constantAt (abs (at-entry .args .w .now)) (at-entry .args .i)) (omega (arith, at-entry .pre .3, at-entry .pre .4)))))
+    laws.goes-on (at-entry .args .w .now) _ (at-entry .args .p) (at-entry .args .i) (held (constantAt (abs (at-entry .args .w .now)) (at-entry .args .i))) (at-entry .pre .0) (at-entry .pre .1) changes refl (rw (at-enum-told .enum-told .given .1) at (numbers.puts-swapped (at-entry .args .w .now) (at-entry .args .p) (at-entry .args .i) (held (constantAt (abs (at-entry .args .w .now)) (at-entry .args .i))) (at-put-constant .put-constant .result) _ (findConstant (at-ident-at .ident-at .result) (stack (at-entry .args .w .now))) (at-entry .pre .1) (fates.const-now (at-entry .args .w .now) (at-entry .args .i) (at-ident-at .ident-at .result) (at-entry .pre .1) (at-ident-at .ident-at .ensures) (omega (arith, at-entry .pre .3, at-entry .pre .4))) (at-put-constant .put-constant .ensures .0))) (at-landed .landed .ensures) (ap (λ (n : ℕ). (at-entry .args .i) + n) (at-entry .pre .4 ∙ ap countO (numbers.held-some (constantAt (abs (at-entry .args .w .now)) (at-entry .args .i)) (omega (arith, at-entry .pre .3, at-entry .pre .4)))))
 
 pub inline-constant-spec : {M : Type 1} → statement M
 inline-constant-spec =

@@ -2,8 +2,8 @@
 use mathlib.Core.Path.{refl}
 use native.Mathlib.Omega.{arith}
 use Rattle.walk_ident.proofs.Laws as laws
-use mathlib.Core.Bool.{false}
 use Rattle.def_pass.specs.Tree.{voidZero}
+use Rattle.walk_ident.specs.Steps.{quiet}
 use borrow.Author.Needs.{needs}
 use Rattle.walk_ident.proofs.inline_undefined.Statement.{statement}
 use Rattle.walk_ident.proofs.inline_undefined.Tie as tie
@@ -37,7 +37,7 @@ returns c =
     let at-put-void = at-n .before .before .before .before in
     let at-entry = at-put-void .before .before .before in
     let w = at-entry .args .w .now in
-    laws.goes-stop w _ (at-entry .args .p) (at-entry .args .i) voidZero (at-entry .pre .0) (at-entry .pre .1) false refl (rw (at-n .n .given .1) at (at-put-void .put-void .ensures))
+    laws.goes-stop w _ (at-entry .args .p) (at-entry .args .i) voidZero (at-entry .pre .0) (at-entry .pre .1) quiet refl (rw (at-n .n .given .1) at (at-put-void .put-void .ensures))
 
 same-length-2 : tie.Need-same-length-2
 same-length-2 c = search needs
@@ -49,7 +49,7 @@ returns-2 c =
     let at-put-void = at-enum-told .before .before .before .before in
     let at-entry = at-put-void .before .before .before in
     let w = at-entry .args .w .now in
-    laws.goes-on w _ (at-entry .args .p) (at-entry .args .i) voidZero (at-entry .pre .0) (at-entry .pre .1) false refl (rw (at-enum-told .enum-told .given .1) at (at-put-void .put-void .ensures)) (at-landed .landed .ensures) (omega arith)
+    laws.goes-on w _ (at-entry .args .p) (at-entry .args .i) voidZero (at-entry .pre .0) (at-entry .pre .1) quiet refl (rw (at-enum-told .enum-told .given .1) at (at-put-void .put-void .ensures)) (at-landed .landed .ensures) (omega arith)
 
 pub inline-undefined-spec : {M : Type 1} → statement M
 inline-undefined-spec =

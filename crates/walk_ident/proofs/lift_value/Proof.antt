@@ -4,10 +4,10 @@ use native.Mathlib.Omega.{arith}
 use Prim.Native.Nat.{ℕ, _+_, _-_}
 use Rattle.walk_ident.proofs.Laws as laws
 use Rattle.words_nodes.proofs.Splice.{outer-in, inner-in}
-use mathlib.Core.Bool.{false}
 use Rattle.def_tree.specs.Tree.{Tree, count}
 use Rattle.words.specs.Layout.{tree}
 use Rattle.words_nodes.specs.Nodes.{treeFrom}
+use Rattle.walk_ident.specs.Steps.{quiet}
 use borrow.Author.Needs.{needs}
 use Rattle.walk_ident.proofs.lift_value.Statement.{statement}
 use Rattle.walk_ident.proofs.lift_value.Tie as tie
@@ -42,7 +42,7 @@ returns c =
     let at-entry = at-unwrap .before .before .before .before .before in
     let w = at-entry .args .w .now in
     let e : Tree = treeFrom (tree w) (at-entry .args .j) in
-    laws.goes-stop w _ (at-entry .args .p) (at-entry .args .i) e (at-entry .pre .0) (outer-in (at-entry .pre .0) (at-entry .pre .1)) false refl (rw (at-n .n .given .1) at (at-unwrap .unwrap .ensures))
+    laws.goes-stop w _ (at-entry .args .p) (at-entry .args .i) e (at-entry .pre .0) (outer-in (at-entry .pre .0) (at-entry .pre .1)) quiet refl (rw (at-n .n .given .1) at (at-unwrap .unwrap .ensures))
 
 same-length-2 : tie.Need-same-length-2
 same-length-2 c = search needs
@@ -56,7 +56,7 @@ returns-2 c =
     let e : Tree = treeFrom (tree w) (at-entry .args .j) in
     let h = rw (c .enum-told .given .1) at (at-unwrap .unwrap .ensures) in
     let n : at-skip .skip .result - at-entry .args .j ≡ count e = omega (arith, at-skip .skip .ensures .0) in
-    laws.goes-on w _ (at-entry .args .p) (at-entry .args .i) e (at-entry .pre .0) (outer-in (at-entry .pre .0) (at-entry .pre .1)) false refl h (record { at = refl; turns = laws.turns-self (h .1 .planted) }) (ap (λ (k : ℕ). at-entry .args .i + k) n)
+    laws.goes-on w _ (at-entry .args .p) (at-entry .args .i) e (at-entry .pre .0) (outer-in (at-entry .pre .0) (at-entry .pre .1)) quiet refl h (record { at = refl; turns = laws.turns-self (h .1 .planted) }) (ap (λ (k : ℕ). at-entry .args .i + k) n)
 
 pub lift-value-spec : {M : Type 1} → statement M
 lift-value-spec =

@@ -72,11 +72,25 @@ put5-requires-2 c κs = search needs
 add-w : tie.Need-add-w
 add-w c = search needs
 
-cast-w : tie.Need-cast-w
-cast-w c = search needs
+mul-w : tie.Need-mul-w
+mul-w c = search needs
 
 slice-write-w : tie.Need-slice-write-w
 slice-write-w c = search needs
+
+add-w-2 : tie.Need-add-w-2
+add-w-2 c = search needs
+
+cast-w : tie.Need-cast-w
+cast-w c = search needs
+
+slice-write-w-2 : tie.Need-slice-write-w-2
+slice-write-w-2 c =
+    let at-put52 = c .before .before in
+    let at-put5 = at-put52 .before .before .before .before in
+    let at-enter = at-put5 .before .before .before .before in
+    let at-entry = at-enter .before .before .before .before .before .before in
+    simp length-set (omega (arith, at-entry .pre .0 .long, at-put52 .put52 .kept .0, at-put5 .put5 .kept .0, at-enter .enter .kept .0))
 
 same-length : tie.Need-same-length
 same-length c =
@@ -92,10 +106,10 @@ returns c =
     let at-enter = at-put5 .before .before .before .before in
     let at-entry = at-enter .before .before .before .before .before .before in
     let a = at-entry .args in (
-      grow.pushed (a .w .now) (at-enter .enter .last .0) (at-put5 .put5 .last .0) (at-put52 .put52 .last .0) (at-entry .pre .0) (at-entry .pre .1) (at-entry .pre .2) (a .id) (a .kind) (a .alias) (a .reads) (a .prevented) (a .undef) (a .sensitive) (a .hoisted) (omega arith) (at-enter .enter .ensures) (at-put5 .put5 .ensures) (at-put52 .put52 .ensures),
-      grow.pushed-past (a .w .now) (at-enter .enter .last .0) (at-put5 .put5 .last .0) (at-put52 .put52 .last .0) (at-entry .pre .0) (at-entry .pre .1) (at-entry .pre .2) (a .id) (a .kind) (a .alias) (a .reads) (a .prevented) (a .undef) (a .sensitive) (a .hoisted) (omega arith) (at-enter .enter .ensures) (at-put5 .put5 .ensures) (at-put52 .put52 .ensures),
-      grow.count (a .w .now) (at-enter .enter .last .0) (at-put5 .put5 .last .0) (at-put52 .put52 .last .0) (at-entry .pre .0) (at-entry .pre .1) (at-entry .pre .2) (a .id) (a .kind) (a .alias) (a .reads) (a .prevented) (a .undef) (a .sensitive) (a .hoisted) (omega arith) (at-enter .enter .ensures) (at-put5 .put5 .ensures) (at-put52 .put52 .ensures),
-      grow.pushed-consts (a .w .now) (at-enter .enter .last .0) (at-put5 .put5 .last .0) (at-put52 .put52 .last .0) (at-entry .pre .0) (at-entry .pre .1) (at-entry .pre .2) (a .id) (a .kind) (a .alias) (a .reads) (a .prevented) (a .undef) (a .sensitive) (a .hoisted) (omega arith) (at-enter .enter .ensures) (at-put5 .put5 .ensures) (at-put52 .put52 .ensures),
+      grow.pushed (a .w .now) (at-enter .enter .last .0) (at-put5 .put5 .last .0) (at-put52 .put52 .last .0) (at-entry .pre .0) (at-entry .pre .1) (at-entry .pre .2) (a .id) (a .kind) (a .alias) (a .reads) (a .prevented) (a .undef) (a .sensitive) (a .hoisted) (a .count) (omega arith) (at-enter .enter .ensures) (at-put5 .put5 .ensures) (at-put52 .put52 .ensures),
+      grow.pushed-past (a .w .now) (at-enter .enter .last .0) (at-put5 .put5 .last .0) (at-put52 .put52 .last .0) (at-entry .pre .0) (at-entry .pre .1) (at-entry .pre .2) (a .id) (a .kind) (a .alias) (a .reads) (a .prevented) (a .undef) (a .sensitive) (a .hoisted) (a .count) (omega arith) (at-enter .enter .ensures) (at-put5 .put5 .ensures) (at-put52 .put52 .ensures),
+      grow.count (a .w .now) (at-enter .enter .last .0) (at-put5 .put5 .last .0) (at-put52 .put52 .last .0) (at-entry .pre .0) (at-entry .pre .1) (at-entry .pre .2) (a .id) (a .kind) (a .alias) (a .reads) (a .prevented) (a .undef) (a .sensitive) (a .hoisted) (a .count) (omega arith) (at-enter .enter .ensures) (at-put5 .put5 .ensures) (at-put52 .put52 .ensures),
+      grow.pushed-consts (a .w .now) (at-enter .enter .last .0) (at-put5 .put5 .last .0) (at-put52 .put52 .last .0) (at-entry .pre .0) (at-entry .pre .1) (at-entry .pre .2) (a .id) (a .kind) (a .alias) (a .reads) (a .prevented) (a .undef) (a .sensitive) (a .hoisted) (a .count) (omega arith) (at-enter .enter .ensures) (at-put5 .put5 .ensures) (at-put52 .put52 .ensures),
     )
 
 pub append-record-spec : {M : Type 1} → statement M
@@ -122,7 +136,10 @@ append-record-spec =
     add-put5-3
     put5-requires-2
     add-w
-    cast-w
+    mul-w
     slice-write-w
+    add-w-2
+    cast-w
+    slice-write-w-2
     same-length
     returns)

@@ -33,8 +33,17 @@ fn next_file(rng: &mut Rng) -> (Vec<u8>, u32) {
     }
 }
 
+/// A line of the other's answer as the original prints it: without how often a root binding was replaced.
+fn uncounted(line: &str) -> &str {
+    match line.strip_prefix("root ") {
+        Some(fields) if fields.split(' ').count() == 4 => line.rsplit_once(' ').map_or(line, |it| it.0),
+        _ => line,
+    }
+}
+
 fn agrees(other: &mut Other, file: &[u8], runs: u32) -> bool {
-    answer(file, runs).to_string().lines().eq(other.answer(file, runs).lines())
+    let told = other.answer(file, runs);
+    answer(file, runs).to_string().lines().eq(told.lines().map(uncounted))
 }
 
 fn report(other: &mut Other, file: &[u8], runs: u32) {

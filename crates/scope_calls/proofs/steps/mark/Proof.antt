@@ -32,7 +32,7 @@ returns : tie.Need-returns
 returns c =
     let at-close = c .before .before in
     let at-entry = at-close .before .before .before .before in
-    keep.became (at-entry .pre) (at-close .close .ensures)
+    keep.became (at-entry .pre) (at-close .close .ensures .0)
 
 same-length-2 : tie.Need-same-length-2
 same-length-2 c = search needs
