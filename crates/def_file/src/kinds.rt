@@ -4,7 +4,7 @@ ghost use Rattle.def_tree.specs.Base.{pick};
 ghost use Rattle.def_file.specs.Kinds.{allows, is_stmt, is_expr, every, led, ended, for_row, try_row, case_row, new_row, function_row, head_row, arrow_row, no_row, row_of, form_ok, count_ok, child_of, uses_text, uses_bits};
 
 // What may stand at a place.
-#[derive(Drop)]
+#[derive(Clone, Copy)]
 pub enum Class {
     // 1
     Root,
@@ -36,7 +36,7 @@ pub enum Class {
 
 // What a kind asks of a node: its least and greatest form, its least and greatest number of children, and what these may be: an only
 // child, else the first, the last and those between.
-#[derive(Drop)]
+#[derive(Clone, Copy)]
 pub struct Row {
     pub from: usize,
     pub to: usize,

@@ -4,7 +4,7 @@
 pub mod kinds;
 
 // A node as the file holds it. `bits`: context or number.
-#[derive(Drop)]
+#[derive(Clone, Copy)]
 pub struct Raw {
     pub kind: u8,
     pub form: u8,

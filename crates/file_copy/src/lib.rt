@@ -10,7 +10,7 @@ use words::clear;
 
 // A refusal's number, or 0 and the length of what was written.
 #[repr(C)]
-#[derive(Drop)]
+#[derive(Clone, Copy)]
 pub struct Copied {
     pub refused: u32,
     pub length: usize,

@@ -14,7 +14,7 @@ use def_file::kinds::{Class, allows, child, count_ok, form_ok, row_of, uses_bits
 use file_fields::fields::raw_at;
 
 // What reading a node and all below it gives: a binding, or another node, and the index behind it; or a refusal's number.
-#[derive(Drop)]
+#[derive(Clone, Copy)]
 pub enum Child {
     Binding(usize),
     Other(usize),

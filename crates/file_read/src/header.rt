@@ -6,14 +6,14 @@ ghost use Rattle.file_read.specs.Head.{HeadIs};
 use file_fields::fields::u32_at;
 
 // How many nodes, texts and text bytes a file has.
-#[derive(Drop)]
+#[derive(Clone, Copy)]
 pub struct Header {
     pub nodes: usize,
     pub texts: usize,
     pub bytes: usize,
 }
 
-#[derive(Drop)]
+#[derive(Clone, Copy)]
 pub enum Head {
     Found(Header),
     Refused(u32),

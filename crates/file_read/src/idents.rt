@@ -8,7 +8,7 @@ use file_fields::fields::{u32_at, u64_at};
 use words::layout;
 
 // The number of an identifier, or none where 256 others are listed.
-#[derive(Drop)]
+#[derive(Clone, Copy)]
 pub enum Entered {
     At(u32),
     Full,

@@ -8,7 +8,7 @@ use file_fields::texts::{distinct_ok, rising_ok};
 use file_preorder::nodes_ok;
 
 // A script, by its counts, or a refusal's number.
-#[derive(Drop)]
+#[derive(Clone, Copy)]
 pub enum Answer {
     Script(Header),
     Refused(u32),

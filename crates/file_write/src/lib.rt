@@ -13,7 +13,7 @@ use file_read::header::{Head, read_header};
 use words::layout;
 
 // The result's length, or a refusal's number.
-#[derive(Drop)]
+#[derive(Clone, Copy)]
 pub enum Written {
     Done(usize),
     Refused(u32),

@@ -3,7 +3,7 @@
 
 // A refusal's number; or 0, the result's length, the runs done, and 1 if the last one left the mark.
 #[repr(C)]
-#[derive(Drop)]
+#[derive(Clone, Copy)]
 pub struct Inlined {
     pub refused: u32,
     pub length: usize,
@@ -13,7 +13,7 @@ pub struct Inlined {
 
 // A refusal's number; or 0, and how many root bindings there are.
 #[repr(C)]
-#[derive(Drop)]
+#[derive(Clone, Copy)]
 pub struct Roots {
     pub refused: u32,
     pub count: usize,
@@ -22,7 +22,7 @@ pub struct Roots {
 // A refusal's number; or 0, and 1 if there is a root binding of the number asked for: then its context, text number and prevented mark, and how
 // often an identifier was replaced by its value.
 #[repr(C)]
-#[derive(Drop)]
+#[derive(Clone, Copy)]
 pub struct RootBinding {
     pub refused: u32,
     pub found: u32,

@@ -19,7 +19,7 @@ use file_write::Written;
 use words::layout;
 
 // A root binding: its text number, its context, its own prevented mark, and how often an identifier was replaced by its value; or that the root has none of that number.
-#[derive(Drop)]
+#[derive(Clone, Copy)]
 pub enum RootAt {
     Found {
         text: u32,

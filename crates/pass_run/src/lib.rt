@@ -16,7 +16,7 @@ use words::layout;
 use words_state::{set_changed, set_inlining, set_is_first_run};
 
 // Runs done and the last one's mark, or a refusal's number.
-#[derive(Drop)]
+#[derive(Clone, Copy)]
 pub enum Ran {
     Done { runs: u32, changed: bool },
     Refused(u32),

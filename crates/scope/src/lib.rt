@@ -37,14 +37,14 @@ use words_nodes::skip;
 pub use words_scopes::prevent_inline;
 
 // A value that is recorded: none, or the tree that begins at a node.
-#[derive(Drop)]
+#[derive(Clone, Copy)]
 pub enum Value {
     Nothing,
     At(usize),
 }
 
 // The nodes of a value.
-#[derive(Drop)]
+#[derive(Clone, Copy)]
 struct Run {
     at: usize,
     len: usize,

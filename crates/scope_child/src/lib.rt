@@ -16,7 +16,7 @@ use std::num::wrapping_add_u32;
 use words::{flag_at, layout, wipe};
 use words_scopes::{append_record, drop_scope, open};
 
-#[derive(Drop)]
+#[derive(Clone, Copy)]
 pub enum ScopeKind {
     // If / Switch
     Cond,
@@ -30,7 +30,7 @@ impl ScopeKind {
 }
 
 // A scope that has no records yet.
-#[derive(Drop)]
+#[derive(Clone, Copy)]
 pub struct Scope {
     pub kind: ScopeKind,
 }

@@ -16,28 +16,28 @@ use scope_values::{Step, passes, record_value, set_run};
 use words::layout;
 use words_scopes::{append_record, find_binding, prevent_inline};
 
-#[derive(Drop)]
+#[derive(Clone, Copy)]
 pub enum VarDeclKind {
     Var,
     Let,
     Const,
 }
 
-#[derive(Drop)]
+#[derive(Clone, Copy)]
 pub enum VarType {
     Param,
     Declared(VarDeclKind),
 }
 
 // The type of the binding that a value names, if it names one.
-#[derive(Drop)]
+#[derive(Clone, Copy)]
 pub enum Alias {
     NoAlias,
     AliasOf(VarType),
 }
 
 // What a declaration starts with: nothing, a value that is recorded, or one that is only seen.
-#[derive(Drop)]
+#[derive(Clone, Copy)]
 pub enum Init {
     NoInit,
     Recorded,

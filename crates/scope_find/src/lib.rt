@@ -15,14 +15,14 @@ use words::{arity_at, flag_at, kind_at, layout, num_at};
 use words_scopes::{find_binding, offset};
 
 // read_cnt: how often a binding was read, if there is one.
-#[derive(Drop)]
+#[derive(Clone, Copy)]
 pub enum Count {
     Nothing,
     Reads(u32),
 }
 
 // scope_for: is the identifier bound in the scope found, and is that the current one.
-#[derive(Drop)]
+#[derive(Clone, Copy)]
 pub struct ScopeFor {
     pub bound: bool,
     pub current: bool,

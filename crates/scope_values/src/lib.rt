@@ -14,21 +14,21 @@ use words::{layout, shift};
 use words_scopes::{find_binding, offset, offset_from};
 
 // What a step that may pass a limit answers: the number of its refusal.
-#[derive(Drop)]
+#[derive(Clone, Copy)]
 pub enum Step {
     Done,
     Refused(u32),
 }
 
 // Where the value of a constant stands in the constants' store: its first node, and how many.
-#[derive(Drop)]
+#[derive(Clone, Copy)]
 pub enum Constant {
     Unknown,
     At(usize, usize),
 }
 
 // Whether a sum of recorded nodes comes to more than row 9 allows: after how many scopes.
-#[derive(Drop)]
+#[derive(Clone, Copy)]
 pub enum Sum {
     Within,
     Over(usize),

@@ -28,14 +28,14 @@ use words::{kind_at, layout};
 use words_nodes::{cut, has_this, skip};
 
 // A step that also tells whether something holds.
-#[derive(Drop)]
+#[derive(Clone, Copy)]
 pub enum Told {
     Answer(bool),
     Stopped(u32),
 }
 
 // Where the walk goes on.
-#[derive(Drop)]
+#[derive(Clone, Copy)]
 pub enum After {
     At(usize),
     Halted(u32),

@@ -30,14 +30,14 @@ use words_state::{
 };
 
 // Where the next tree begins, or the number of a refusal.
-#[derive(Drop)]
+#[derive(Clone, Copy)]
 pub enum Next {
     At(usize),
     Refused(u32),
 }
 
 // What becomes of an identifier in Inlining: the value of the binding of a number takes its place.
-#[derive(Drop)]
+#[derive(Clone, Copy)]
 pub enum Found {
     Nothing,
     Void,

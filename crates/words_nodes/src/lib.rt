@@ -11,14 +11,14 @@ ghost use Rattle.words_nodes.specs.Nodes.{Planted, Trees, Child, tree_from, valu
 use words::{arity_at, kind_at, layout, put4, shift};
 
 // Where a tree ends, or that it is too high.
-#[derive(Drop)]
+#[derive(Clone, Copy)]
 pub enum Tall {
     Behind(usize),
     Over,
 }
 
 // A change of the tree that document 01's rows may refuse.
-#[derive(Drop)]
+#[derive(Clone, Copy)]
 pub enum Step {
     Done,
     Refused(u32),

@@ -5,7 +5,7 @@ ghost use Rattle.std.specs.Prelude.{◌≡◌, map};
 ghost use Rattle.words_prevent.specs.Mark.{prevent, marked};
 
 // A binding: its identifier, the identifier that its value is (a number that no identifier has: none), and its prevented mark.
-#[derive(Drop)]
+#[derive(Clone, Copy)]
 pub struct Binding {
     pub id: u32,
     pub value: u32,
