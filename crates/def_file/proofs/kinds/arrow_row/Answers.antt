@@ -1,0 +1,6 @@
+use mathlib.Core.Path.{refl}
+use borrow.Author.Rules.{rules}
+use Rattle.def_file.proofs.kinds.arrow_row.Goals as goal
+
+pub returns : goal.returns
+returns c = rw (c.ended.ensures, c.either-last.ensures) refl

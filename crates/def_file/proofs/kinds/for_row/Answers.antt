@@ -1,0 +1,6 @@
+use mathlib.Core.Path.{refl}
+use borrow.Author.Rules.{rules}
+use Rattle.def_file.proofs.kinds.for_row.Goals as goal
+
+pub returns : goal.returns
+returns c = rw c.either-first.ensures refl

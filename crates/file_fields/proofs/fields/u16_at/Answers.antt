@@ -1,0 +1,8 @@
+use native.Mathlib.Omega.{arith}
+use mathlib.Core.Path.{refl, sym}
+use Rattle.file_fields.proofs.Numbers.{number-two, number-four, number-eight}
+use borrow.Author.Rules.{rules}
+use Rattle.file_fields.proofs.fields.u16_at.Goals as goal
+
+pub returns : goal.returns
+returns c = let a = c.args in cc (number-two a.b.now a.i (omega (arith, c.requires)))

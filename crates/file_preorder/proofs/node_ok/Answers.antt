@@ -1,0 +1,5 @@
+use borrow.Author.Rules.{rules}
+use Rattle.file_preorder.proofs.node_ok.Goals as goal
+
+pub returns : goal.returns
+returns c = cc

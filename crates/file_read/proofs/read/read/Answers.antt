@@ -1,0 +1,15 @@
+-- `file_read::read::read` meets its contract. Assumes nothing.
+use mathlib.Core.Path.{◌≡◌, refl, sym, ap, ◌∙◌, subst}
+use native.Mathlib.Omega.{arith}
+use Rattle.file_read.proofs.Readings.{read-script, read-refused, read_short}
+use borrow.Author.Rules.{rules}
+use Rattle.file_read.proofs.read.read.Goals as goal
+
+pub returns-then-words-lt16384 : goal.returns-then-words-lt16384
+returns-then-words-lt16384 c = read_short c.if-words-lt16384.true
+
+pub returns-in-Script : goal.returns-in-Script
+returns-in-Script c = read-script c.if-words-lt16384.false c.load_file-answer.ensures _ c.answer-1.given.1
+
+pub returns-in-Refused : goal.returns-in-Refused
+returns-in-Refused c = read-refused c.if-words-lt16384.false c.load_file-answer.ensures _ c.answer-in-Refused-1.given.1 c.clear.ensures

@@ -1,0 +1,51 @@
+-- Header, nodes and texts, one behind the other. Assumes nothing.
+use mathlib.Core.Path.{◌∙◌}
+use Prim.Native.Nat.{◌≤◌, ◌<◌}
+use native.Mathlib.Omega.{arith}
+use lib.ListN.{length, get_or}
+use Rattle.file_write.specs.Written.{fitted, total, result_bytes}
+use Rattle.file_write.proofs.Laid as laid
+use borrow.Author.Rules.{rules}
+use Rattle.file_write.proofs.write_counted.Goals as goal
+
+pub overflow_cast-m : goal.overflow_cast-m
+overflow_cast-m c = omega (arith, c.shared_slice_known-3-1.given 0)
+
+pub returns-then-m-eq0 : goal.returns-then-m-eq0
+returns-then-m-eq0 c =
+    let a = c.args in
+    let bs = a.file.now in
+    let w = a.words.now in
+    let r = a.result.now in
+    laid.left_so (result_bytes bs w) r (fitted bs w (length r)) 9 (laid.fit_none bs w (length r) c.if-m-eq0.true)
+
+pub returns-then-m-gt1024 : goal.returns-then-m-gt1024
+returns-then-m-gt1024 c =
+    let a = c.args in
+    let bs = a.file.now in
+    let w = a.words.now in
+    let r = a.result.now in
+    let l : 1 ≤ get_or w 0 0 = omega arith in
+    laid.left_so (result_bytes bs w) r (fitted bs w (length r)) 9 (laid.fit-many bs w (length r) l c.if-m-gt1024.true)
+
+pub returns-then-res-total : goal.returns-then-res-total
+returns-then-res-total c =
+    let a = c.args in
+    let bs = a.file.now in
+    let w = a.words.now in
+    let r = a.result.now in
+    let K = c.requires in
+    let l : 1 ≤ get_or w 0 0 = omega arith in
+    let h : get_or w 0 0 ≤ 1024 = omega arith in
+    let q : length r < total bs w = omega (arith, K.texts, K.bytes) in
+    laid.left_so (result_bytes bs w) r (fitted bs w (length r)) 10 (laid.fit-room bs w (length r) l h ∙ laid.too_short (total bs w) (length r) q)
+
+pub returns : goal.returns
+returns c =
+    let a = c.args in
+    let w = a.words.now in
+    let some : 1 ≤ get_or w 0 0 = omega (arith, c.if-m-eq0) in
+    let few : get_or w 0 0 ≤ 1024 = omega (arith, c.if-m-gt1024) in
+    let r₁ = c.put_head.new.0 in
+    laid.all-wrote a.file.now w a.result.now a.n a.t a.b c.requires some few c.if-res-total.false r₁ c.put_nodes.new.1.1.1.0 c.copy.new.1.1.0 (length r₁)
+    c.put_head.auto.0 c.put_head.ensures c.put_nodes.ensures c.copy.ensures

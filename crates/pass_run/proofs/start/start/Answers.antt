@@ -1,0 +1,23 @@
+-- The targets, the fields, the root scope, and the flags. Assumes nothing.
+use mathlib.Core.Path.{ap}
+use Rattle.scope_child.specs.Kinds.{kind_of}
+use Rattle.pass_run.proofs.Starts as starts
+use borrow.Author.Rules.{rules}
+use Rattle.pass_run.proofs.start.start.Goals as goal
+
+pub mark_targets-requires : goal.mark_targets-requires
+mark_targets-requires c = starts.as-script c.requires
+
+pub set_fields-requires : goal.set_fields-requires
+set_fields-requires c = (starts.marked-loaded c.requires c.mark_targets.ensures).long
+
+pub open_scope-requires : goal.open_scope-requires
+open_scope-requires c = (starts.planted (starts.marked-loaded c.requires c.mark_targets.ensures) c.set_fields.ensures).good
+
+pub flag_twice-requires : goal.flag_twice-requires
+flag_twice-requires c =
+    let o = starts.from-marked c.requires c.mark_targets.ensures (starts.opened (starts.marked-loaded c.requires c.mark_targets.ensures) c.set_fields.ensures c.new-root.result.kind c.open_scope.result (ap kind_of c.new-root.ensures) c.open_scope.auto.0 c.open_scope.ensures (starts.marked-is c.requires c.mark_targets.ensures)) in
+    (o.planted, starts.opened-plain o c.requires)
+
+pub returns : goal.returns
+returns c = starts.started (starts.from-marked c.requires c.mark_targets.ensures (starts.opened (starts.marked-loaded c.requires c.mark_targets.ensures) c.set_fields.ensures c.new-root.result.kind c.open_scope.result (ap kind_of c.new-root.ensures) c.open_scope.auto.0 c.open_scope.ensures (starts.marked-is c.requires c.mark_targets.ensures))) c.flag_twice.ensures

@@ -1,0 +1,29 @@
+use lib.Dec.{ltb}
+use Rattle.scope.proofs.Undefined as undefined
+use Rattle.scope.proofs.Moves as moves
+use Rattle.words.specs.Layout.{tree}
+use Rattle.words_nodes.specs.Nodes.{tree_from}
+use Rattle.words_state.specs.State.{rest}
+use Rattle.def_pass.specs.Scope.{declare}
+use Rattle.scope_define.specs.Kinds.{type_of}
+use Rattle.scope_declare.specs.Inits.{init_from}
+use borrow.Author.Rules.{rules}
+use Rattle.scope.proofs.declare_m.Goals as goal
+
+pub sited-e-requires : goal.sited-e-requires
+sited-e-requires c = c.requires.good
+
+pub undefined_now-undefined-requires : goal.undefined_now-undefined-requires
+undefined_now-undefined-requires c = c.requires.good
+
+pub declare-requires : goal.declare-requires
+declare-requires c = (c.requires, c.sited-e.ensures.0)
+
+pub returns : goal.returns
+returns c =
+    let w = c.args.w.now in
+    let e = c.sited-e.result in
+    let t = tree_from (tree w) c.args.i in
+    let k = type_of c.args.kind in
+    let m = moves.moves-by (undefined.declare-m-is c.args.f c.args.x e t c.args.is-change c.undefined_now-undefined.result k (rest w) c.undefined_now-undefined.ensures) (moves.grown-moves (declare (ltb 1 c.args.f) c.args.x (init_from e t) c.undefined_now-undefined.result k) c.requires c.declare.auto.0 c.declare.result c.declare.ensures) in
+    rw c.sited-e.ensures.1 at m

@@ -1,0 +1,19 @@
+-- By cases. Assumes nothing.
+use mathlib.Core.Path.{sym, ap, ◌∙◌}
+use mathlib.Core.Bool.{not}
+use Rattle.scope_declare.proofs.Init as init
+use Rattle.def_pass.specs.Scope.{is_param, param_o}
+use Rattle.scope_define.specs.Kinds.{type_of, alias_of}
+use Rattle.scope_define.specs.declared.Alias.{Alias}
+use Rattle.scope_define.specs.declared.VarType.{VarType}
+use borrow.Author.Rules.{rules}
+use Rattle.scope_declare.proofs.works_with.Goals as goal
+
+pub returns-in-NoAlias : goal.returns-in-NoAlias
+returns-in-NoAlias c = sym (init.works-is (alias_of c.args.alias) c.enum_told-in-Declared-1.given.1 ∙ ap (λ (a : Alias). not (param_o (alias_of a))) c.enum_told-in-NoAlias-1.given.1)
+
+pub returns-in-Param-t : goal.returns-in-Param-t
+returns-in-Param-t c = sym (init.works-is (alias_of c.args.alias) c.enum_told-in-Declared-1.given.1 ∙ ap (λ (a : Alias). not (param_o (alias_of a))) c.alias-1.given.1 ∙ ap (λ (t : VarType). not (is_param (type_of t))) c.enum_told-in-Param-t-1.given.1)
+
+pub returns-in-Declared-t : goal.returns-in-Declared-t
+returns-in-Declared-t c = sym (init.works-is (alias_of c.args.alias) c.enum_told-in-Declared-1.given.1 ∙ ap (λ (a : Alias). not (param_o (alias_of a))) c.alias-1.given.1 ∙ ap not (init.not-param c.enum_told-in-Declared-t-1.given.1))

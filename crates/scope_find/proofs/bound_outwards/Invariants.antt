@@ -1,0 +1,20 @@
+-- Outwards: the invariant is that the answer is that of the scopes left. Assumes nothing.
+use Prim.Native.Nat.{ℕ, suc, ◌-◌, ◌≤◌}
+use mathlib.Core.Bool.{true, false}
+use mathlib.Core.Path.{◌≡◌, sym, ap, ◌∙◌}
+use native.Mathlib.Omega.{arith}
+use borrow.Author.Rules.{rules}
+use lib.ListN.{get_or}
+use Rattle.def_pass.specs.Scope.{Stack, is_some, has_in, scope_for}
+use Rattle.words_scopes.specs.State.{stack, heads, binds, place}
+use Rattle.scope_find.specs.Look.{scope_at, below, place_below}
+use Rattle.scope_find.proofs.Placed as placed
+use Rattle.scope_find.proofs.Facts as facts
+use Rattle.scope_find.proofs.Out as out
+use Rattle.scope_find.proofs.bound_outwards.Given as goal
+
+abbrev pub invariant-loop-k : goal.invariant-loop-k
+invariant-loop-k l = (l.k ≤ get_or l.w 2 0) × ((scope_for true l.x (stack l.w)).0 ≡ (scope_for true l.x (below l.w l.k)).0) × (place l.x (heads l.w) (binds l.w) ≡ place_below l.w l.x l.k)
+
+abbrev pub decreases-loop-k : goal.decreases-loop-k
+decreases-loop-k l = l.k

@@ -1,0 +1,18 @@
+-- Outwards: the invariant is that the answer is that of the scopes left. Assumes nothing.
+use Prim.Native.Nat.{ℕ, suc, ◌+◌, ◌*◌, ◌-◌, ◌≤◌}
+use mathlib.Core.Path.{◌≡◌, refl, sym, ap, ◌∙◌}
+use native.Mathlib.Omega.{arith}
+use lib.ListN.{get_or}
+use Rattle.def_pass.specs.Scope.{is_hoisted_prevented}
+use Rattle.words.specs.Layout.{yes}
+use Rattle.scope_find.specs.Look.{scope_at, below, held, place_below}
+use Rattle.scope_find.proofs.Facts as facts
+use Rattle.scope_find.proofs.Out as out
+use borrow.Author.Rules.{rules}
+use Rattle.scope_find.proofs.held_below.Given as goal
+
+abbrev pub invariant-loop-k : goal.invariant-loop-k
+invariant-loop-k l = (l.k ≤ l.d) × (held l.x (below l.w l.d) ≡ held l.x (below l.w l.k)) × (l.p ≡ place_below l.w l.x l.k)
+
+abbrev pub decreases-loop-k : goal.decreases-loop-k
+decreases-loop-k l = l.k

@@ -1,0 +1,39 @@
+-- Outwards: the invariant is that the answer is that of the scopes left. Assumes nothing.
+use Prim.Native.Nat.{ℕ, ◌+◌, ◌*◌, ◌-◌, ◌≤◌}
+use mathlib.Core.Path.{◌≡◌, refl, sym, ap, ◌∙◌}
+use native.Mathlib.Omega.{arith}
+use borrow.Author.Rules.{rules}
+use lib.ListN.{get_or}
+use Rattle.words_scopes.specs.State.{heads, heads_at}
+use Rattle.scope_find.specs.Look.{fn_start}
+use Rattle.scope_marks.proofs.Fields as fields
+use Rattle.scope_find.proofs.Out as out
+use Rattle.scope_marks.proofs.mark.fn_start.Goals as goal
+
+pub loop-k-init : goal.loop-k-init
+unfolding heads
+loop-k-init c = (omega arith, refl)
+
+pub overflow_cast-result : goal.overflow_cast-result
+overflow_cast-result c =
+    let w = c.args.w.now in
+    omega (arith, c.shared_slice_known-then-w-k-ge3-1.given (7184 + (c.loop-k.k - 1) * 4 + 1))
+
+pub returns-then-w-k-ge3 : goal.returns-then-w-k-ge3
+returns-then-w-k-ge3 c =
+    let w = c.args.w.now in
+    let k = c.loop-k.k in
+    sym (c.loop-k.invariant.1 ∙ fields.start-here w k c.loop-k-test.true (out.fn-yes (get_or w (7184 + (k - 1) * 4) 0) c.if-w-k-ge3.true))
+
+pub loop-k-preserved : goal.loop-k-preserved
+loop-k-preserved c =
+    let w = c.args.w.now in
+    let k = c.loop-k.k in
+    (omega arith, c.loop-k.invariant.1 ∙ fields.start-next w k c.loop-k-test.true (out.fn-no (get_or w (7184 + (k - 1) * 4) 0) c.if-w-k-ge3.false))
+
+pub returns : goal.returns
+unfolding heads_at
+returns c =
+    let w = c.args.w.now in
+    let z : c.loop-k.k ≡ 0 = omega arith in
+    sym (c.loop-k.invariant.1 ∙ ap (λ (n : ℕ). fn_start (heads_at w n)) z)

@@ -1,0 +1,16 @@
+-- The sum of words of a table. Assumes nothing.
+use Prim.Native.Nat.{ℕ, ◌+◌, ◌*◌, ◌-◌, ◌≤◌}
+use mathlib.Core.Path.{◌≡◌, sym}
+use native.Mathlib.Omega.{arith}
+use lib.ListN.{get_or}
+use Rattle.words.specs.Tab as sums
+use Rattle.words.specs.Tab.{sum}
+use Rattle.scope_values.proofs.Store.{stride}
+use borrow.Author.Rules.{rules}
+use Rattle.scope_values.proofs.lengths.Given as goal
+
+abbrev pub invariant-loop-j : goal.invariant-loop-j
+invariant-loop-j l = (l.j ≤ l.e) × (sum (λ i. get_or l.w (l.p + i * l.s) 0) l.a + l.at ≡ sum (λ i. get_or l.w (l.p + i * l.s) 0) l.j) × (l.at ≤ 512)
+
+abbrev pub decreases-loop-j : goal.decreases-loop-j
+decreases-loop-j l = l.e - l.j

@@ -1,0 +1,11 @@
+-- Row 9, before the change. Assumes nothing.
+use Prim.Native.Nat.{◌+◌, ◌-◌}
+use mathlib.Core.Path.{refl, sym, ◌∙◌}
+use borrow.Author.Rules.{rules}
+use Rattle.scope_values.proofs.passes.Goals as goal
+
+pub returns-then-nodes_pass : goal.returns-then-nodes_pass
+returns-then-nodes_pass c = rw (sym c.nodes_pass.ensures ∙ c.if-nodes_pass.true) refl
+
+pub returns : goal.returns
+returns c = rw (sym c.nodes_pass.ensures ∙ c.if-nodes_pass.false, c.live.ensures.0) refl

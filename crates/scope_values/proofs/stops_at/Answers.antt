@@ -1,0 +1,98 @@
+-- Scope by scope, the current one first: the invariant is that the answer is that of the scopes left. Assumes nothing.
+use Prim.Native.Nat.{ℕ, suc, ◌+◌, ◌*◌, ◌-◌, ◌≤◌}
+use mathlib.Core.Path.{◌≡◌, refl, sym, ap, ◌∙◌}
+use mathlib.Core.Option.{some}
+use native.Mathlib.Omega.{arith}
+use lib.ListN.{get_or}
+use Rattle.words_scopes.specs.State.{Fits, CFits, heads_at, heads, stack, off, coff}
+use Rattle.words_scopes.proofs.Look.{outer, outer-all}
+use Rattle.scope_values.specs.Outwards.{stops_at}
+use Rattle.scope_values.proofs.Outwards.{begins, goes_on, over-now, within, later, later-one, later-none}
+use borrow.Author.Rules.{rules}
+use Rattle.scope_values.proofs.stops_at.Goals as goal
+
+pub loop-sum-init : goal.loop-sum-init
+unfolding heads
+loop-sum-init c =
+    let w = c.args.w.now in
+    let n = c.args.n in
+    let q : get_or w 2 0 - 0 ≡ get_or w 2 0 = omega arith in (
+      omega arith,
+      refl,
+      omega arith,
+      omega arith,
+      rw q c.requires.0.fits,
+      rw q c.requires.0.cfits,
+      refl,
+      ap (stops_at n) (outer-all w) ∙ sym (later-none (stops_at n (outer w (get_or w 2 0) (get_or w 1 0) (get_or w 3 0)))) ∙ ap (λ (m : ℕ). later 0 (stops_at n (outer w m (get_or w 1 0) (get_or w 3 0)))) (sym q),
+    )
+
+pub returns-then-i-d : goal.returns-then-i-d
+unfolding heads_at
+returns-then-i-d c =
+    let w = c.args.w.now in
+    let g = c.requires.0 in
+    let i = c.loop-sum.i in
+    let z : get_or w 2 0 - i ≡ 0 = omega arith in
+    sym (c.loop-sum.invariant.7 ∙ ap (λ (m : ℕ). later i (stops_at c.loop-sum.sum (outer w m c.loop-sum.e c.loop-sum.c))) z ∙ ap (later i) (within c.loop-sum.sum (omega arith)))
+
+pub nodes_in-sum-requires : goal.nodes_in-sum-requires
+nodes_in-sum-requires c =
+    let w = c.args.w.now in
+    let g = c.requires.0 in
+    let i = c.loop-sum.i in
+    let k : ℕ = get_or w 2 0 - 1 - i in
+    let q : get_or w 2 0 - i ≡ suc k = omega arith in
+    let f : Fits (heads_at w (suc k)) c.loop-sum.e = rw q at c.loop-sum.invariant.4 in
+    let h : CFits (heads_at w (suc k)) c.loop-sum.c = rw q at c.loop-sum.invariant.5 in
+    let t = begins w g k c.loop-sum.e c.loop-sum.c f h c.loop-sum.invariant.2 c.loop-sum.invariant.3 in
+    (g, omega (arith, g.depth), t.0, c.loop-sum.invariant.2, t.1, c.loop-sum.invariant.3)
+
+pub overflow_add-sum : goal.overflow_add-sum
+overflow_add-sum c =
+    let w = c.args.w.now in
+    let g = c.requires.0 in
+    let i = c.loop-sum.i in
+    omega (arith, c.loop-sum.invariant.6, c.nodes_in-sum.ensures, g.recorded, c.requires.1)
+
+pub overflow_cast-e-in-loop-sum : goal.overflow_cast-e-in-loop-sum
+overflow_cast-e-in-loop-sum c = omega (arith, c.shared_slice_known-in-loop-sum-1.given (7184 + (get_or c.args.w.now 2 0 - 1 - c.loop-sum.i) * 4 + 1))
+
+pub overflow_cast-c-in-loop-sum : goal.overflow_cast-c-in-loop-sum
+overflow_cast-c-in-loop-sum c = omega (arith, c.shared_slice_known-in-loop-sum-2-1.given (7184 + (get_or c.args.w.now 2 0 - 1 - c.loop-sum.i) * 4 + 2))
+
+pub loop-sum-preserved : goal.loop-sum-preserved
+loop-sum-preserved c =
+    let w = c.args.w.now in
+    let g = c.requires.0 in
+    let i = c.loop-sum.i in
+    let k : ℕ = get_or w 2 0 - 1 - i in
+    let q : get_or w 2 0 - i ≡ suc k = omega arith in
+    let f : Fits (heads_at w (suc k)) c.loop-sum.e = rw q at c.loop-sum.invariant.4 in
+    let h : CFits (heads_at w (suc k)) c.loop-sum.c = rw q at c.loop-sum.invariant.5 in
+    let t = begins w g k c.loop-sum.e c.loop-sum.c f h c.loop-sum.invariant.2 c.loop-sum.invariant.3 in
+    let a = get_or w (7184 + k * 4 + 1) 0 in
+    let b = get_or w (7184 + k * 4 + 2) 0 in
+    let r = c.nodes_in-sum.result in
+    let u = c.nodes_in-sum.ensures in
+    let s = c.loop-sum.sum in
+    let p : get_or w 2 0 - (i + 1) ≡ k = omega arith in (
+      omega arith,
+      refl,
+      omega arith,
+      omega arith,
+      rw p t.2,
+      rw p t.3,
+      omega arith,
+      c.loop-sum.invariant.7 ∙ ap (λ (m : ℕ). later i (stops_at s (outer w m c.loop-sum.e c.loop-sum.c))) q
+          ∙ ap (later i) (goes_on w g k c.loop-sum.e c.loop-sum.c f h c.loop-sum.invariant.2 c.loop-sum.invariant.3 s r u (omega arith))
+          ∙ later-one i (stops_at (s + r) (outer w k a b)) ∙ ap (λ (m : ℕ). later (i + 1) (stops_at (s + r) (outer w m a b))) (sym p),
+    )
+
+pub returns : goal.returns
+returns c =
+    let w = c.args.w.now in
+    let g = c.requires.0 in
+    let i = c.loop-sum.i in
+    let z : i + 0 ≡ i = omega arith in
+    sym (c.loop-sum.invariant.7 ∙ ap (later i) (over-now c.loop-sum.sum (outer w (get_or w 2 0 - i) c.loop-sum.e c.loop-sum.c) (omega arith)) ∙ ap some z)

@@ -1,0 +1,21 @@
+use mathlib.Core.Path.{refl, sym, ap, ◌∙◌}
+use mathlib.Core.Option.{some}
+use Rattle.def_tree.specs.Tree.{Tree}
+use Rattle.def_pass.specs.Scope.{find_binding, has_same_this}
+use Rattle.words_scopes.specs.State.{stack}
+use Rattle.scope_var_info.proofs.Numbers as numbers
+use borrow.Author.Rules.{rules}
+use Rattle.scope_var_info.proofs.has_same_this.Goals as goal
+
+pub has_same_this-requires : goal.has_same_this-requires
+has_same_this-requires c = (c.requires, c.in_tree.ensures.0 c.if-in_tree.true)
+
+pub returns-then-in_tree : goal.returns-then-in_tree
+returns-then-in_tree c =
+    let w = c.args.w.now in
+    c.has_same_this.ensures ∙ ap (λ (t : Tree). has_same_this (find_binding c.args.x (stack w)) (some t)) (numbers.node-from w c.args.i) ∙ sym (ap (has_same_this (find_binding c.args.x (stack w))) (numbers.tree-in w c.args.i (c.in_tree.ensures.0 c.if-in_tree.true)))
+
+pub returns : goal.returns
+returns c =
+    let w = c.args.w.now in
+    sym (ap (has_same_this (find_binding c.args.x (stack w))) (c.in_tree.ensures.1 c.if-in_tree.false) ∙ numbers.same_none (find_binding c.args.x (stack w)))

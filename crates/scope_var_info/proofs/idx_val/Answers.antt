@@ -1,0 +1,7 @@
+use Rattle.words_scopes.specs.State.{stack}
+use Rattle.scope_var_info.proofs.Numbers as numbers
+use borrow.Author.Rules.{rules}
+use Rattle.scope_var_info.proofs.idx_val.Goals as goal
+
+pub returns : goal.returns
+returns c = numbers.index_is c.args.w.now (stack c.args.w.now) c.args.x c.idx_val.result c.idx_val.ensures

@@ -1,0 +1,29 @@
+-- Declared again, or nothing. Assumes nothing.
+use Rattle.scope.proofs.Given as goal
+use Rattle.scope_define.specs.declared.Init.TheVariants.{Recorded}
+use mathlib.Core.Path.{refl, sym, ◌∙◌}
+use Rattle.walk_declarator.proofs.Acts as acts
+use Rattle.walk_declarator.proofs.Parts as parts
+use Rattle.words.specs.Layout.{tree}
+use Rattle.words_nodes.specs.Nodes.{tree_from}
+use Rattle.words_state.specs.State.{rest}
+use Rattle.scope_define.specs.Kinds.{type_of}
+use Rattle.walk_declarator.proofs.take_ident.Goals as goal
+
+pub is_ident-requires : goal.is_ident-requires
+is_ident-requires c = (c.requires.0, c.requires.1)
+
+pub declare_m-requires : goal.declare_m-requires
+declare_m-requires c = c.requires.0
+
+pub shape_of-w-then-is_ident : goal.shape_of-w-then-is_ident
+shape_of-w-then-is_ident c = c.declare_m.auto.0
+
+pub returns-then-is_ident : goal.returns-then-is_ident
+returns-then-is_ident c = acts.moves-by (parts.ident-yes c.args.f c.args.x (type_of c.args.kind) (tree_from (tree c.args.w.now) c.args.e) (rest c.args.w.now) (sym c.is_ident.ensures ∙ c.if-is_ident.true)) (rw (sym (goal.init-in c.args.w.now c.args.e Recorded c.requires.1)) at c.declare_m.ensures)
+
+pub shape_of-w : goal.shape_of-w
+shape_of-w c = refl
+
+pub returns : goal.returns
+returns c = acts.moves-by (parts.ident-no c.args.f c.args.x (type_of c.args.kind) (tree_from (tree c.args.w.now) c.args.e) (rest c.args.w.now) (sym c.is_ident.ensures ∙ c.if-is_ident.false)) (acts.moves-self c.requires.0 tt)

@@ -1,0 +1,73 @@
+-- By the parts of the node and its test. Assumes nothing.
+use Rattle.std.proofs.Common.{◌-◌, ◌<◌, sym, ◌∙◌, inl, arith, rules}
+use Rattle.walk_ident.proofs.Assigns as assigns
+use Rattle.words.specs.Layout.{node_of}
+use Rattle.walk_ident.proofs.assign.after_assign.Goals as goal
+
+pub arity_at-requires : goal.arity_at-requires
+arity_at-requires c = (c.requires.0.good.long, omega (arith, c.requires.0.good.nodes, c.requires.1))
+
+pub skip-requires : goal.skip-requires
+skip-requires c = (c.requires.0, c.requires.1)
+
+pub returns-then-arity_at-lt2 : goal.returns-then-arity_at-lt2
+returns-then-arity_at-lt2 c =
+    let w = c.args.w.now in
+    assigns.goes-past c.args.i c.requires.0 (assigns.assign-few c.requires.0 c.args.i c.requires.1 c.args.p (omega (arith, c.arity_at.ensures, c.if-arity_at-lt2.true))) c.skip.ensures.0
+
+pub kind_at-requires : goal.kind_at-requires
+kind_at-requires c =
+    let w = c.args.w.now in
+    let h : 1 < (node_of w c.args.i).arity = omega (arith, c.arity_at.ensures, c.if-arity_at-lt2.false) in
+    (c.requires.0.good.long, omega (arith, c.requires.0.good.nodes, assigns.target-in c.requires.0 c.args.i c.requires.1 h))
+
+pub skip-requires-then-kind_at-ne20 : goal.skip-requires-then-kind_at-ne20
+skip-requires-then-kind_at-ne20 c = (c.requires.0, c.requires.1)
+
+pub returns-then-kind_at-ne20 : goal.returns-then-kind_at-ne20
+returns-then-kind_at-ne20 c =
+    let w = c.args.w.now in
+    let h : 1 < (node_of w c.args.i).arity = omega (arith, c.arity_at.ensures, c.if-arity_at-lt2.false) in
+    assigns.goes-past c.args.i c.requires.0 (assigns.assign_other c.requires.0 c.args.i c.requires.1 h c.args.p (λ e. c.if-kind_at-ne20.true (c.kind_at.ensures ∙ e))) c.skip-then-kind_at-ne20.ensures.0
+
+pub ident_at-x-requires : goal.ident_at-x-requires
+ident_at-x-requires c =
+    let w = c.args.w.now in
+    let h : 1 < (node_of w c.args.i).arity = omega (arith, c.arity_at.ensures, c.if-arity_at-lt2.false) in
+    let e = sym c.kind_at.ensures ∙ c.if-kind_at-ne20.false in
+    (c.requires.0.good, assigns.target-in c.requires.0 c.args.i c.requires.1 h, inl e)
+
+pub skip-j-requires : goal.skip-j-requires
+skip-j-requires c =
+    let w = c.args.w.now in
+    let h : 1 < (node_of w c.args.i).arity = omega (arith, c.arity_at.ensures, c.if-arity_at-lt2.false) in
+    (c.requires.0, assigns.target-in c.requires.0 c.args.i c.requires.1 h)
+
+pub first_here-requires : goal.first_here-requires
+first_here-requires c =
+    let w = c.args.w.now in
+    let h : 1 < (node_of w c.args.i).arity = omega (arith, c.arity_at.ensures, c.if-arity_at-lt2.false) in
+    (c.requires.0.good, omega (arith, c.skip-j.ensures.0, assigns.value_in c.requires.0 c.args.i c.requires.1 h))
+
+pub first_assigned-requires : goal.first_assigned-requires
+first_assigned-requires c =
+    let w = c.args.w.now in
+    let h : 1 < (node_of w c.args.i).arity = omega (arith, c.arity_at.ensures, c.if-arity_at-lt2.false) in
+    (c.requires.0, rw c.skip-j.ensures.0 (assigns.value-child c.requires.0 c.args.i c.requires.1 h), c.requires.2)
+
+pub returns-then-first_here : goal.returns-then-first_here
+returns-then-first_here c =
+    let w = c.args.w.now in
+    let h : 1 < (node_of w c.args.i).arity = omega (arith, c.arity_at.ensures, c.if-arity_at-lt2.false) in
+    let e = sym c.kind_at.ensures ∙ c.if-kind_at-ne20.false in
+    assigns.goes-as (assigns.assign-first c.requires.0 c.args.i c.requires.1 h c.args.p e c.ident_at-x.result c.ident_at-x.ensures c.skip-j.result c.skip-j.ensures.0 (sym c.first_here.ensures ∙ c.if-first_here.true)) c.first_assigned.ensures
+
+pub skip-requires-2 : goal.skip-requires-2
+skip-requires-2 c = (c.requires.0, c.requires.1)
+
+pub returns : goal.returns
+returns c =
+    let w = c.args.w.now in
+    let h : 1 < (node_of w c.args.i).arity = omega (arith, c.arity_at.ensures, c.if-arity_at-lt2.false) in
+    let e = sym c.kind_at.ensures ∙ c.if-kind_at-ne20.false in
+    assigns.goes-past c.args.i c.requires.0 (assigns.assign-not c.requires.0 c.args.i c.requires.1 h c.args.p e c.ident_at-x.result c.ident_at-x.ensures c.skip-j.result c.skip-j.ensures.0 (sym c.first_here.ensures ∙ c.if-first_here.false)) c.skip-2.ensures.0

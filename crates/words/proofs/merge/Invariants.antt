@@ -1,0 +1,15 @@
+-- One set of flags put into another. Assumes nothing.
+use Prim.Native.Nat.{◌-◌, ◌≤◌}
+use mathlib.Core.Path.{◌≡◌, refl}
+use native.Mathlib.Omega.{arith}
+use lib.ListN.{length, length-set}
+use Rattle.words.specs.Moved.{Merged}
+use Rattle.words.proofs.Moves as moves
+use borrow.Author.Rules.{rules}
+use Rattle.words.proofs.merge.Given as goal
+
+abbrev pub invariant-loop-i : goal.invariant-loop-i
+invariant-loop-i l = (l.i ≤ l.n) × (length l.w ≡ length l.initial.w) × Merged l.initial.w l.w l.a l.b l.i
+
+abbrev pub decreases-loop-i : goal.decreases-loop-i
+decreases-loop-i l = l.n - l.i

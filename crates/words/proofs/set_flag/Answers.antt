@@ -1,0 +1,8 @@
+-- The word of its bit. Assumes nothing.
+use native.Mathlib.Omega.{arith}
+use Rattle.words.proofs.Flags as flags
+use borrow.Author.Rules.{rules}
+use Rattle.words.proofs.set_flag.Goals as goal
+
+pub returns : goal.returns
+returns c = flags.flagged c.args.w.now c.args.p c.args.x (omega arith) c.requires

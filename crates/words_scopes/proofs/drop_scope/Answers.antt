@@ -1,0 +1,32 @@
+-- A scope dropped. Assumes nothing.
+use Rattle.std.proofs.Common.{◌-◌, get_or, ◌∙◌, arith, length-set, rules}
+use Rattle.words_scopes.proofs.Grow.{top-begins}
+use Rattle.words_scopes.proofs.Shrink as shrink
+use Rattle.words_scopes.proofs.drop_scope.Goals as goal
+
+pub overflow_cast-n : goal.overflow_cast-n
+overflow_cast-n c =
+    let w = c.args.w.now in
+    let b = top-begins w c.requires.0 (omega arith) in
+    omega (arith, c.requires.0.count)
+
+pub restore-requires : goal.restore-requires
+restore-requires c =
+    let w = c.args.w.now in
+    let b = top-begins w c.requires.0 (omega arith) in
+    (c.requires.0, b)
+
+pub bounds-w-3 : goal.bounds-w-3
+bounds-w-3 c = simp length-set (omega (arith, c.requires.0.long, c.merge.auto.0, c.restore.auto.0))
+
+pub bounds-w-2-2 : goal.bounds-w-2-2
+bounds-w-2-2 c = simp length-set (omega (arith, c.requires.0.long, c.merge.auto.0, c.restore.auto.0))
+
+pub shape_of-w : goal.shape_of-w
+shape_of-w c = simp length-set (c.merge.auto.0 ∙ c.restore.auto.0)
+
+pub returns : goal.returns
+returns c =
+    let w = c.args.w.now in
+    let d = get_or w 2 0 - 1 in
+    (shrink.dropped w c.restore.new.0 c.merge.new.0 c.requires.0 d (omega arith) (omega arith) c.restore.ensures c.merge.ensures, shrink.dropped-past w c.restore.new.0 c.merge.new.0 c.requires.0 d (omega arith) (omega arith) c.restore.ensures c.merge.ensures, shrink.n1 w c.restore.new.0 c.merge.new.0 c.requires.0 d (omega arith) (omega arith) c.restore.ensures c.merge.ensures, shrink.dropped-consts w c.restore.new.0 c.merge.new.0 c.requires.0 d (omega arith) (omega arith) c.restore.ensures c.merge.ensures)

@@ -1,0 +1,11 @@
+-- The sum of the earlier lengths, from one binding on. Assumes nothing.
+use Rattle.std.proofs.Common.{◌≡◌, ◌-◌, ◌≤◌, get_or, sym, arith, rules}
+use Rattle.words.specs.Tab as sums
+use Rattle.words_scopes.specs.State.{off, len_at}
+use Rattle.words_scopes.proofs.offset_from.Given as goal
+
+abbrev pub invariant-loop-j : goal.invariant-loop-j
+invariant-loop-j l = (l.j ≤ l.e) × (l.sum ≡ off l.w l.j) × (l.sum ≤ 512)
+
+abbrev pub decreases-loop-j : goal.decreases-loop-j
+decreases-loop-j l = l.e - l.j

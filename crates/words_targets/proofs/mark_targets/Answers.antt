@@ -1,0 +1,40 @@
+-- Node by node, from the first on. Assumes nothing.
+use Prim.Native.Nat.{◌≤◌, ◌-◌}
+use native.Mathlib.Omega.{arith}
+use Rattle.words_targets.specs.Targets.{Beside}
+use Rattle.words_targets.proofs.Targets as laws
+use borrow.Author.Rules.{rules}
+use Rattle.words_targets.proofs.mark_targets.Goals as goal
+
+pub wipe-requires : goal.wipe-requires
+wipe-requires c = omega (arith, c.requires.long)
+
+pub bounds-w-0 : goal.bounds-w-0
+bounds-w-0 c = omega (arith, c.requires.long, c.wipe.ensures.size)
+
+pub overflow_cast-n : goal.overflow_cast-n
+overflow_cast-n c = omega (arith, c.requires.few, c.wipe.ensures.low 0 (omega arith))
+
+pub loop-k-init : goal.loop-k-init
+loop-k-init c = (laws.beside-self c.wipe.new.0, omega arith, laws.sum-start c.wipe.ensures)
+
+pub scan_node-requires : goal.scan_node-requires
+scan_node-requires c =
+    let s = laws.beside-script c.requires (laws.zeroed-beside c.wipe.ensures) in
+    (laws.beside-script s c.loop-k.invariant.0, omega (arith, c.loop-k.invariant.0.low 0 (omega arith)))
+
+pub overflow_add-k : goal.overflow_add-k
+overflow_add-k c = omega (arith, c.requires.few, c.wipe.ensures.low 0 (omega arith))
+
+pub loop-k-preserved : goal.loop-k-preserved
+loop-k-preserved c =
+    let s = laws.beside-script c.requires (laws.zeroed-beside c.wipe.ensures) in
+    (laws.beside-then c.loop-k.invariant.0 c.scan_node.ensures.beside, omega arith, laws.sum_step c.loop-k.k s c.loop-k.invariant.0 (omega arith) c.loop-k.invariant.2 c.scan_node.ensures)
+
+pub shape_of-w : goal.shape_of-w
+shape_of-w c = omega (arith, c.loop-k.invariant.0.size, c.wipe.ensures.size)
+
+pub returns : goal.returns
+returns c =
+    let s = laws.beside-script c.requires (laws.zeroed-beside c.wipe.ensures) in
+    laws.from-wiped c.requires c.wipe.ensures (laws.all-targets c.loop-k.k s c.loop-k.invariant.0 (omega arith) c.loop-k.invariant.2)

@@ -1,0 +1,27 @@
+-- All of them, then those whose initialiser is no literal. Assumes nothing.
+use mathlib.Core.Bool.{true}
+use native.Mathlib.Omega.{arith}
+use Rattle.words.specs.Layout.{tree}
+use Rattle.words.proofs.Nodes.{tree-length}
+use Rattle.words_nodes.specs.Nodes.{forest_from}
+use Rattle.words_twice.proofs.Places.{counts-forest}
+use Rattle.words_twice.proofs.Counts as counts
+use Rattle.words_twice.proofs.twice.Goals as goal
+
+pub params-p-requires : goal.params-p-requires
+params-p-requires c = c.requires
+
+pub vars-v-requires : goal.vars-v-requires
+vars-v-requires c = c.requires
+
+pub overflow_add-p : goal.overflow_add-p
+overflow_add-p c = omega (arith, c.params-p.ensures, c.vars-v.ensures, counts.params-few c.args.x (forest_from (tree c.args.w.now) c.args.n c.args.i), counts.vars-few c.args.x true (forest_from (tree c.args.w.now) c.args.n c.args.i), counts-forest (tree c.args.w.now) c.args.n c.args.i, tree-length c.args.w.now, c.requires.0.good.nodes)
+
+pub returns-then-p-v-lt2 : goal.returns-then-p-v-lt2
+returns-then-p-v-lt2 c = counts.once c.args.x (forest_from (tree c.args.w.now) c.args.n c.args.i) c.params-p.ensures c.vars-v.ensures c.if-p-v-lt2.true
+
+pub vars-e-requires : goal.vars-e-requires
+vars-e-requires c = c.requires
+
+pub returns : goal.returns
+returns c = counts.more-than-once c.args.x (forest_from (tree c.args.w.now) c.args.n c.args.i) c.params-p.ensures c.vars-v.ensures c.if-p-v-lt2.false c.vars-e.ensures

@@ -1,0 +1,54 @@
+-- Node by node, past functions. Assumes nothing.
+use mathlib.Core.Path.{◌≡◌, refl, sym, ap, ◌∙◌}
+use Prim.Native.Nat.{◌+◌, ◌-◌}
+use native.Mathlib.Omega.{arith}
+use lib.ListN.{get_or}
+use Rattle.def_tree.specs.Tree.{Forest, Core}
+use Rattle.def_pass.specs.Twice.{vars_f}
+use Rattle.words.specs.Layout.{tree}
+use Rattle.words_nodes.proofs.Words.{tree-whole, in_tree, few-open, node-here}
+use Rattle.words_twice.specs.Twice.{tally}
+use Rattle.words_twice.proofs.Places.{stand-open}
+use Rattle.words_twice.proofs.Counts as counts
+use Rattle.words_twice.proofs.Looks as looks
+use borrow.Author.Rules.{rules}
+use Rattle.words_twice.proofs.vars.Goals as goal
+
+pub loop-more-init : goal.loop-more-init
+loop-more-init c = counts.tallied-none (λ (ts : Forest). tally c.args.all (vars_f c.args.x ts)) (stand-open c.requires.1)
+
+pub kind_at-kind-requires : goal.kind_at-kind-requires
+kind_at-kind-requires c = (c.requires.0.good.long, omega (arith, c.requires.0.good.nodes, in_tree c.requires.0 c.loop-more.invariant.still (omega arith)))
+
+pub skip-at-requires : goal.skip-at-requires
+skip-at-requires c = (c.requires.0, in_tree c.requires.0 c.loop-more.invariant.still (omega arith))
+
+pub loop-more-smaller-then-is_function : goal.loop-more-smaller-then-is_function
+loop-more-smaller-then-is_function c = omega (arith, in_tree c.requires.0 c.loop-more.invariant.still (omega arith), c.skip-at.ensures.1)
+
+pub loop-more-preserved-then-is_function : goal.loop-more-preserved-then-is_function
+loop-more-preserved-then-is_function c = let s = counts.tallied-past c.loop-more.invariant (tree-whole c.requires.0) (omega arith) 0 (looks.shut-here c.requires.0 (in_tree c.requires.0 c.loop-more.invariant.still (omega arith)) c.args.all c.args.x c.kind_at-kind.ensures (sym c.is_function.ensures ∙ c.if-is_function.true)) c.skip-at.ensures.0 in let e : c.loop-more.sum + 0 ≡ c.loop-more.sum = omega arith in rw e at s
+
+pub var_at-sum-requires : goal.var_at-sum-requires
+var_at-sum-requires c = (c.requires.0, in_tree c.requires.0 c.loop-more.invariant.still (omega arith))
+
+pub overflow_add-sum : goal.overflow_add-sum
+overflow_add-sum c = omega (arith, looks.sum-few c.requires.0 {f = λ (ts : Forest). tally c.args.all (vars_f c.args.x ts)} (counts.vars-few c.args.x c.args.all) (counts.tallied-in c.loop-more.invariant (tree-whole c.requires.0) (omega arith) c.var_at-sum.result (looks.open-here c.requires.0 (in_tree c.requires.0 c.loop-more.invariant.still (omega arith)) c.args.all c.args.x c.kind_at-kind.ensures (sym c.is_function.ensures ∙ c.if-is_function.false) c.var_at-sum.ensures) refl))
+
+pub arity_at-requires : goal.arity_at-requires
+arity_at-requires c = (c.requires.0.good.long, omega (arith, c.requires.0.good.nodes, in_tree c.requires.0 c.loop-more.invariant.still (omega arith)))
+
+pub overflow_add-more : goal.overflow_add-more
+overflow_add-more c = omega (arith, few-open c.requires.0 c.loop-more.invariant.still (omega arith))
+
+pub overflow_add-at : goal.overflow_add-at
+overflow_add-at c = omega (arith, c.requires.0.good.nodes, in_tree c.requires.0 c.loop-more.invariant.still (omega arith))
+
+pub loop-more-smaller : goal.loop-more-smaller
+loop-more-smaller c = omega (arith, in_tree c.requires.0 c.loop-more.invariant.still (omega arith))
+
+pub loop-more-preserved : goal.loop-more-preserved
+loop-more-preserved c = counts.tallied-in c.loop-more.invariant (tree-whole c.requires.0) (omega arith) c.var_at-sum.result (looks.open-here c.requires.0 (in_tree c.requires.0 c.loop-more.invariant.still (omega arith)) c.args.all c.args.x c.kind_at-kind.ensures (sym c.is_function.ensures ∙ c.if-is_function.false) c.var_at-sum.ensures) (c.arity_at.ensures ∙ ap (λ (y : Core). y.arity) (node-here c.requires.0 c.loop-more.invariant.still (omega arith)))
+
+pub returns : goal.returns
+returns c = counts.tallied-all c.loop-more.invariant (omega arith) refl
