@@ -15,15 +15,19 @@ unfoldable pub tab : {A : Type 0} → ℕ → (ℕ → A) → List A
 tab zero f = []
 tab (suc n) f = tab n f ++ (f n ∷ [])
 
+same_by : (j k : ℕ) (b : Bool) → eqb j k ≡ b → (j ≡ k) ⊎ (j ≡ k → ⊥)
+same_by j k true e = inl (eqb-true j k e)
+same_by j k false e = inr (eqb-false j k e)
+
 pub same_or_not : (j k : ℕ) → (j ≡ k) ⊎ (j ≡ k → ⊥)
-same_or_not j k =
-    let by : (b : Bool) → eqb j k ≡ b → (j ≡ k) ⊎ (j ≡ k → ⊥) = λ b. elim b [ true ↦ λ e. inl (eqb-true j k e) | false ↦ λ e. inr (eqb-false j k e) ] in
-    by (eqb j k) refl
+same_or_not j k = same_by j k (eqb j k) refl
+
+below_by : (j k : ℕ) (b : Bool) → ltb j k ≡ b → (j < k) ⊎ (k ≤ j)
+below_by j k true e = inl (ltb-true j k e)
+below_by j k false e = inr (ltb-false j k e)
 
 pub below_or_not : (j k : ℕ) → (j < k) ⊎ (k ≤ j)
-below_or_not j k =
-    let by : (b : Bool) → ltb j k ≡ b → (j < k) ⊎ (k ≤ j) = λ b. elim b [ true ↦ λ e. inl (ltb-true j k e) | false ↦ λ e. inr (ltb-false j k e) ] in
-    by (ltb j k) refl
+below_or_not j k = below_by j k (ltb j k) refl
 
 module _ {A : Type 0} where
   pub tab-zero : (f : ℕ → A) → tab 0 f ≡ []
