@@ -1,7 +1,7 @@
 -- The core of a script, which names everything by numbers, and the way back to file nodes. Assumes nothing: these are definitions.
 -- A core has, of an identifier, its number in the order of first appearance; of a literal, its origin, which is its node's number; of a
 -- property or member, the number of the node whose text it has. Of a name it has only whether it is `arguments`.
-use Rattle.std.specs.Prelude.{Bool, ◌&&◌, ◌||◌, List, [], ◌∷◌, ℕ, zero, suc, eqb, leb, get_or}
+use Rattle.std.specs.Prelude.{Bool, ◌&&◌, ◌||◌, List, [], ◌∷◌, ℕ, suc, eqb, leb, get_or}
 use Rattle.def_tree.specs.Base.{pick, to_nat}
 use Rattle.def_tree.specs.Tree.{Core}
 use Rattle.def_file.specs.declared.Raw.{Raw}

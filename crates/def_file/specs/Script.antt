@@ -1,5 +1,5 @@
 -- A script as a tree file holds it: its nodes in preorder, and its texts. Assumes nothing: these are definitions.
-use Rattle.std.specs.Prelude.{Bool, true, false, ◌&&◌, ◌||◌, not, List, [], ◌∷◌, ◌++◌, ℕ, zero, suc, ◌+◌, eqb, leb, length, get_or}
+use Rattle.std.specs.Prelude.{Bool, true, false, ◌&&◌, ◌||◌, not, List, [], ◌∷◌, ◌++◌, ℕ, suc, eqb, leb, get_or}
 use Rattle.def_tree.specs.Base.{pick}
 use Rattle.def_file.specs.declared.Raw.{Raw}
 

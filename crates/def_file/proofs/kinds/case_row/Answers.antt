@@ -1,5 +1,4 @@
 use mathlib.Core.Path.{refl}
-use borrow.Author.Rules.{rules}
 use Rattle.def_file.proofs.kinds.case_row.Goals as goal
 
 pub returns : goal.returns

@@ -1,7 +1,6 @@
 -- `def_file::kinds::child` meets its contract: each way out rewrites the tests that led there. Assumes nothing.
 use mathlib.Core.Path.{refl}
 use borrow.Author.Tests.{eq-eqb, ne_eqb}
-use borrow.Author.Rules.{rules}
 use Rattle.def_file.proofs.kinds.child.Goals as goal
 
 pub returns-then-n-eq1 : goal.returns-then-n-eq1

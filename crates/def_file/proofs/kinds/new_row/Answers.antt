@@ -1,6 +1,5 @@
 -- `def_file::kinds::new_row` meets its contract. Assumes nothing.
 use mathlib.Core.Path.{refl}
-use borrow.Author.Rules.{rules}
 use borrow.Author.Tests.{eq-eqb, ne_eqb}
 use Rattle.def_file.proofs.kinds.new_row.Goals as goal
 
