@@ -17,7 +17,7 @@ use Rattle.def_pass.specs.Tree.{head_t}
 use Rattle.def_pass.specs.Targets.{aims, aimed_at, first_is, targets, targets_f}
 use Rattle.def_pass.specs.Twice.{flagged}
 use Rattle.def_pass.specs.Walk.{Outcome, refused, result, core_pass}
-use Rattle.def_file.specs.Kinds.{allows, row_of, form_ok, count_ok}
+use Rattle.def_file.specs.Kinds.{Root, allows, row_of, form_ok, count_ok}
 use Rattle.def_file.specs.declared.Raw.{Raw}
 use Rattle.def_file.specs.Script.{Script, is_lit, has_id, is_arguments, idents, place_of}
 use Rattle.def_file.specs.Read.{Read, bad, script, Place, u32, ends_from, texts_from, nodes_from, rising, distinct, fields_ok, node_ok, below, fills, nodes_ok, checked, read}
@@ -153,7 +153,7 @@ unfolding nodes_ok core_nodes
 planted-ok s t = record { tree = o.tree; planted = o.is; nodes = ap (λ (ts : Forest). flats ts []) (sym o.is) ∙ unplant (core_nodes s) c.1 }
   where
     c : Trees 1 (core_nodes s)
-    c = core-trees s 1 (length s.texts) _ s.nodes t
+    c = core-trees s 1 (length s.texts) (record { class = Root; left = 200 } ∷ []) s.nodes t
 
     o : One (plant (core_nodes s))
     o = one-tree (plant (core_nodes s)) c.0
