@@ -29,7 +29,7 @@ pub bounds-words-k-in-loop-k-2 : goal.bounds-words-k-in-loop-k-2
 bounds-words-k-in-loop-k-2 c = omega (arith, c.requires.0.listed.long, c.requires.1)
 
 pub loop-k-preserved : goal.loop-k-preserved
-loop-k-preserved c = (omega arith, c.put_root.auto.0 ∙ c.loop-k.invariant.1, rooted.list-more (λ j. root_at c.args.file.now c.args.words.now j) c.loop-k.k c.args.roots.now _ c.loop-k.invariant.2 (rooted.same-root _ _ c.ident-x.ensures) c.put_root.ensures)
+loop-k-preserved c = (omega arith, c.put_root.auto.roots ∙ c.loop-k.invariant.1, rooted.list-more (λ j. root_at c.args.file.now c.args.words.now j) c.loop-k.k c.args.roots.now _ c.loop-k.invariant.2 (rooted.same-root _ _ c.ident-x.ensures) c.put_root.ensures)
 
 pub returns : goal.returns
 returns c = let e : c.loop-k.k ≡ c.args.n = omega arith in c.loop-k.invariant.2 ∙ ap (λ (m : ℕ). sets c.args.roots.now 0 (root_list (tab m (λ j. root_at c.args.file.now c.args.words.now j)))) e
