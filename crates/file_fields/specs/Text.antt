@@ -1,5 +1,5 @@
 -- The texts of a file by their number. Assumes nothing: these are definitions.
-use Rattle.std.specs.Prelude.{◌≡◌, Bool, true, false, ◌&&◌, List, [], ℕ, zero, suc, ◌+◌, ◌-◌, ◌*◌, ◌≤◌, leb, length, take, drop}
+use Rattle.std.specs.Prelude.{◌≡◌, Bool, ◌&&◌, List, [], ℕ, zero, suc, ◌+◌, ◌-◌, ◌*◌, ◌≤◌, leb, length, take, drop}
 use Rattle.def_tree.specs.Base.{pick}
 use Rattle.def_file.specs.Read.{u32, ends_from, texts_from, rising}
 

@@ -1,10 +1,8 @@
 use native.Mathlib.Omega.{arith}
-use mathlib.Core.Path.{refl, sym}
+use mathlib.Core.Path.{refl}
 use Prim.Native.Nat.{◌+◌}
-use lib.ListN.{drop}
 use lib.Seq.{drop-drop}
 use Rattle.file_fields.proofs.Numbers.{number-one}
-use borrow.Author.Rules.{rules}
 use Rattle.file_fields.proofs.fields.raw_at.Goals as goal
 
 pub returns : goal.returns

@@ -1,7 +1,5 @@
 use native.Mathlib.Omega.{arith}
-use mathlib.Core.Path.{refl, sym}
-use Rattle.file_fields.proofs.Numbers.{number-two, number-four, number-eight}
-use borrow.Author.Rules.{rules}
+use Rattle.file_fields.proofs.Numbers.{number-four}
 use Rattle.file_fields.proofs.fields.u32_at.Goals as goal
 
 pub returns : goal.returns

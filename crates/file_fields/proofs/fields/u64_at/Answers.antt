@@ -1,9 +1,8 @@
 use native.Mathlib.Omega.{arith}
-use mathlib.Core.Path.{refl, sym}
+use mathlib.Core.Path.{sym}
 use lib.ListN.{drop, length-drop}
 use lib.Seq.{drop-drop}
-use Rattle.file_fields.proofs.Numbers.{number-two, number-four, number-eight}
-use borrow.Author.Rules.{rules}
+use Rattle.file_fields.proofs.Numbers.{number-eight}
 use Rattle.file_fields.proofs.fields.u64_at.Goals as goal
 
 pub returns : goal.returns

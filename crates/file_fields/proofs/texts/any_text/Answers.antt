@@ -1,15 +1,12 @@
 -- `file_read::texts::any_text` meets its contract. The invariant: none of the texts passed is text i. Assumes nothing.
-use mathlib.Core.Path.{◌≡◌, refl, sym, ap, ap₂, ◌∙◌}
+use mathlib.Core.Path.{◌≡◌, refl, sym, ap₂, ◌∙◌}
 use native.Mathlib.Omega.{arith}
-use Prim.Native.Nat.{ℕ, ◌+◌, ◌-◌, ◌*◌, ◌≤◌, ◌<◌}
-use lib.ListN.{length, get_or, drop, take}
-use Rattle.def_file.specs.Read.{any_text}
+use Prim.Native.Nat.{◌+◌, ◌<◌}
+use lib.ListN.{drop}
 use Rattle.file_fields.specs.Text.{text_in, texts_of}
 use Rattle.file_fields.proofs.Strings.{count-texts, text-cons, any-hit, any-miss, any-end}
-use mathlib.Core.List.{List}
 use mathlib.Core.Bool.{Bool}
 use Rattle.def_file.specs.Script.{same_text}
-use borrow.Author.Rules.{rules}
 use Rattle.file_fields.proofs.texts.any_text.Goals as goal
 
 pub overflow_add-j : goal.overflow_add-j

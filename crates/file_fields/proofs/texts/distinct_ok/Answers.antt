@@ -1,12 +1,10 @@
 -- `file_read::texts::distinct_ok` meets its contract. The invariant: the texts passed stand nowhere behind themselves. Assumes nothing.
-use mathlib.Core.Path.{◌≡◌, refl, sym, ap, ap₂, ◌∙◌}
+use mathlib.Core.Path.{refl, sym, ◌∙◌}
 use native.Mathlib.Omega.{arith}
-use Prim.Native.Nat.{ℕ, ◌+◌, ◌-◌, ◌*◌, ◌≤◌, ◌<◌}
-use lib.ListN.{length, get_or, drop, take}
-use Rattle.def_file.specs.Read.{any_text, distinct}
+use Prim.Native.Nat.{◌+◌, ◌<◌}
+use lib.ListN.{drop}
 use Rattle.file_fields.specs.Text.{text_in, texts_of}
 use Rattle.file_fields.proofs.Strings.{count-texts, text-cons, distinct-hit, distinct-miss, distinct-end}
-use borrow.Author.Rules.{rules}
 use Rattle.file_fields.proofs.texts.distinct_ok.Goals as goal
 
 pub loop-i-init : goal.loop-i-init

@@ -1,11 +1,10 @@
 -- `file_read::texts::rising_ok` meets its contract. The invariant: the ends passed never fell, and the last of them is `at`. Assumes nothing.
 use mathlib.Core.Path.{◌≡◌, refl, sym, ap, ◌∙◌}
 use native.Mathlib.Omega.{arith}
-use Prim.Native.Nat.{ℕ, ◌+◌, ◌-◌, ◌*◌, ◌≤◌, ◌<◌}
-use lib.ListN.{length, get_or, drop, take}
-use Rattle.def_file.specs.Read.{u32, ends_from, rising}
+use Prim.Native.Nat.{ℕ, ◌+◌, ◌<◌}
+use lib.ListN.{length, get_or, drop}
+use Rattle.def_file.specs.Read.{ends_from, rising}
 use Rattle.file_fields.proofs.Strings.{ends-length, end-raw, rising_step, rising-falls, rising-end}
-use borrow.Author.Rules.{rules}
 use Rattle.file_fields.proofs.texts.rising_ok.Goals as goal
 
 pub loop-k-init : goal.loop-k-init

@@ -1,11 +1,7 @@
 -- `file_read::texts::same_text` meets its contract. The invariant: what was passed is equal. Assumes nothing.
-use mathlib.Core.Path.{◌≡◌, refl, sym, ap, ◌∙◌}
+use mathlib.Core.Path.{refl, sym, ◌∙◌}
 use native.Mathlib.Omega.{arith}
-use Prim.Native.Nat.{ℕ, ◌+◌, ◌-◌, ◌*◌, ◌≤◌, ◌<◌}
-use lib.ListN.{length, get_or, drop, take}
-use Rattle.def_file.specs.Script.{same_text}
 use Rattle.file_fields.proofs.Strings.{same_step, same-differ, same_end, same_length}
-use borrow.Author.Rules.{rules}
 use Rattle.file_fields.proofs.texts.same_text.Goals as goal
 
 pub returns-then-a-b : goal.returns-then-a-b

@@ -1,11 +1,8 @@
 -- `file_read::texts::same_text` meets its contract. The invariant: what was passed is equal. Assumes nothing.
-use mathlib.Core.Path.{◌≡◌, refl, sym, ap, ◌∙◌}
-use native.Mathlib.Omega.{arith}
-use Prim.Native.Nat.{ℕ, ◌+◌, ◌-◌, ◌*◌, ◌≤◌, ◌<◌}
-use lib.ListN.{length, get_or, drop, take}
+use mathlib.Core.Path.{◌≡◌}
+use Prim.Native.Nat.{◌-◌, ◌≤◌}
+use lib.ListN.{length, drop}
 use Rattle.def_file.specs.Script.{same_text}
-use Rattle.file_fields.proofs.Strings.{same_step, same-differ, same_end, same_length}
-use borrow.Author.Rules.{rules}
 use Rattle.file_fields.proofs.texts.same_text.Given as goal
 
 abbrev pub invariant-loop-i : goal.invariant-loop-i

@@ -1,8 +1,7 @@
 -- `file_read::texts::start_at` meets its contract. Assumes nothing.
-use mathlib.Core.Path.{◌≡◌, refl, sym, ap, ◌∙◌}
+use mathlib.Core.Path.{sym, ◌∙◌}
 use native.Mathlib.Omega.{arith}
 use Rattle.file_fields.proofs.Strings.{start-zero, start-more}
-use borrow.Author.Rules.{rules}
 use Rattle.file_fields.proofs.texts.start_at.Goals as goal
 
 pub returns-then-k-eq0 : goal.returns-then-k-eq0

@@ -1,13 +1,9 @@
 -- `file_read::texts::text` meets its contract: the two ends are those of a part of the file, or no bytes are handed back. Assumes nothing.
-use mathlib.Core.Path.{◌≡◌, refl, sym, ap, ap₂, ◌∙◌}
-use native.Mathlib.Omega.{arith}
-use Prim.Native.Nat.{ℕ, ◌+◌, ◌-◌, ◌*◌, ◌≤◌, ◌<◌}
-use lib.ListN.{length, get_or, drop, take}
-use Rattle.file_fields.specs.Text.{text_in, part, start_of}
-use Rattle.def_file.specs.Read.{u32}
+use mathlib.Core.Path.{sym, ap₂, ◌∙◌}
+use Prim.Native.Nat.{ℕ, ◌+◌}
+use Rattle.file_fields.specs.Text.{text_in, part}
 use Rattle.file_fields.proofs.Strings.{whole_part, part-true, part-false}
 use mathlib.Core.List.{List}
-use borrow.Author.Rules.{rules}
 use Rattle.file_fields.proofs.texts.text.Goals as goal
 
 pub slice_bounds-result-count : goal.slice_bounds-result-count
