@@ -6,7 +6,11 @@ ghost use Rattle.std.specs.Prelude.{◌≡◌, ◌+◌, ◌*◌, ◌≤◌, leng
 
 use def_file::Raw;
 use file_fields::fields::{raw_at, u32_at};
+use input::read_full;
 use pass::{negbosun_inline, negbosun_roots};
+use std::env::{Env, FillError};
+use std::io;
+use std::io::Read;
 
 // Room for the largest readable file, 32 + 16 * 1,024 + 4 * 256 + 4,096 bytes, and one byte more. A longer input is read to its end, and
 // refused as the whole of it would be (crates/pass_answers/specs/Long.antt, CutAlike): rows 2 and 3 look at the header alone, and a length above
@@ -30,36 +34,12 @@ fn no_roots() -> [u32; 1280]
     [0; 1280]
 }
 
-// A number, and what stands behind it.
-fn print(n: u64, behind: &[u8]) {
-    io::print_decimal(1, n);
-    io::write_all(1, behind);
-}
-
-fn byte(x: u8) -> u64 {
-    x as u64
-}
-
-fn half(x: u16) -> u64 {
-    x as u64
-}
-
-fn word(x: u32) -> u64 {
-    x as u64
-}
-
-fn count(x: usize) -> u64 {
-    x as u64
-}
-
 // Kind, form, children, text, and 16 digits.
-fn print_node(x: Raw) {
-    print(byte(x.kind), b" ");
-    print(byte(x.form), b" ");
-    print(half(x.arity), b" ");
-    print(word(x.text), b" ");
-    io::print_hex(1, x.bits, 16);
-    io::write_all(1, b"\n");
+fn print_node(rt: &impl Print, x: Raw) -> io::Result<()> {
+    println!(rt;
+        "{} {} {} {} {:016x}",
+        x.kind, x.form, x.arity, x.text, x.bits
+    )
 }
 
 // A count that has a limit.
@@ -70,111 +50,118 @@ fn at_most(n: usize, limit: usize) -> usize
 }
 
 // The first n nodes of a file.
-fn print_nodes(file: &[u8], n: usize)
+fn print_nodes(rt: &impl Print, file: &[u8], n: usize) -> io::Result<()>
     requires { (n ≤ 1024) × (32 + 16 * n ≤ length file.now) }
 {
     let mut k: usize = 0;
     while k < n {
-        print_node(raw_at(file, 32 + 16 * k));
+        print_node(rt, raw_at(file, 32 + 16 * k))?;
         k += 1;
     }
+    Ok(())
 }
 
 // Text, context as 16 digits, mark, count.
-fn print_root(text: u32, low: u32, high: u32, mark: u32, count: u32) {
-    io::write_all(1, b"root ");
-    print(word(text), b" ");
-    io::print_hex(1, word(high), 8);
-    io::print_hex(1, word(low), 8);
-    io::write_all(1, b" ");
-    print(word(mark), b" ");
-    print(word(count), b"\n");
+fn print_root(
+    rt: &impl Print,
+    text: u32,
+    low: u32,
+    high: u32,
+    mark: u32,
+    count: u32,
+) -> io::Result<()> {
+    println!(rt; "root {text} {high:08x}{low:08x} {mark} {count}")
 }
 
 // The first n root bindings.
-fn print_roots(roots: &[u32], n: usize)
+fn print_roots(rt: &impl Print, roots: &[u32], n: usize) -> io::Result<()>
     requires { (n ≤ 256) × (5 * n ≤ length roots.now) }
 {
     let mut k: usize = 0;
     while k < n {
         print_root(
+            rt,
             roots[5 * k],
             roots[5 * k + 1],
             roots[5 * k + 2],
             roots[5 * k + 3],
             roots[5 * k + 4],
-        );
+        )?;
         k += 1;
     }
+    Ok(())
 }
 
-fn print_refused(n: u32) {
-    io::write_all(1, b"refused ");
-    print(word(n), b"\n");
+fn print_refused(rt: &impl Print, n: u32) -> io::Result<()> {
+    println!(rt; "refused {n}")
 }
 
 // The root bindings of the same pass.
-fn show_roots(file: &[u8], words: &mut [u32]) {
+fn show_roots(rt: &impl Print, file: &[u8], words: &mut [u32]) -> io::Result<()> {
     let mut roots = no_roots();
     let listed = negbosun_roots(file, &mut roots, words, 16);
-    print_roots(&roots, at_most(listed.count, 256));
+    print_roots(rt, &roots, at_most(listed.count, 256))
 }
 
-fn show(file: &[u8], words: &mut [u32]) {
+fn show(rt: &impl Print, file: &[u8], words: &mut [u32]) -> io::Result<()> {
     let mut result = room();
     let done = negbosun_inline(file, &mut result, words, 16);
     if done.refused != 0 {
-        print_refused(done.refused);
-        return;
+        return print_refused(rt, done.refused);
     }
     let n = at_most(u32_at(&result, 8) as usize, 1024);
-    io::write_all(1, b"ok runs ");
-    print(word(done.runs), b" changed ");
-    print(word(done.changed), b" nodes ");
-    print(count(n), b"\n");
-    print_nodes(&result, n);
-    show_roots(file, words);
+    println!(rt; "ok runs {} changed {} nodes {n}", done.runs, done.changed)?;
+    print_nodes(rt, &result, n)?;
+    show_roots(rt, file, words)
 }
 
-// Fills the buffer from standard input, and answers whether there may be more.
-fn read_more(buf: &mut [u8]) -> bool {
-    io::read_full(0, buf) == buf.len()
+// Fills the buffer from the input, and answers whether there may be more.
+fn read_more<R: Read>(from: &mut R, buf: &mut [u8]) -> io::Result<bool> {
+    Ok(read_full(from, buf)? == buf.len())
 }
 
-// Reads what is left of standard input, so that who writes it is not cut off. A proved loop has to end, so it counts its turns down, from a
-// number that no input uses up.
-fn read_rest() {
-    let mut space = io::large_buffer();
-    let buf: &mut [u8] = &mut space;
-    let mut turns = u64::MAX;
-    while turns > 0 && read_more(buf) {
-        turns -= 1;
+// Reads what is left of the input, so that who writes it is not cut off. A proved loop has to end, so it counts its turns, up to a number that
+// no input uses up.
+fn read_rest<R: Read>(from: &mut R) -> io::Result<()> {
+    let mut space = [0u8; 65536];
+    for _ in 0..u64::MAX {
+        if !read_more(from, &mut space)? {
+            break;
+        }
+    }
+    Ok(())
+}
+
+// Whether there is an argument behind the program's name. One that does not fit into the buffer is one too.
+fn has_argument(rt: &impl Env) -> bool {
+    let mut space = [0u8; 64];
+    match rt.arg(1, &mut space) {
+        Err(FillError::NotPresent) => false,
+        _ => true,
     }
 }
 
-// What the program takes, to standard error. A program of Rattle has no exit status of its own.
-fn say_usage() {
-    io::write_all(2, b"usage: negbosun < FILE.tree\n");
-    io::write_all(
-        2,
-        b"Takes no argument: reads a tree file from standard input, and prints the pass's result or `refused N`.\n",
-    );
-    io::write_all(
-        2,
-        b"negbosun-inline takes a file's name and options; script/inline (installed: negbosun-script) takes a script's text.\n",
-    );
+// What the program takes, to standard error.
+fn say_usage(rt: &impl Eprint) -> io::Result<()> {
+    eprintln!(rt; "usage: negbosun < FILE.tree")?;
+    eprintln!(rt;
+        "Takes no argument: reads a tree file from standard input, and prints the pass's result or `refused N`."
+    )?;
+    eprintln!(rt;
+        "negbosun-inline takes a file's name and options; script/inline (installed: negbosun-script) takes a script's text."
+    )
 }
 
-fn main() {
-    if os::arg_count() > 1 {
-        say_usage();
-        return;
+fn main(rt: HostRuntime) -> io::Result<()> {
+    if has_argument(&rt) {
+        return say_usage(&rt);
     }
+    let mut input = rt.stdin();
     let mut buf = room();
-    let n = io::read_full(0, &mut buf);
+    let n = read_full(&mut input, &mut buf)?;
     if n == buf.len() {
-        read_rest();
+        read_rest(&mut input)?;
     }
     let mut words = no_words();
-    show(&buf[..n], &mut words);
+    show(&rt, &buf[..n], &mut words)
 }

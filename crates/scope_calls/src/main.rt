@@ -2,7 +2,7 @@
 // a value and a mark; the byte 0 ends a sequence. tools/calls.py writes the input, and what the definition makes of it.
 #![tactic(auto)]
 
-ghost use Rattle.std.specs.Prelude.{◌≡◌, ◌<◌, ◌≤◌, length};
+ghost use Rattle.std.specs.Prelude.{◌≡◌, ◌<◌, ◌≤◌, length, IfOk};
 ghost use Rattle.words_nodes.specs.Nodes.{Planted};
 
 mod begin;
@@ -11,7 +11,9 @@ mod steps;
 mod values;
 
 use begin::begin;
+use input::read_full;
 use show::{alike, show};
+use std::io;
 use steps::call;
 
 // Byte i, 0 past the end.
@@ -42,9 +44,9 @@ fn next(w: &mut [u32], s: &[u8], i: usize, no: u32) -> u32
 }
 
 // Plays the sequence that begins at a place, up to its end or to a call that is refused; where the next one begins.
-fn play(w: &mut [u32], s: &[u8], from: usize) -> usize
+fn play(rt: &impl Print, w: &mut [u32], s: &[u8], from: usize) -> io::Result<usize>
     requires { (16384 ≤ length w.old) × (from < length s.now) × (length s.now ≤ 65536) }
-    ensures { (from < result) × (16384 ≤ length w.new) }
+    ensures { IfOk result (λ i. from < i) × (16384 ≤ length w.new) }
 {
     begin(w);
     let mut no: u32 = 0;
@@ -55,25 +57,26 @@ fn play(w: &mut [u32], s: &[u8], from: usize) -> usize
         same = alike(w, same);
         i += 4;
     }
-    show(w, no, same);
-    i + 1
+    show(rt, w, no, same)?;
+    Ok(i + 1)
 }
 
-fn play_all(w: &mut [u32], s: &[u8])
+fn play_all(rt: &impl Print, w: &mut [u32], s: &[u8]) -> io::Result<()>
     requires { 16384 ≤ length w.old }
 {
     if 65536 < s.len() {
-        return;
+        return Ok(());
     }
     let mut i: usize = 0;
     while i < s.len() {
-        i = play(w, s, i);
+        i = play(rt, w, s, i)?;
     }
+    Ok(())
 }
 
-fn main() {
-    let mut input = io::large_buffer();
-    let n = io::read_full(0, &mut input);
+fn main(rt: HostRuntime) -> io::Result<()> {
+    let mut input = [0u8; 65536];
+    let n = read_full(&mut rt.stdin(), &mut input)?;
     let mut w = [0u32; 16384];
-    play_all(&mut w, &input[..n]);
+    play_all(&rt, &mut w, &input[..n])
 }

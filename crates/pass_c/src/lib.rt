@@ -1,0 +1,42 @@
+// The whole pass over a tree file for C callers: the functions of crates/pass, under their names and with their promises, in an archive.
+#![tactic(auto)]
+
+ghost use Rattle.pass_answers.specs.Entry.{InlineIs};
+ghost use Rattle.pass_answers.specs.Roots.{RootsIs, RootIs};
+
+use pass_answers::{Inlined, RootBinding, Roots};
+
+// Rows 1 to 10. What is written is the result's file.
+#[unsafe(no_mangle)]
+pub extern "C" fn negbosun_inline(
+    file: &[u8],
+    res: &mut [u8],
+    words: &mut [u32],
+    runs: u32,
+) -> Inlined
+    ensures { InlineIs file.now res.old res.new words.old words.new runs result }
+{
+    pass::negbosun_inline(file, res, words, runs)
+}
+
+// Rows 1 to 10, of the pass over the file. What is written are the root bindings, oldest first, five words for each: text number, context's low
+// and high half, prevented mark, how often an identifier was replaced by its value.
+#[unsafe(no_mangle)]
+pub extern "C" fn negbosun_roots(
+    file: &[u8],
+    roots: &mut [u32],
+    words: &mut [u32],
+    runs: u32,
+) -> Roots
+    ensures { RootsIs file.now roots.old roots.new words.old words.new runs result }
+{
+    pass::negbosun_roots(file, roots, words, runs)
+}
+
+// Rows 1 to 9, of the pass over the file. The answer is the n-th root binding, from 0, oldest first, or that there is none.
+#[unsafe(no_mangle)]
+pub extern "C" fn negbosun_root(file: &[u8], words: &mut [u32], runs: u32, n: u32) -> RootBinding
+    ensures { RootIs file.now words.old words.new runs n result }
+{
+    pass::negbosun_root(file, words, runs, n)
+}
