@@ -16,7 +16,7 @@ pub overflow_cast-n : goal.overflow_cast-n
 overflow_cast-n c = omega (arith, c.requires.few, c.wipe.ensures.low 0 (omega arith))
 
 pub loop-k-init : goal.loop-k-init
-loop-k-init c = (laws.beside-self c.wipe.new.0, omega arith, laws.sum-start c.wipe.ensures)
+loop-k-init c = (laws.beside-self c.wipe.new.w, omega arith, laws.sum-start c.wipe.ensures)
 
 pub scan_node-requires : goal.scan_node-requires
 scan_node-requires c =

@@ -32,7 +32,7 @@ returns-then-x-lt256 c =
     let w = c.args.w.now in
     let k = c.args.k in
     let x = c.aimed_at-x.result in
-    laws.one_hit w k (ap aims (sym c.kind_at-kind.ensures) ∙ sym c.aims.ensures ∙ c.if-aims.true) (λ e. c.if-arity_at-eq0.false (c.arity_at.ensures ∙ e)) x c.aimed_at-x.ensures c.set_flag.new.0 c.if-x-lt256.true c.set_flag.ensures
+    laws.one_hit w k (ap aims (sym c.kind_at-kind.ensures) ∙ sym c.aims.ensures ∙ c.if-aims.true) (λ e. c.if-arity_at-eq0.false (c.arity_at.ensures ∙ e)) x c.aimed_at-x.ensures c.set_flag.new.w c.if-x-lt256.true c.set_flag.ensures
 
 pub returns-else-x-lt256 : goal.returns-else-x-lt256
 returns-else-x-lt256 c =
