@@ -17,7 +17,8 @@ use Rattle.def_pass.specs.Tree.{head_t}
 use Rattle.def_pass.specs.Targets.{aims, aimed_at, first_is, targets, targets_f}
 use Rattle.def_pass.specs.Twice.{flagged}
 use Rattle.def_pass.specs.Walk.{Outcome, refused, result, core_pass}
-use Rattle.def_file.specs.Kinds.{Root, allows, row_of, form_ok, count_ok}
+use Rattle.def_file.specs.declared.kinds.Class.TheVariants.{Root}
+use Rattle.def_file.specs.Kinds.{allows, row_of, form_ok, count_ok}
 use Rattle.def_file.specs.declared.Raw.{Raw}
 use Rattle.def_file.specs.Script.{Script, is_lit, has_id, is_arguments, idents, place_of}
 use Rattle.def_file.specs.Read.{Read, bad, script, Place, u32, ends_from, texts_from, nodes_from, rising, distinct, fields_ok, node_ok, below, fills, nodes_ok, checked, read}
