@@ -30,7 +30,7 @@ pub returns-then-hoisted_prevented : goal.returns-then-hoisted_prevented
 returns-then-hoisted_prevented c =
     let w = c.args.w.now in
     let k = c.loop-k.k in
-    sym (c.loop-k.invariant.1 ∙ ap (held c.args.x) (out.turn w k c.requires.0 c.loop-k-test.true (omega (arith, c.loop-k.invariant.0, c.requires.1))) ∙ facts.held-hoisted c.args.x (scope_at w (k - 1)) (below w (k - 1)) (ap is_hoisted_prevented c.found_from_lem.ensures.is ∙ sym c.hoisted_prevented.ensures ∙ c.if-hoisted_prevented.true))
+    sym (c.loop-k.invariant.1 ∙ ap (held c.args.x) (out.turn w k c.requires.0 c.loop-k-test.true (omega (arith, c.loop-k.invariant.0, c.requires.1))) ∙ facts.held-hoisted c.args.x (scope_at w (k - 1)) (below w (k - 1)) (ap is_hoisted_prevented c.found_from-r.ensures.is ∙ sym c.hoisted_prevented.ensures ∙ c.if-hoisted_prevented.true))
 
 pub outside-p-requires : goal.outside-p-requires
 outside-p-requires c =
@@ -42,7 +42,7 @@ pub loop-k-preserved : goal.loop-k-preserved
 loop-k-preserved c =
     let w = c.args.w.now in
     let k = c.loop-k.k in
-    (omega arith, c.loop-k.invariant.1 ∙ ap (held c.args.x) (out.turn w k c.requires.0 c.loop-k-test.true (omega (arith, c.loop-k.invariant.0, c.requires.1))) ∙ facts.held_next c.args.x (scope_at w (k - 1)) (below w (k - 1)) (facts.unresolved-at w (k - 1) c.args.x (omega arith) ∙ ap yes (sym c.flag_at.ensures ∙ c.if-flag_at-ne0.false)) (ap is_hoisted_prevented c.found_from_lem.ensures.is ∙ sym c.hoisted_prevented.ensures ∙ c.if-hoisted_prevented.false), c.outside-p.ensures)
+    (omega arith, c.loop-k.invariant.1 ∙ ap (held c.args.x) (out.turn w k c.requires.0 c.loop-k-test.true (omega (arith, c.loop-k.invariant.0, c.requires.1))) ∙ facts.held_next c.args.x (scope_at w (k - 1)) (below w (k - 1)) (facts.unresolved-at w (k - 1) c.args.x (omega arith) ∙ ap yes (sym c.flag_at.ensures ∙ c.if-flag_at-ne0.false)) (ap is_hoisted_prevented c.found_from-r.ensures.is ∙ sym c.hoisted_prevented.ensures ∙ c.if-hoisted_prevented.false), c.outside-p.ensures)
 
 pub returns : goal.returns
 returns c =
