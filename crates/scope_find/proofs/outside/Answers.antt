@@ -55,9 +55,6 @@ bounds-w-p c =
     let f = placed.shadowed-fits w g k c.requires.1 x (omega (arith, c.if-first_of-p.true)) in
     omega (arith, g.long)
 
-pub overflow_cast-result : goal.overflow_cast-result
-overflow_cast-result c = omega (arith, c.shared_slice_known-then-first_of-p-1.given (7824 + c.args.p - 1))
-
 pub returns-then-first_of-p : goal.returns-then-first_of-p
 returns-then-first_of-p c =
     let w = c.args.w.now in
