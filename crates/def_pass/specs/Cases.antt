@@ -1,5 +1,5 @@
 -- P cases of document 01, on core trees.
-use Rattle.std.specs.Prelude.{◌≡◌, refl, Bool, true, false, ◌&&◌, List, [], ◌∷◌, ℕ, zero, suc, ◌+◌, eqb, T}
+use Rattle.std.specs.Prelude.{Bool, true, false, ◌&&◌, ℕ, eqb, T}
 use Rattle.def_pass.specs.Tree.{Tree, Forest, node, nil, cons, same, void_zero}
 use Rattle.def_pass.specs.Twice.{flagged}
 use Rattle.def_pass.specs.Walk.{core_pass, Outcome, refused, result}

@@ -2,11 +2,11 @@
 use Rattle.std.specs.Prelude.{◌≡◌, refl, true, false, List, [], ◌∷◌, map, ℕ, zero, suc}
 use Rattle.std.proofs.Math.Option.{none}
 use Rattle.def_tree.specs.Combine.{Res, stop, done}
-use Rattle.def_pass.specs.Tree.{Tree, Forest, node, nil, cons}
+use Rattle.def_pass.specs.Tree.{Tree, node}
 use Rattle.def_pass.specs.Twice.{flagged}
-use Rattle.def_pass.specs.Scope.{VarInfo, v_var, count_one}
+use Rattle.def_pass.specs.Scope.{v_var, count_one}
 use Rattle.def_pass.specs.Walk.{St, Rooted, Outcome, refused, result, set_changed, set_is_first_run, start, run, core_pass}
-use Rattle.def_pass.specs.Cases.{script, decl, decl_to, do', name, bind, lit, op, array, assign, block, call, fun, f1, f2, f3, f4}
+use Rattle.def_pass.specs.Cases.{script, decl, decl_to, do', name, bind, lit, op, array, assign, block, fun, f1, f2, f3, f4}
 
 -- a run limit, a script, and what is expected: of each root binding its identifier and count, then the ended total and the replacements
 pub record Counted : Type 0 where

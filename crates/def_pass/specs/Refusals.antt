@@ -1,6 +1,5 @@
 -- Examples of the refusals, one `refl`.
-use Rattle.std.specs.Prelude.{◌≡◌, refl, List, [], ◌∷◌, ℕ, zero, suc, set}
-use Rattle.def_file.specs.declared.Raw.{Raw}
+use Rattle.std.specs.Prelude.{◌≡◌, refl, List, [], ◌∷◌, ℕ, set}
 use Rattle.def_file.specs.Script.{Script}
 use Rattle.def_file.specs.Write.{file}
 use Rattle.def_pass.specs.Entry.{Entry, refused, passed, entry}

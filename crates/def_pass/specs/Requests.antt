@@ -1,5 +1,5 @@
 -- Scripts aimed at the requests, worked out by hand from their sentences, in numbers of 16 bytes as in Traps.
-use Rattle.std.specs.Prelude.{◌≡◌, refl, List, [], ◌∷◌, ℕ}
+use Rattle.std.specs.Prelude.{◌≡◌, refl, List, [], ◌∷◌}
 use Rattle.def_pass.specs.Traps.{Vector, v, wrong}
 
 -- request 8

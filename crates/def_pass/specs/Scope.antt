@@ -1,8 +1,8 @@
 -- scope.rs: bindings, scopes, and the stack of the open scopes, innermost first, the root last.
-use Rattle.std.specs.Prelude.{◌≡◌, Bool, true, false, ◌&&◌, ◌||◌, not, List, [], ◌∷◌, ◌++◌, map, ℕ, zero, suc, ◌+◌, ◌-◌, ◌%◌, eqb, ltb, leb, length}
+use Rattle.std.specs.Prelude.{◌≡◌, Bool, true, false, ◌&&◌, ◌||◌, not, List, [], ◌∷◌, ◌++◌, map, ℕ, zero, suc, ◌+◌, ◌-◌, ◌%◌, eqb, ltb, length}
 use Rattle.std.proofs.Math.Option.{Option, none, some}
 use Rattle.def_tree.specs.Base.{pick, or_else}
-use Rattle.def_pass.specs.Tree.{Tree, Forest, node, nil, cons, kind, num, kids, is_ident, is_member, is_cheap, head_t, count_o}
+use Rattle.def_pass.specs.Tree.{Tree, kind, num, kids, is_ident, is_member, is_cheap, head_t, count_o}
 
 -- VarType
 pub data VarType : Type 0 where

@@ -1,5 +1,5 @@
 -- The pass over a script: the pass on its core, and the result put back into file nodes.
-use Rattle.std.specs.Prelude.{Bool, true, false, List, [], ◌∷◌, map, ℕ}
+use Rattle.std.specs.Prelude.{Bool, List, [], map, ℕ}
 use Rattle.std.proofs.Math.Option.{Option, none, some}
 use Rattle.def_tree.specs.Tree.{flat, plant}
 use Rattle.def_file.specs.declared.Raw.{Raw}

@@ -1,5 +1,5 @@
 -- The P cases of document 01, and cases against its plausible errors, as one table, and one theorem over it.
-use Rattle.std.specs.Prelude.{◌≡◌, refl, Bool, true, false, ◌&&◌, List, [], ◌∷◌, map, ℕ}
+use Rattle.std.specs.Prelude.{◌≡◌, refl, Bool, true, false, List, [], ◌∷◌, map, ℕ}
 use Rattle.def_file.specs.declared.Raw.{Raw}
 use Rattle.def_file.specs.Script.{Script}
 use Rattle.def_pass.specs.Script.{Out, Root, Answer, no!, yes! }

@@ -1,8 +1,7 @@
 -- Scripts that tell near-misses of the pass apart, with the original Rust's answers and the origins of literals, in numbers of 16 bytes.
-use Rattle.std.specs.Prelude.{◌≡◌, refl, Bool, true, false, ◌&&◌, List, [], ◌∷◌, ◌++◌, ℕ, zero, suc, ◌+◌, ◌-◌, length}
+use Rattle.std.specs.Prelude.{◌≡◌, refl, Bool, true, false, ◌&&◌, List, [], ◌∷◌, ◌++◌, ℕ, suc, ◌-◌, length}
 use Rattle.def_tree.specs.Base.{pick}
-use Rattle.def_file.specs.declared.Raw.{Raw}
-use Rattle.def_file.specs.Script.{Script, is_lit, same_text}
+use Rattle.def_file.specs.Script.{is_lit, same_text}
 use Rattle.def_tree.specs.Base.{to_nat}
 use Rattle.def_pass.specs.Script.{Out, Root, Answer, no!, yes! }
 use Rattle.def_file.specs.Read.{Read, bad, script, read}

@@ -1,9 +1,8 @@
 -- The core tree: what the walks see. A node has its kind and form (document 01), one number, and its children.
 -- The number is, of a binding or identifier (20, 21): the number of the identifier, and its form is 1 where its name is `arguments`, and 2 more where it is a binding that request 3 flags;
 -- of a literal (all are kind 22, form 0): its origin; of a property or member (29, 37): the number of the input node whose text it has.
-use Rattle.std.specs.Prelude.{Bool, true, false, ◌&&◌, ◌||◌, not, List, [], ◌∷◌, ℕ, zero, suc, ◌+◌, max, eqb}
+use Rattle.std.specs.Prelude.{Bool, true, false, ◌&&◌, ◌||◌, List, ◌∷◌, ℕ, ◌+◌, max, eqb}
 use Rattle.std.proofs.Math.Option.{Option, none, some}
-use Rattle.def_tree.specs.Base.{pick}
 pub use Rattle.def_tree.specs.Tree.{Tree, Forest, node, nil, cons, kind, form, num, kids, count, counts, tail_f}
 
 -- a leaf's height is 1

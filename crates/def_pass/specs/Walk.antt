@@ -2,12 +2,12 @@
 -- Open recursion: a handler is no recursive function. It takes the walks of one depth less, `w`, and `walks` ties the knot by falling depth.
 use Rattle.std.specs.Prelude.{Bool, true, false, ◌&&◌, ◌||◌, not, List, [], ◌∷◌, map, ℕ, zero, suc, ◌+◌, ◌-◌, eqb, ltb, leb, length, get_or}
 use Rattle.std.proofs.Math.Option.{Option, none, some}
-use Rattle.def_tree.specs.Combine.{Res, stop, done, M as MS, Nothing, and_then, ◌>>=◌, ◌>>◌, ret, refuse, iff, within, each, split, each_but, on_kids}
+use Rattle.def_tree.specs.Combine.{Res, stop, done, M as MS, Nothing, ◌>>=◌, ◌>>◌, ret, refuse, iff, within, each, split, each_but, on_kids}
 use Rattle.def_tree.specs.Base.{pick}
-use Rattle.def_pass.specs.Tree.{Tree, Forest, node, nil, cons, kind, form, num, kids, is_ident, is_lit, is_cheap, head_t, tail_f, count, counts, height, void_zero, has_this, ident_list, ident_list_f}
+use Rattle.def_pass.specs.Tree.{Tree, Forest, node, nil, cons, kind, form, num, kids, is_ident, is_cheap, head_t, tail_f, count, height, void_zero, has_this, ident_list, ident_list_f}
 use Rattle.def_pass.specs.Targets.{targets}
 use Rattle.def_pass.specs.Twice.{is_twice, is_args, unflagged, flagged}
-use Rattle.def_pass.specs.Scope.{VarType, param, v_var, v_let, v_const, is_var, is_const, ScopeKind, cond, loop, block, fn, is_fn, Scope, Stack, VarInfo, new_scope, prevent_inline, is_inline_prevented, var_inline_prevented, prevented_o, find_binding, find_binding_from_current, find_constant, add_const, add_read, add_write, mark_this_sensitive, ident_of, store_inline_barrier, has_same_this, Init, no_init, recorded, seen, seen_init, declare, close, change, with_value, defined, wrap, count_one, ending, recorded_nodes, live}
+use Rattle.def_pass.specs.Scope.{VarType, param, v_var, v_let, v_const, is_var, is_const, ScopeKind, cond, loop, block, fn, Stack, VarInfo, new_scope, prevent_inline, is_inline_prevented, var_inline_prevented, prevented_o, find_binding, find_binding_from_current, find_constant, add_const, add_read, add_write, mark_this_sensitive, ident_of, store_inline_barrier, has_same_this, Init, no_init, recorded, seen, seen_init, declare, close, change, with_value, defined, wrap, count_one, ending, recorded_nodes, live}
 
 -- PatFoldingMode
 pub data PatMode : Type 0 where

@@ -4,11 +4,10 @@
 use Rattle.std.specs.Prelude.{Bool, true, false, ◌&&◌, not, List, [], ℕ, zero, suc, eqb, ltb, get_or}
 use Rattle.std.proofs.Math.Option.{Option, none, some}
 use Rattle.def_tree.specs.Base.{pick}
-use Rattle.def_pass.specs.Tree.{Tree, kind, form, num, kids, head_t, tail_f, void_zero}
+use Rattle.def_pass.specs.Tree.{Tree, form, num, kids, head_t, tail_f, void_zero}
 use Rattle.def_pass.specs.Scope.{VarType, is_const, ScopeKind, cond, loop, block, fn, VarInfo, prevent_inline, is_inline_prevented, var_inline_prevented, find_binding, find_binding_from_current, find_constant, add_read, mark_this_sensitive, ident_of, change, with_value, defined}
 use Rattle.def_tree.specs.Tree.{Core, flat}
 use Rattle.def_tree.specs.Combine.{Res, stop, done, M as MS, Nothing, ◌>>=◌, ◌>>◌, ret, refuse, iff, Flat, node_at, tree_at, forest_at, Walk as One, Walks as Many, ReWalks, on_rest, act_n, act, act_f, within_f, skip, skips, put, many, split_f, each_but_f, on_kids_f, re_kids_f, same, split_r, cut_first}
-use Rattle.def_pass.specs.Walk as Walk
 use Rattle.def_pass.specs.Walk.{Rooted, Outcome, refused, result, root_marks, set_is_first_run, St, tally, Handler, h_plain, h_script, h_block, h_decl, h_declr, h_fun, h_if, h_while, h_for, h_for_in, h_try, h_catch, h_case, h_pat, h_unary, h_update, h_assign, h_call, h_new, h_fun_expr, h_arrow, handlers, when, modify, mark, grow, replace, restore, opening, deeper, shallower, set_inlining, set_var_decl_kind, set_pat_mode, set_in_test, set_changed, declaring, assigning, as_param, as_catch, decl_kind_of, declare_name, write_name, write_tree, write_forest, but_last, store_inline_barrier_m, is_bind, pat_by, over_m, stays, takes, head_bind, assign_first, assign_last, same_ident, cheap_o}
 
 abbrev pub F : Type 0 → Type 0
