@@ -31,7 +31,7 @@ set_count-requires c =
     (m.good, omega (arith, c.if-r-n.true))
 
 pub shape_of-w-then-r-n : goal.shape_of-w-then-r-n
-shape_of-w-then-r-n c = c.set_count.auto.0 ∙ c.rewrite.auto.0 ∙ c.set_run.auto.0
+shape_of-w-then-r-n c = c.set_count.auto.w ∙ c.rewrite.auto.w ∙ c.set_run.auto.w
 
 pub returns-then-r-n : goal.returns-then-r-n
 returns-then-r-n c =
@@ -42,7 +42,7 @@ returns-then-r-n c =
     let p = c.either-prevented.result in
     let r = c.own_binding-r.result in
     let mark = c.either-prevented.ensures ∙ ap (λ (b : Bool). b || yes (get_or w (4112 + j * 10 + 4) 0)) (ap yes c.flag_at-used.ensures ∙ sym (top.unres-at w g c.requires.1 x c.requires.4)) in
-    let u = c.set_run.new.0 in
+    let u = c.set_run.new.w in
     let h = c.if-r-n.true in
     let one = rw (run_none w 0) at c.set_run.ensures.0 in
     let both = twice r (with_value none (bind_at w r)) (refill 1 (get_or w (4112 + j * 10 + 2) 0) (get_or w (4112 + j * 10 + 3) 0) p 0 (get_or w (4112 + j * 10 + 6) 0) 1) h g one c.rewrite.ensures.0 in

@@ -31,7 +31,7 @@ pub set_const-requires : goal.set_const-requires
 set_const-requires c =
     let w = c.args.w.now in
     let r = listed.room (recorded_nodes (stack w) - 0 + c.args.m) (live (stack w) + 1) (sym c.passes.ensures ∙ c.if-passes.false) in
-    let u = c.push_const.new.0 in
+    let u = c.push_const.new.w in
     let t = consts.after_push w u c.requires.0 c.args.x c.push_const.ensures in
     let e = listed.same_nodes w u c.push_const.ensures.tree in
     let same = listed.same-run w u c.args.i c.args.m c.push_const.ensures.tree c.requires.2 in
@@ -40,7 +40,7 @@ set_const-requires c =
 pub returns : goal.returns
 returns c =
     let w = c.args.w.now in
-    let u = c.push_const.new.0 in
+    let u = c.push_const.new.w in
     let t = consts.after_push w u c.requires.0 c.args.x c.push_const.ensures in
     let e = listed.same_nodes w u c.push_const.ensures.tree in
     let same = listed.same-run w u c.args.i c.args.m c.push_const.ensures.tree c.requires.2 in

@@ -15,9 +15,6 @@ pub loop-k-init : goal.loop-k-init
 unfolding heads
 loop-k-init c = (c.requires.depth, omega arith, c.requires.cfits, consts.find-all c.args.w.now c.args.x)
 
-pub overflow_cast-a : goal.overflow_cast-a
-overflow_cast-a c = omega (arith, c.shared_slice_known-in-loop-k-1.given (7184 + (c.loop-k.k - 1) * 4 + 2))
-
 pub first_at-r-requires : goal.first_at-r-requires
 unfolding heads_at
 first_at-r-requires c =

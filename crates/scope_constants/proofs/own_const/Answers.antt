@@ -6,9 +6,6 @@ use Rattle.scope_constants.proofs.Constants as consts
 use borrow.Author.Rules.{rules}
 use Rattle.scope_constants.proofs.own_const.Goals as goal
 
-pub overflow_cast-a : goal.overflow_cast-a
-overflow_cast-a c = omega (arith, c.shared_slice_known-3-1.given (7184 + (get_or c.args.w.now 2 0 - 1) * 4 + 2))
-
 pub first_at-requires : goal.first_at-requires
 first_at-requires c =
     let g = c.requires.0 in

@@ -20,10 +20,10 @@ splice-requires c =
     (c.requires.0.long, omega arith, omega arith, omega (arith, c.requires.0.nodes, c.requires.2), omega (arith, c.const_offset-at.ensures.0, c.const_offset-end.ensures.0), omega (arith, c.const_offset-end.ensures.1), omega (arith, c.requires.3, c.const_offset-end.ensures.0))
 
 pub shape_of-w : goal.shape_of-w
-shape_of-w c = simp length-set c.splice.auto.0
+shape_of-w c = simp length-set c.splice.auto.w
 
 pub returns : goal.returns
 returns c =
     let w = c.args.w.now in
     let s = rw (c.const_offset-at.ensures.0, c.const_offset-end.ensures.0) at c.splice.ensures in
-    words.const-set w c.splice.new.0 c.requires.0 c.args.k c.args.i c.args.m c.requires.1 c.requires.2 c.requires.3 s c.requires.4 c.requires.5
+    words.const-set w c.splice.new.w c.requires.0 c.args.k c.args.i c.args.m c.requires.1 c.requires.2 c.requires.3 s c.requires.4 c.requires.5

@@ -37,14 +37,14 @@ append_record-requires c =
     (g, omega (arith, r.1, count.live-is w g), c.requires.1)
 
 pub shape_of-w-then-m-eq0 : goal.shape_of-w-then-m-eq0
-shape_of-w-then-m-eq0 c = c.append_record.auto.0
+shape_of-w-then-m-eq0 c = c.append_record.auto.w
 
 pub returns-then-m-eq0 : goal.returns-then-m-eq0
 returns-then-m-eq0 c =
     let w = c.args.w.now in
     let a = c.args in
     let none_is = ap (λ (v : Option Tree). append (fresh a.x (var_type_of a.kind) (alias_at a.alias) (yes a.prevented) (yes a.undef) v) (stack w)) (declares.run-no-value w a.i a.m c.if-m-eq0.true) in
-    let u = c.append_record.new.0 in
+    let u = c.append_record.new.w in
     listed.done-under (subst (λ (st : Stack). Becomes w u st) (sym none_is) c.append_record.ensures.0)
 
 pub set_run-requires : goal.set_run-requires
@@ -53,14 +53,14 @@ set_run-requires c =
     let g = c.requires.0 in
     let a = c.args in
     let r = listed.room (recorded_nodes (stack w) - 0 + a.m) (live (stack w) + 1) (sym c.passes.ensures ∙ c.if-passes.false) in
-    let u = c.append_record.new.0 in
+    let u = c.append_record.new.w in
     let e = c.append_record.ensures in
     let bare = bare_of a.x a.kind a.alias 0 a.prevented a.undef 0 0 0 in
     let same = listed.same-run w u a.i a.m e.0.tree c.requires.2 in
     (e.0.good, omega (arith, e.2), omega (arith, listed.same_nodes w u e.0.tree, c.requires.2), omega (arith, r.0, declares.vals-after w g c.requires.1 bare u e.0 e.2), rw same c.requires.3)
 
 pub shape_of-w : goal.shape_of-w
-shape_of-w c = c.set_run.auto.0 ∙ c.append_record.auto.0
+shape_of-w c = c.set_run.auto.w ∙ c.append_record.auto.w
 
 pub returns : goal.returns
 returns c =
@@ -69,7 +69,7 @@ returns c =
     let a = c.args in
     let v : Option Tree = value_of (run w 16 a.i a.m) in
     let new = fresh a.x (var_type_of a.kind) (alias_at a.alias) (yes a.prevented) (yes a.undef) v in
-    let u = c.append_record.new.0 in
+    let u = c.append_record.new.w in
     let e = c.append_record.ensures in
     let bare = bare_of a.x a.kind a.alias 0 a.prevented a.undef 0 0 0 in
     let same = listed.same-run w u a.i a.m e.0.tree c.requires.2 in

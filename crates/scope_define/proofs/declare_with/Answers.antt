@@ -33,7 +33,7 @@ returns-in-Refused c =
     (g.0, o ∙ g.1, g.2)
 
 pub shape_of-w-in-Done : goal.shape_of-w-in-Done
-shape_of-w-in-Done c = c.prevent_if-in-Done-2.auto.0 ∙ c.prevent_if-in-Done.auto.0 ∙ c.prevent_if.auto.0 ∙ c.put_declared.auto.0
+shape_of-w-in-Done c = c.prevent_if-in-Done-2.auto.w ∙ c.prevent_if-in-Done.auto.w ∙ c.prevent_if.auto.w ∙ c.put_declared.auto.w
 
 pub returns-in-Done : goal.returns-in-Done
 returns-in-Done c =

@@ -14,5 +14,5 @@ write_to-requires c = (c.params_if.ensures.good, again.marked-before c.args.x c.
 pub returns : goal.returns
 unfolding add_write
 returns c =
-    limits.stepped_then c.write_to.new.0 (λ (st : Stack). write_to c.args.x c.args.force st) c.write_to.result
+    limits.stepped_then c.write_to.new.w (λ (st : Stack). write_to c.args.x c.args.force st) c.write_to.result
     (limits.becomes-then (λ (st : Stack). pick c.args.args (prevent_inline_of_params st) st) (rw c.write_prevents_inline-p.ensures at c.prevent_if.ensures) c.params_if.ensures) c.write_to.ensures

@@ -17,4 +17,4 @@ returns-then-d-eq0 c =
     record { good = c.requires; is = e; tree = refl; others = words.others-self w; rest = refl }
 
 pub returns : goal.returns
-returns c = touch.unresolved c.args.w.now c.set_flag.new.0 c.requires c.args.x (omega arith) (omega (arith, c.if-d-eq0.false)) c.set_flag.ensures
+returns c = touch.unresolved c.args.w.now c.set_flag.new.w c.requires c.args.x (omega arith) (omega (arith, c.if-d-eq0.false)) c.set_flag.ensures

@@ -16,7 +16,7 @@ store_bar-requires c =
     (touch.touched-good c.requires s.touched, omega (arith, s.touched.low 2 (omega arith) (λ i n e. omega arith)))
 
 pub loop-k-preserved : goal.loop-k-preserved
-loop-k-preserved c = (omega arith, c.store_bar.auto.0 ∙ c.loop-k.invariant.1, c.loop-k.invariant.2, touch.barred-more c.requires c.loop-k.invariant.3 (omega arith) c.store_bar.ensures)
+loop-k-preserved c = (omega arith, c.store_bar.auto.w ∙ c.loop-k.invariant.1, c.loop-k.invariant.2, touch.barred-more c.requires c.loop-k.invariant.3 (omega arith) c.store_bar.ensures)
 
 pub returns : goal.returns
 returns c =
