@@ -1,5 +1,5 @@
 -- What the reader of a node promises. Assumes nothing: these are definitions.
-use Rattle.std.specs.Prelude.{◌≡◌, Bool, true, false, List, ◌∷◌, ℕ, ◌≤◌, T, length, drop, get_or}
+use Rattle.std.specs.Prelude.{◌≡◌, Bool, false, List, ◌∷◌, ℕ, ◌≤◌, T, length, drop, get_or}
 use Rattle.def_file.specs.declared.kinds.Class.{Class}
 use Rattle.def_file.specs.declared.kinds.Class.TheVariants as Kind
 use Rattle.def_file.specs.declared.Raw.{Raw}

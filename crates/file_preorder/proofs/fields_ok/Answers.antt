@@ -1,4 +1,3 @@
-use borrow.Author.Rules.{rules}
 use Rattle.file_preorder.proofs.fields_ok.Goals as goal
 
 pub returns : goal.returns
