@@ -8,10 +8,6 @@ use Rattle.scope_define.specs.Kinds.{type_of}
 use borrow.Author.Rules.{rules}
 use Rattle.scope_declare.proofs.declare_bare.Goals as goal
 
-should-prevent-inline-because-of-scope-requires :
-    tie.Need-should-prevent-inline-because-of-scope-requires
-should-prevent-inline-because-of-scope-requires c κs = search rules
-
 pub declare_with-requires : goal.declare_with-requires
 declare_with-requires c = (c.requires.good, omega arith, init.none-one c.args.w.now, refl)
 

@@ -10,10 +10,6 @@ use Rattle.def_pass.specs.Scope.{is_inline_prevented}
 use borrow.Author.Rules.{rules}
 use Rattle.scope_declare.proofs.prevented_at.Goals as goal
 
-should-prevent-inline-because-of-scope-requires :
-    tie.Need-should-prevent-inline-because-of-scope-requires
-should-prevent-inline-because-of-scope-requires c κs = search rules
-
 pub returns-then-should_prevent_inline_because_of_scope : goal.returns-then-should_prevent_inline_because_of_scope
 returns-then-should_prevent_inline_because_of_scope c = sym (ap (λ (b : Bool). b || is_inline_prevented (tree_from (tree c.args.w.now) c.args.i) (stack c.args.w.now)) (sym c.should_prevent_inline_because_of_scope.ensures ∙ c.if-should_prevent_inline_because_of_scope.true))
 

@@ -10,10 +10,10 @@ use borrow.Author.Rules.{rules}
 use Rattle.scope_declare.proofs.works_with.Goals as goal
 
 pub returns-in-NoAlias : goal.returns-in-NoAlias
-returns-in-NoAlias c = sym (init.works-is (alias_of c.args.alias) c.enum_told-in-Declared-1.given.1 ∙ ap (λ (a : Alias). not (param_o (alias_of a))) c.enum_told-in-NoAlias-1.given.1)
+returns-in-NoAlias c = sym (init.works-is (alias_of c.args.alias) c.in-Declared.is ∙ ap (λ (a : Alias). not (param_o (alias_of a))) c.in-NoAlias.is)
 
 pub returns-in-Param-t : goal.returns-in-Param-t
-returns-in-Param-t c = sym (init.works-is (alias_of c.args.alias) c.enum_told-in-Declared-1.given.1 ∙ ap (λ (a : Alias). not (param_o (alias_of a))) c.alias-1.given.1 ∙ ap (λ (t : VarType). not (is_param (type_of t))) c.enum_told-in-Param-t-1.given.1)
+returns-in-Param-t c = sym (init.works-is (alias_of c.args.alias) c.in-Declared.is ∙ ap (λ (a : Alias). not (param_o (alias_of a))) c.in-AliasOf.is ∙ ap (λ (t : VarType). not (is_param (type_of t))) c.in-Param-t.is)
 
 pub returns-in-Declared-t : goal.returns-in-Declared-t
-returns-in-Declared-t c = sym (init.works-is (alias_of c.args.alias) c.enum_told-in-Declared-1.given.1 ∙ ap (λ (a : Alias). not (param_o (alias_of a))) c.alias-1.given.1 ∙ ap not (init.not-param c.enum_told-in-Declared-t-1.given.1))
+returns-in-Declared-t c = sym (init.works-is (alias_of c.args.alias) c.in-Declared.is ∙ ap (λ (a : Alias). not (param_o (alias_of a))) c.in-AliasOf.is ∙ ap not (init.not-param c.in-Declared-t.is))
