@@ -27,10 +27,8 @@ SEQUENCES = 400
 TABLE, PART = 700, 4
 
 HEAD = """-- Sequences {first} to {last} of {count}: calls and what they leave, in numbers of 16 bytes. Written by tools/calls.py.
-use mathlib.Core.Path.{{_≡_, refl}}
-use mathlib.Core.List.{{List, [], _∷_}}
-use Prim.Native.Nat.{{ℕ}}
-use Rattle·laws_vectors·specs.specs.Play.{{Played, p, wrong}}
+use Rattle.std.specs.Prelude.{{◌≡◌, refl, List, [], ◌∷◌, ℕ}}
+use Rattle.laws_vectors.specs.Play.{{Played, p, wrong}}
 """
 
 

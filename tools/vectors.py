@@ -16,10 +16,8 @@ TABLE = 4000
 PART = 12
 
 HEAD = """-- Vectors {first} to {last} of {count}: files and answers, in numbers of 16 bytes. Written by tools/vectors.py.
-use mathlib.Core.Path.{{_≡_, refl}}
-use mathlib.Core.List.{{List, [], _∷_}}
-use Prim.Native.Nat.{{ℕ}}
-use Rattle·laws_vectors·specs.specs.Vector.{{Vector, v, c, wrong}}
+use Rattle.std.specs.Prelude.{{◌≡◌, refl, List, [], ◌∷◌, ℕ}}
+use Rattle.laws_vectors.specs.Vector.{{Vector, v, c, wrong}}
 """
 
 
