@@ -14,4 +14,4 @@ returns c =
     let k = c.find_binding-k.result - 1 in
     let p : 0 < c.find_binding-k.result = pos_of_ne-zero c.if-k-eq0.false in
     let q : c.find_binding-k.result ≡ suc (c.find_binding-k.result - 1) = omega arith in
-    subst (λ (v : ℕ). Becomes w (set w (8080 + k) v) (change c.args.x count_one (stack w))) (sym c.wrapping_add_u32.ensures) (laws.counted w c.requires k (omega arith) c.args.x (sym c.find_binding-k.ensures.0 ∙ q))
+    subst (λ (v : ℕ). Becomes w (set w (8080 + k) v) (change c.args.x count_one (stack w))) (sym c.wrapping_add_u32.ensures.value) (laws.counted w c.requires k (omega arith) c.args.x (sym c.find_binding-k.ensures.0 ∙ q))

@@ -17,16 +17,16 @@ restore-requires c =
     (c.requires.0, b)
 
 pub bounds-w-3 : goal.bounds-w-3
-bounds-w-3 c = simp length-set (omega (arith, c.requires.0.long, c.merge.auto.0, c.restore.auto.0))
+bounds-w-3 c = simp length-set (omega (arith, c.requires.0.long, c.merge.auto.w, c.restore.auto.w))
 
 pub bounds-w-2-2 : goal.bounds-w-2-2
-bounds-w-2-2 c = simp length-set (omega (arith, c.requires.0.long, c.merge.auto.0, c.restore.auto.0))
+bounds-w-2-2 c = simp length-set (omega (arith, c.requires.0.long, c.merge.auto.w, c.restore.auto.w))
 
 pub shape_of-w : goal.shape_of-w
-shape_of-w c = simp length-set (c.merge.auto.0 ∙ c.restore.auto.0)
+shape_of-w c = simp length-set (c.merge.auto.w ∙ c.restore.auto.w)
 
 pub returns : goal.returns
 returns c =
     let w = c.args.w.now in
     let d = get_or w 2 0 - 1 in
-    (shrink.dropped w c.restore.new.0 c.merge.new.0 c.requires.0 d (omega arith) (omega arith) c.restore.ensures c.merge.ensures, shrink.dropped-past w c.restore.new.0 c.merge.new.0 c.requires.0 d (omega arith) (omega arith) c.restore.ensures c.merge.ensures, shrink.n1 w c.restore.new.0 c.merge.new.0 c.requires.0 d (omega arith) (omega arith) c.restore.ensures c.merge.ensures, shrink.dropped-consts w c.restore.new.0 c.merge.new.0 c.requires.0 d (omega arith) (omega arith) c.restore.ensures c.merge.ensures)
+    (shrink.dropped w c.restore.new.w c.merge.new.w c.requires.0 d (omega arith) (omega arith) c.restore.ensures c.merge.ensures, shrink.dropped-past w c.restore.new.w c.merge.new.w c.requires.0 d (omega arith) (omega arith) c.restore.ensures c.merge.ensures, shrink.n1 w c.restore.new.w c.merge.new.w c.requires.0 d (omega arith) (omega arith) c.restore.ensures c.merge.ensures, shrink.dropped-consts w c.restore.new.w c.merge.new.w c.requires.0 d (omega arith) (omega arith) c.restore.ensures c.merge.ensures)

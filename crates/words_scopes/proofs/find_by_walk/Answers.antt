@@ -8,9 +8,6 @@ pub loop-k-init : goal.loop-k-init
 unfolding heads binds
 loop-k-init c = (c.requires.depth, omega arith, c.requires.fits, refl)
 
-pub overflow_cast-a : goal.overflow_cast-a
-overflow_cast-a c = omega (arith, c.shared_slice_known-in-loop-k-1.given (7184 + (c.loop-k.k - 1) * 4 + 1))
-
 pub find_in-r-requires : goal.find_in-r-requires
 unfolding heads_at
 find_in-r-requires c =
