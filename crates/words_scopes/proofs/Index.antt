@@ -1,11 +1,11 @@
 -- Where the innermost binding of an identifier is, as bindings are appended and scopes opened and dropped; and what that rests on: the identifiers of
 -- the bindings, and where the scopes begin. Assumes nothing.
-use Rattle.std.proofs.Common.{◌≡◌, ℕ, zero, suc, ◌+◌, ◌-◌, ◌*◌, ◌<◌, ◌≤◌, Bool, true, false, eqb, ◌⊎◌, List, [], ◌∷◌, ◌++◌, map, length, get_or, take, drop, set, sym, refl, ap, ◌∙◌, inl, inr, ⊎_elim, arith, length-append, length-drop, length-set, drop_of_length-le, length-take, length-take-le, get_or-drop, take_all, get_or-set_other, get_or-set_same, take-take, take-add, drop_at, eq-eqb, ne_eqb, eqb-true}
+use Rattle.std.proofs.Common.{◌≡◌, ℕ, zero, suc, ◌+◌, ◌-◌, ◌*◌, ◌<◌, ◌≤◌, true, false, eqb, List, [], ◌∷◌, ◌++◌, map, length, get_or, take, drop, set, sym, refl, ap, ◌∙◌, inl, inr, ⊎_elim, arith, length-append, length-drop, length-set, drop_of_length-le, length-take, length-take-le, get_or-drop, take_all, get_or-set_other, get_or-set_same, take-take, take-add, drop_at, eq-eqb, ne_eqb, eqb-true}
 use lib.Seq.{take-append-le, drop-append-le}
 use Rattle.def_pass.specs.Scope.{VarInfo, has_in}
-use Rattle.words.specs.Tab.{tab, tab-ext, tab-suc, length-tab, below_or_not, same_or_not}
+use Rattle.words.specs.Tab.{tab, tab-suc, length-tab, below_or_not, same_or_not}
 use Rattle.words.specs.Layout.{Agree}
-use Rattle.words_scopes.specs.State.{Head, head_at, heads_at, heads, binds, bind_at, place, index_in, Beside, Good}
+use Rattle.words_scopes.specs.State.{Head, heads_at, heads, binds, bind_at, place, index_in, Beside, Good}
 use Rattle.words_scopes.specs.Index.{Entered, Restored}
 use Rattle.words_scopes.proofs.Split as laws
 

@@ -1,5 +1,5 @@
 -- A scope dropped: the counts shrink. Assumes nothing.
-use Rattle.std.proofs.Common.{◌≡◌, ℕ, zero, suc, ◌+◌, ◌-◌, ◌*◌, ◌<◌, ◌≤◌, true, ◌||◌, ◌⊎◌, List, ◌∷◌, map, length, get_or, take, set, sym, refl, ap, ◌∙◌, inl, inr, ⊎_elim, arith, length-set, get_or-set_other, get_or-set_same}
+use Rattle.std.proofs.Common.{◌≡◌, ℕ, ◌+◌, ◌-◌, ◌*◌, ◌<◌, ◌≤◌, ◌||◌, ◌⊎◌, List, ◌∷◌, map, length, get_or, take, set, sym, refl, ap, ◌∙◌, inl, inr, ⊎_elim, arith, length-set, get_or-set_other, get_or-set_same}
 use Rattle.words.specs.Tab.{tab, length-tab, get_d-tab, get_d-tab-out, take-tab, below_or_not, sum-le}
 use Rattle.words.specs.Layout.{yes, Agree, tree}
 use Rattle.words.specs.Moved.{Merged}

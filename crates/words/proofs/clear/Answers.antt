@@ -1,5 +1,4 @@
 -- The first 16,384 words set to 0. Assumes nothing.
-use borrow.Author.Rules.{rules}
 use Rattle.words.proofs.Moves as moves
 use Rattle.words.proofs.clear.Goals as goal
 

@@ -1,11 +1,8 @@
 -- Words copied, the first one first. Assumes nothing.
 use Prim.Native.Nat.{◌-◌, ◌≤◌}
-use mathlib.Core.Path.{◌≡◌, refl}
-use native.Mathlib.Omega.{arith}
-use lib.ListN.{length, length-set}
+use mathlib.Core.Path.{◌≡◌}
+use lib.ListN.{length}
 use Rattle.words.specs.Moved.{Moved}
-use Rattle.words.proofs.Moves as moves
-use borrow.Author.Rules.{rules}
 use Rattle.words.proofs.down.Given as goal
 
 abbrev pub invariant-loop-i : goal.invariant-loop-i

@@ -1,7 +1,6 @@
 -- The bit of its word. Assumes nothing.
 use mathlib.Core.Path.{refl}
 use Rattle.words.specs.Flags.{flag_at}
-use borrow.Author.Rules.{rules}
 use Rattle.words.proofs.flag_at.Goals as goal
 
 pub returns : goal.returns

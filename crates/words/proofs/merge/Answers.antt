@@ -1,11 +1,8 @@
 -- One set of flags put into another. Assumes nothing.
-use Prim.Native.Nat.{◌-◌, ◌≤◌}
 use mathlib.Core.Path.{◌≡◌, refl}
 use native.Mathlib.Omega.{arith}
-use lib.ListN.{length, length-set}
-use Rattle.words.specs.Moved.{Merged}
+use lib.ListN.{length-set}
 use Rattle.words.proofs.Moves as moves
-use borrow.Author.Rules.{rules}
 use Rattle.words.proofs.merge.Goals as goal
 
 pub loop-i-init : goal.loop-i-init

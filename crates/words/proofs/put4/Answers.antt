@@ -2,7 +2,6 @@
 use native.Mathlib.Omega.{arith}
 use lib.ListN.{length-set}
 use Rattle.words.proofs.Moves as moves
-use borrow.Author.Rules.{rules}
 use Rattle.words.proofs.put4.Goals as goal
 
 pub bounds-w-p-2 : goal.bounds-w-p-2

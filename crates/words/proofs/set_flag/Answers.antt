@@ -1,7 +1,6 @@
 -- The word of its bit. Assumes nothing.
 use native.Mathlib.Omega.{arith}
 use Rattle.words.proofs.Flags as flags
-use borrow.Author.Rules.{rules}
 use Rattle.words.proofs.set_flag.Goals as goal
 
 pub returns : goal.returns

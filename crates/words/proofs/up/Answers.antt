@@ -1,11 +1,8 @@
 -- Words copied, the last one first. Assumes nothing.
-use Prim.Native.Nat.{◌+◌, ◌-◌, ◌≤◌}
-use mathlib.Core.Path.{◌≡◌, refl}
+use mathlib.Core.Path.{refl}
 use native.Mathlib.Omega.{arith}
-use lib.ListN.{length, length-set}
-use Rattle.words.specs.Moved.{Moved}
+use lib.ListN.{length-set}
 use Rattle.words.proofs.Moves as moves
-use borrow.Author.Rules.{rules}
 use Rattle.words.proofs.up.Goals as goal
 
 pub loop-i-init : goal.loop-i-init

@@ -1,5 +1,5 @@
 -- A binding appended. Assumes nothing.
-use Rattle.std.proofs.Common.{◌+◌, ◌-◌, ◌*◌, get_or, ◌∙◌, arith, length-set, rules}
+use Rattle.std.proofs.Common.{◌∙◌, arith, length-set}
 use Rattle.words_scopes.proofs.Grow as grow
 use Rattle.words_scopes.proofs.append_record.Goals as goal
 

@@ -1,5 +1,5 @@
 -- A replacement counted at the innermost binding. Assumes nothing.
-use Rattle.std.proofs.Common.{◌≡◌, ℕ, suc, ◌+◌, ◌-◌, ◌<◌, set, sym, ◌∙◌, subst, pos_of_ne-zero, arith, rules}
+use Rattle.std.proofs.Common.{◌≡◌, ℕ, suc, ◌+◌, ◌-◌, ◌<◌, set, sym, ◌∙◌, subst, pos_of_ne-zero, arith}
 use Rattle.def_pass.specs.Scope.{change, count_one}
 use Rattle.words_scopes.specs.State.{Becomes, stack}
 use Rattle.words_scopes.proofs.Words as laws

@@ -1,5 +1,5 @@
 -- A scope dropped. Assumes nothing.
-use Rattle.std.proofs.Common.{◌-◌, get_or, ◌∙◌, arith, length-set, rules}
+use Rattle.std.proofs.Common.{◌-◌, get_or, ◌∙◌, arith, length-set}
 use Rattle.words_scopes.proofs.Grow.{top-begins}
 use Rattle.words_scopes.proofs.Shrink as shrink
 use Rattle.words_scopes.proofs.drop_scope.Goals as goal

@@ -1,7 +1,7 @@
 -- Scope by scope, innermost first: in a scope the oldest binding of the name. Assumes nothing.
-use Rattle.std.proofs.Common.{◌≡◌, ℕ, suc, ◌+◌, ◌-◌, ◌*◌, ◌≤◌, get_or, sym, refl, ap, ◌∙◌, arith, rules}
+use Rattle.std.proofs.Common.{◌≡◌, ◌≤◌, get_or}
 use Rattle.words_scopes.specs.State.{Fits, heads_at, heads, binds, place}
-use Rattle.words_scopes.proofs.Words.{up_to, step-hit, step-miss}
+use Rattle.words_scopes.proofs.Words.{up_to}
 use Rattle.words_scopes.proofs.find_by_walk.Given as goal
 
 abbrev pub invariant-loop-k : goal.invariant-loop-k

@@ -1,6 +1,6 @@
 -- A scan of one stretch of the bindings. Assumes nothing.
 use Rattle.words_scopes.proofs.Words.{none_more}
-use Rattle.std.proofs.Common.{◌≡◌, ℕ, ◌+◌, ◌-◌, ◌*◌, ◌<◌, ◌≤◌, get_or, arith, rules}
+use Rattle.std.proofs.Common.{arith}
 use Rattle.words_scopes.proofs.find_in.Goals as goal
 
 pub loop-k-preserved : goal.loop-k-preserved

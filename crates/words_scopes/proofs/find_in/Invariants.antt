@@ -1,6 +1,5 @@
 -- A scan of one stretch of the bindings. Assumes nothing.
-use Rattle.words_scopes.proofs.Words.{none_more}
-use Rattle.std.proofs.Common.{◌≡◌, ℕ, ◌+◌, ◌-◌, ◌*◌, ◌<◌, ◌≤◌, get_or, arith, rules}
+use Rattle.std.proofs.Common.{◌≡◌, ℕ, ◌+◌, ◌-◌, ◌*◌, ◌<◌, ◌≤◌, get_or}
 use Rattle.words_scopes.proofs.find_in.Given as goal
 
 abbrev pub invariant-loop-k : goal.invariant-loop-k

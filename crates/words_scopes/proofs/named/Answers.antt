@@ -1,5 +1,5 @@
 -- The identifier that a value is, by its first node. Assumes nothing.
-use Rattle.std.proofs.Common.{pos_of_ne-zero, rules}
+use Rattle.std.proofs.Common.{pos_of_ne-zero}
 use Rattle.words_scopes.proofs.Words as laws
 use Rattle.words_scopes.proofs.named.Goals as goal
 

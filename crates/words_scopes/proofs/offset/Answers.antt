@@ -1,5 +1,5 @@
 -- From the first binding on. Assumes nothing.
-use Rattle.std.proofs.Common.{sym, arith, rules}
+use Rattle.std.proofs.Common.{sym, arith}
 use Rattle.words.specs.Tab as sums
 use Rattle.words_scopes.specs.State.{len_at}
 use Rattle.words_scopes.proofs.offset.Goals as goal

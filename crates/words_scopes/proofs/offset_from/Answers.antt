@@ -1,7 +1,7 @@
 -- The sum of the earlier lengths, from one binding on. Assumes nothing.
-use Rattle.std.proofs.Common.{◌≡◌, ◌-◌, ◌≤◌, get_or, sym, arith, rules}
+use Rattle.std.proofs.Common.{◌≡◌, get_or, arith}
 use Rattle.words.specs.Tab as sums
-use Rattle.words_scopes.specs.State.{off, len_at}
+use Rattle.words_scopes.specs.State.{len_at}
 use Rattle.words_scopes.proofs.offset_from.Goals as goal
 
 pub loop-j-init : goal.loop-j-init

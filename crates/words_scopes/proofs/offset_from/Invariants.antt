@@ -1,7 +1,6 @@
 -- The sum of the earlier lengths, from one binding on. Assumes nothing.
-use Rattle.std.proofs.Common.{◌≡◌, ◌-◌, ◌≤◌, get_or, sym, arith, rules}
-use Rattle.words.specs.Tab as sums
-use Rattle.words_scopes.specs.State.{off, len_at}
+use Rattle.std.proofs.Common.{◌≡◌, ◌-◌, ◌≤◌}
+use Rattle.words_scopes.specs.State.{off}
 use Rattle.words_scopes.proofs.offset_from.Given as goal
 
 abbrev pub invariant-loop-j : goal.invariant-loop-j

@@ -1,5 +1,5 @@
 -- A scope opened. Assumes nothing.
-use Rattle.std.proofs.Common.{◌∙◌, length-set, rules}
+use Rattle.std.proofs.Common.{◌∙◌, length-set}
 use Rattle.words_scopes.proofs.Grow as grow
 use Rattle.words_scopes.proofs.open.Goals as goal
 

@@ -1,5 +1,5 @@
 -- The innermost binding marked. Assumes nothing.
-use Rattle.std.proofs.Common.{◌≡◌, suc, ◌-◌, ◌<◌, sym, ◌∙◌, pos_of_ne-zero, arith, rules}
+use Rattle.std.proofs.Common.{◌≡◌, suc, ◌-◌, ◌<◌, sym, ◌∙◌, pos_of_ne-zero, arith}
 use Rattle.words_scopes.proofs.Words as laws
 use Rattle.words_scopes.proofs.prevent_found.Goals as goal
 

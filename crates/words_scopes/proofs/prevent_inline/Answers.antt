@@ -1,5 +1,5 @@
 -- The pass through all bindings; a window of records is made where a mark is missing, and `o` is the sum of the lengths passed. Assumes nothing.
-use Rattle.std.proofs.Common.{◌≡◌, ℕ, List, Bool, true, false, ◌+◌, ◌-◌, ◌*◌, ◌<◌, ◌≤◌, length, get_or, sym, refl, ap, ◌∙◌, arith}
+use Rattle.std.proofs.Common.{◌≡◌, ℕ, List, ◌+◌, ◌*◌, ◌<◌, ◌≤◌, get_or, sym, refl, ap, ◌∙◌, arith}
 use Rattle.words.specs.Tab as sums
 use Rattle.words_scopes.specs.State.{Good, off, len_at}
 use Rattle.words_scopes.proofs.Words as laws
@@ -85,10 +85,10 @@ loop-i-preserved c =
     let h : j < get_or w₁ 1 0 = omega (arith, c.window-e.ensures.1, k.many, c.loop-j.invariant.2, v.1) in
     let this = laws.ahead-this w₁ x j c.loop-i.i c.marks_of-bs.result (omega (arith, c.ranges.x)) v.5 (omega (arith, c.window-e.ensures.0)) h in
     let d : laws.Swept w₁ c.if-bs-i.w x (j + 1) =
-        elim c.if-bs-i.branch [
-          then-bs-i u ↦ rw u.w-is (laws.swept-hit k.good v.3 h (sym u.if-bs-i.true ∙ this))
-        | else-bs-i u ↦ rw u.w-is (laws.swept-miss k.good v.3 h (sym u.if-bs-i.false ∙ this))
-        ] in
+    elim c.if-bs-i.branch [
+      | then-bs-i u ↦ rw u.w-is (laws.swept-hit k.good v.3 h (sym u.if-bs-i.true ∙ this))
+      | else-bs-i u ↦ rw u.w-is (laws.swept-miss k.good v.3 h (sym u.if-bs-i.false ∙ this))
+    ] in
     let len : len_at c.if-bs-i.w j ≡ len_at w₁ j = d.runs.lens j (omega (arith, k.good.count)) in
     let next : c.loop-i.o + len_at c.if-bs-i.w j ≡ off w₁ (j + 1) = omega (arith, v.4, sums.sum-next (λ q. len_at w₁ q) j) in
     (omega arith, omega (arith, v.1), d.kept.size, d, next, laws.ahead-next w₁ x j c.loop-i.i c.marks_of-bs.result v.5)

@@ -1,8 +1,7 @@
 -- The pass through all bindings; a window of records is made where a mark is missing, and `o` is the sum of the lengths passed. Assumes nothing.
 -- the window's loop goes on from the words in which the mark is missing
-use Rattle.std.proofs.Common.{◌≡◌, ℕ, ◌+◌, ◌-◌, ◌*◌, ◌<◌, ◌≤◌, length, get_or, sym, refl, ap, ◌∙◌, ⊎_elim, arith, rules}
-use Rattle.words.specs.Tab as sums
-use Rattle.words_scopes.specs.State.{Good, off, len_at}
+use Rattle.std.proofs.Common.{◌≡◌, ◌+◌, ◌-◌, ◌*◌, ◌≤◌, length, get_or}
+use Rattle.words_scopes.specs.State.{off}
 use Rattle.words_scopes.proofs.Words as laws
 use Rattle.words_scopes.proofs.prevent_inline.Given as goal
 

@@ -1,7 +1,7 @@
 -- The records of a window, one after the other; `o` is the sum of the lengths passed. Assumes nothing.
-use Rattle.std.proofs.Common.{◌≡◌, ℕ, ◌+◌, ◌-◌, ◌*◌, ◌<◌, ◌≤◌, length, get_or, refl, ap, ◌∙◌, arith, length-set, rules}
+use Rattle.std.proofs.Common.{◌≡◌, ℕ, ◌+◌, ◌*◌, ◌<◌, get_or, refl, ap, ◌∙◌, arith, length-set}
 use Rattle.words.specs.Tab as sums
-use Rattle.words_scopes.specs.State.{off, len_at, record_at, no_record}
+use Rattle.words_scopes.specs.State.{off, len_at}
 use Rattle.words_scopes.proofs.Words as laws
 use Rattle.words_scopes.proofs.records.Goals as goal
 

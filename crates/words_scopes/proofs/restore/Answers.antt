@@ -1,6 +1,5 @@
 -- From the last binding down: the invariant is that the index is that of the bindings before. Assumes nothing.
-use Rattle.std.proofs.Common.{◌≡◌, ℕ, ◌+◌, ◌-◌, ◌*◌, ◌≤◌, length, get_or, refl, arith, length-set, rules}
-use Rattle.words_scopes.specs.Index.{Restored}
+use Rattle.std.proofs.Common.{◌≡◌, ℕ, ◌+◌, ◌-◌, refl, arith, length-set}
 use Rattle.words_scopes.proofs.Index.{restored-all, restored-name, restored-less}
 use Rattle.words_scopes.proofs.restore.Goals as goal
 

@@ -1,7 +1,6 @@
 -- From the last binding down: the invariant is that the index is that of the bindings before. Assumes nothing.
-use Rattle.std.proofs.Common.{◌≡◌, ℕ, ◌+◌, ◌-◌, ◌*◌, ◌≤◌, length, get_or, refl, arith, length-set, rules}
+use Rattle.std.proofs.Common.{◌≡◌, ◌≤◌, length, get_or}
 use Rattle.words_scopes.specs.Index.{Restored}
-use Rattle.words_scopes.proofs.Index.{restored-all, restored-name, restored-less}
 use Rattle.words_scopes.proofs.restore.Given as goal
 
 abbrev pub invariant-loop-j : goal.invariant-loop-j

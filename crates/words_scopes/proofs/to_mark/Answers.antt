@@ -1,5 +1,5 @@
 -- Whether a binding gets a mark that it has not: the mark first, then the name, then the value. Assumes nothing.
-use Rattle.std.proofs.Common.{◌≡◌, ℕ, List, ◌+◌, ◌*◌, get_or, sym, ap, ◌∙◌, arith, rules, ne_eqb}
+use Rattle.std.proofs.Common.{◌≡◌, ℕ, List, ◌+◌, ◌*◌, get_or, sym, ap, ◌∙◌, arith, ne_eqb}
 use Rattle.words.specs.Tab as sums
 use Rattle.words_scopes.specs.State.{len_at}
 use Rattle.words_scopes.proofs.Words as laws
