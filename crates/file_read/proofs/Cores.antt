@@ -19,6 +19,7 @@ use Rattle.words.specs.Layout.{node_of, tree, beyond}
 use Rattle.words.specs.Moved.{Zeroed}
 use Rattle.words.proofs.Nodes.{core-same, unpack-kind, unpack-form, unpack-arity, beyond-same}
 use Rattle.def_file.specs.declared.Raw.{Raw}
+use Rattle.def_file.specs.declared.kinds.Class.TheVariants.{Root}
 use Rattle.def_file.specs.declared.kinds.Row.{Row}
 use Rattle.def_file.specs.Kinds.{allows, rows, no_row, row_of, form_ok, count_ok, uses_text, uses_bits}
 use Rattle.def_file.specs.Script.{Script, is_lit, has_id, same_id, known, enter, enter_all, idents, place_of, zero_node, is_arguments}
@@ -115,7 +116,7 @@ filled-sound t (p ∷ ps) (x ∷ xs) e (suc k) h = go (node_ok t p x) refl e (λ
 
 pub node-sound : (s : Script) → nodes_ok s ≡ true → (k : ℕ) → k < length s.nodes → Sound (length s.texts) (get_or s.nodes k zero_node)
 unfolding nodes_ok
-node-sound s e k h = filled-sound (length s.texts) _ s.nodes e k h
+node-sound s e k h = filled-sound (length s.texts) (record { class = Root; left = 200 } ∷ []) s.nodes e k h
 
 -- the core, by place
 core-length : (s : Script) (m : ℕ) (xs : List Raw) → length (core_from s m xs) ≡ length xs

@@ -34,7 +34,7 @@ bounds-words-t c =
     omega (arith, c.requires.6, c.requires.0.long)
 
 pub overflow_cast-first : goal.overflow_cast-first
-overflow_cast-first c = omega (arith, c.shared_slice_known-4-1.given (15760 + c.u32_at-t.result))
+overflow_cast-first c = omega (arith, c.type_inv.words (15760 + c.u32_at-t.result))
 
 pub returns-then-first-eq0 : goal.returns-then-first-eq0
 returns-then-first-eq0 c =

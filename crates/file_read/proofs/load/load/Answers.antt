@@ -30,7 +30,7 @@ pub loop-k-preserved : goal.loop-k-preserved
 loop-k-preserved c =
     let a = c.args in
     let s = c.load_node.ensures in
-    (omega (arith, c.loop-k-test.true), subst (Next a.file.now c.load_node.new.1.0 a.n a.t (c.loop-k.k + 1)) c.if-load_node.true s.next, kept_then {w₁ = c.loop-k.words} c.loop-k.invariant.2 s.kept)
+    (omega (arith, c.loop-k-test.true), subst (Next a.file.now c.load_node.new.words a.n a.t (c.loop-k.k + 1)) c.if-load_node.true s.next, kept_then {w₁ = c.loop-k.words} c.loop-k.invariant.2 s.kept)
 
 pub shape_of-words-else-load_node : goal.shape_of-words-else-load_node
 shape_of-words-else-load_node c = (kept_then {w₁ = c.loop-k.words} (kept_then (none_kept c.requires.1 c.wipe.ensures) c.loop-k.invariant.2) c.load_node.ensures.kept).size
@@ -41,7 +41,7 @@ returns-else-load_node c =
     let s = c.load_node.ensures in
     record {
       kept = kept_then {w₁ = c.loop-k.words} (kept_then (none_kept c.requires.1 c.wipe.ensures) c.loop-k.invariant.2) s.kept;
-      next = subst (Next a.file.now c.load_node.new.1.0 a.n a.t (c.loop-k.k + 1)) c.if-load_node.false s.next;
+      next = subst (Next a.file.now c.load_node.new.words a.n a.t (c.loop-k.k + 1)) c.if-load_node.false s.next;
     }
 
 pub shape_of-words : goal.shape_of-words

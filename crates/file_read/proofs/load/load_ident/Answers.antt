@@ -154,10 +154,10 @@ put_node-requires c =
     let small : x.text < a.t = omega (arith, sound.text (id-text x has), count-texts R.placed) in
     let w = a.words.now in
     let E = c.enter-entered.ensures in
-    let w₁ = c.enter-entered.new.1.0 in
+    let w₁ = c.enter-entered.new.words in
     let count : get_or w₁ 0 0 ≡ get_or w 0 0 = E.first 0 (omega arith) (omega arith) in
     let tree₁ : tree w₁ ≡ tree w = tree-same w w₁ (omega (arith, L.loaded.count, L.less, R.few)) count (λ j l h. E.mid j (omega arith) (omega arith)) in
-    (omega (arith, E.size, L.loaded.listed.long), omega (arith, L.less, R.few), count ∙ L.loaded.count, omega (arith, ap (λ (y : Raw). y.kind) same, sound.kind), omega (arith, flag_small c.same_text.result, c.flag-args.ensures), omega (arith, c.raw_at-x.type-inv))
+    (omega (arith, E.size, L.loaded.listed.long), omega (arith, L.less, R.few), count ∙ L.loaded.count, omega (arith, ap (λ (y : Raw). y.kind) same, sound.kind), omega (arith, flag_small c.same_text.result, c.flag-args.ensures), omega (arith, c.raw_at-x.type_inv))
 
 pub returns-in-At : goal.returns-in-At
 returns-in-At c =
@@ -174,10 +174,10 @@ returns-in-At c =
     let small : x.text < a.t = omega (arith, sound.text (id-text x has), count-texts R.placed) in
     let w = a.words.now in
     let E = c.enter-entered.ensures in
-    let w₁ = c.enter-entered.new.1.0 in
+    let w₁ = c.enter-entered.new.words in
     let count : get_or w₁ 0 0 ≡ get_or w 0 0 = E.first 0 (omega arith) (omega arith) in
     let tree₁ : tree w₁ ≡ tree w = tree-same w w₁ (omega (arith, L.loaded.count, L.less, R.few)) count (λ j l h. E.mid j (omega arith) (omega arith)) in
-    let q = c.entered-1.given.1 in
+    let q = c.in-At.is in
     let C = subst (Case bs w w₁ a.n (raw_of (drop (32 + 16 * a.k) bs))) q E.case in
     let p = c.put_node.ensures in
     let n : c.raw_at-x.result.text ≡ x.text = ap (λ (y : Raw). y.text) same in
@@ -203,8 +203,8 @@ returns-in-Full c =
     let small : x.text < a.t = omega (arith, sound.text (id-text x has), count-texts R.placed) in
     let w = a.words.now in
     let E = c.enter-entered.ensures in
-    let w₁ = c.enter-entered.new.1.0 in
+    let w₁ = c.enter-entered.new.words in
     let count : get_or w₁ 0 0 ≡ get_or w 0 0 = E.first 0 (omega arith) (omega arith) in
     let tree₁ : tree w₁ ≡ tree w = tree-same w w₁ (omega (arith, L.loaded.count, L.less, R.few)) count (λ j l h. E.mid j (omega arith) (omega arith)) in
-    let C = subst (Case bs w w₁ a.n (raw_of (drop (32 + 16 * a.k) bs))) c.enum_told-1.given.1 E.case in
+    let C = subst (Case bs w w₁ a.n (raw_of (drop (32 + 16 * a.k) bs))) c.in-Full.is E.case in
     record { kept = kept-mid E.size E.last; next = over L (rw raw C) }

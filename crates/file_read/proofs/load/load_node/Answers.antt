@@ -115,7 +115,7 @@ pub returns-then-named : goal.returns-then-named
 returns-then-named c = c.load_ident.ensures
 
 pub overflow_cast-kind : goal.overflow_cast-kind
-overflow_cast-kind c = omega (arith, c.raw_at-x.type-inv)
+overflow_cast-kind c = omega (arith, c.raw_at-x.type_inv)
 
 pub overflow_add-k-2 : goal.overflow_add-k-2
 overflow_add-k-2 c =
@@ -150,7 +150,7 @@ put_node-requires-2 c =
     let raw = node-raw a.n a.k bs L.less in
     let same : c.raw_at-x.result ≡ x = c.raw_at-x.ensures ∙ sym raw in
     let sound = node-sound s R.ok a.k (rw nodes-length L.less) in
-    (L.loaded.listed.long, omega (arith, L.less, R.few), L.loaded.count, omega (arith, ap (λ (y : Raw). y.kind) same, sound.kind), omega (arith, ap (λ (y : Raw). y.form) same, sound.form), omega (arith, c.raw_at-x.type-inv))
+    (L.loaded.listed.long, omega (arith, L.less, R.few), L.loaded.count, omega (arith, ap (λ (y : Raw). y.kind) same, sound.kind), omega (arith, ap (λ (y : Raw). y.form) same, sound.form), omega (arith, c.raw_at-x.type_inv))
 
 pub returns : goal.returns
 returns c =

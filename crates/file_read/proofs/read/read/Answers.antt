@@ -9,7 +9,7 @@ pub returns-then-words-lt16384 : goal.returns-then-words-lt16384
 returns-then-words-lt16384 c = read_short c.if-words-lt16384.true
 
 pub returns-in-Script : goal.returns-in-Script
-returns-in-Script c = read-script c.if-words-lt16384.false c.load_file-answer.ensures _ c.answer-1.given.1
+returns-in-Script c = read-script c.if-words-lt16384.false c.load_file-answer.ensures _ c.in-Script.is
 
 pub returns-in-Refused : goal.returns-in-Refused
-returns-in-Refused c = read-refused c.if-words-lt16384.false c.load_file-answer.ensures _ c.answer-in-Refused-1.given.1 c.clear.ensures
+returns-in-Refused c = read-refused c.if-words-lt16384.false c.load_file-answer.ensures _ c.in-Refused.is c.clear.ensures
