@@ -1,21 +1,20 @@
 -- A script's core, node by node, and the words that hold it. Assumes nothing.
 use mathlib.Core.Path.{◌≡◌, refl, sym, ap, ap₂, ◌∙◌, subst}
 use mathlib.Core.Bool.{Bool, true, false, ◌&&◌, ◌||◌, not}
-use mathlib.Core.Logic.{◌⊎◌, inl, inr, ⊎_elim}
-use mathlib.Core.List.{List, [], ◌∷◌, ◌++◌, append_assoc}
+use mathlib.Core.List.{List, [], ◌∷◌, ◌++◌}
 use Prim.Native.Nat.{ℕ, zero, suc, ◌+◌, ◌-◌, ◌*◌, ◌≤◌, ◌<◌}
 use native.Mathlib.Nat.{le_of_suc-le-suc, not-suc-le-zero}
 use native.Mathlib.Decide.{dec_le}
 use native.Mathlib.Numerals.{add-one}
 use native.Mathlib.Omega.{arith}
-use borrow.Author.Tests.{le-leb, lt-leb, ne_eqb}
+use borrow.Author.Tests.{ne_eqb}
 use lib.Dec.{T, eqb, leb, leb→le, ltb, ltb→lt, lit≤}
-use lib.ListN.{length, get_or, drop, take, set, length-set, length-append, length-drop, take-append-drop, get_or-eq_default}
-use lib.Seq.{drop-cons, take-suc, take-length, get_or-set_same, get_or-set_other}
+use lib.ListN.{length, get_or, drop, take, set, length-set, length-append, take-append-drop, get_or-eq_default}
+use lib.Seq.{take-suc, take-length, get_or-set_same, get_or-set_other}
 use Rattle.def_tree.specs.Base.{pick, to_nat}
 use Rattle.def_tree.specs.Tree.{Core, core, no_core}
 use Rattle.words.specs.Tab.{tab, tab-suc, tab-ext}
-use Rattle.words.specs.Layout.{node_of, tree, beyond}
+use Rattle.words.specs.Layout.{node_of, tree}
 use Rattle.words.specs.Moved.{Zeroed}
 use Rattle.words.proofs.Nodes.{core-same, unpack-kind, unpack-form, unpack-arity, beyond-same}
 use Rattle.def_file.specs.declared.Raw.{Raw}
@@ -24,11 +23,11 @@ use Rattle.def_file.specs.declared.kinds.Row.{Row}
 use Rattle.def_file.specs.Kinds.{allows, rows, no_row, row_of, form_ok, count_ok, uses_text, uses_bits}
 use Rattle.def_file.specs.Script.{Script, is_lit, has_id, same_id, known, enter, enter_all, idents, place_of, zero_node, is_arguments}
 use Rattle.def_file.specs.Core.{core_node, core_from, core_nodes}
-use Rattle.def_file.specs.Read.{Place, fields_ok, node_ok, below, fills, nodes_ok, nodes_from}
+use Rattle.def_file.specs.Read.{Place, fields_ok, node_ok, below, fills, nodes_ok}
 use Rattle.file_read.specs.Idents.{ids_of, Listed, Texted}
 use Rattle.file_read.specs.Load.{Appended, script_of, Loaded, Loading, Kept}
-use Rattle.file_fields.proofs.Raws.{nodes-length, node-raw}
-use Rattle.file_fields.proofs.Tests.{is_T, T-is, and_left, and_right}
+use Rattle.file_fields.proofs.Raws.{nodes-length}
+use Rattle.file_fields.proofs.Tests.{is_T, and_left, and_right}
 use Rattle.file_read.proofs.Names.{same_refl, enter-old, enter-new, ids-same, listed_same, texted-same}
 
 -- what row 6 shows of every node

@@ -1,19 +1,18 @@
 -- Identifiers and the list of them in the words. Assumes nothing.
 use mathlib.Core.Path.{◌≡◌, refl, sym, ap, ap₂, ◌∙◌, subst}
-use mathlib.Core.Bool.{Bool, true, false, ◌&&◌, ◌||◌, not}
+use mathlib.Core.Bool.{Bool, true, false, ◌&&◌, ◌||◌}
 use mathlib.Core.List.{List, [], ◌∷◌, ◌++◌}
 use mathlib.Core.Logic.{◌⊎◌, inl, inr, ⊎_elim}
-use Prim.Native.Nat.{ℕ, zero, suc, ◌+◌, ◌-◌, ◌*◌, ◌≤◌, ◌<◌}
-use native.Mathlib.Nat.{le_of_suc-le-suc, not-suc-le-zero, suc_inj, eq-or-lt_of_le}
+use Prim.Native.Nat.{ℕ, zero, suc, ◌+◌, ◌≤◌, ◌<◌}
+use native.Mathlib.Nat.{eq-or-lt_of_le}
 use native.Mathlib.Numerals.{add-one}
 use native.Mathlib.Omega.{arith}
 use borrow.Author.Tests.{eq-eqb, ne_eqb}
 use lib.Dec.{T, eqb, eqb_refl}
-use lib.ListN.{length, get_or, drop, set, length-set, length-append, drop_of_length-le}
+use lib.ListN.{length, get_or, drop, set, length-set, drop_of_length-le}
 use lib.Seq.{drop-cons, drop-drop, get_or-set_same, get_or-set_other}
 use Rattle.def_tree.specs.Base.{pick}
 use Rattle.words.specs.Tab.{same_or_not, tab, tab-suc, tab-ext, length-tab, get_d-tab}
-use Rattle.words.specs.Layout.{Agree}
 use Rattle.def_file.specs.declared.Raw.{Raw}
 use Rattle.def_file.specs.Script.{zero_node, has_id, same_id, known, enter, place_of}
 use Rattle.def_file.specs.Read.{number, u32, raw_of}

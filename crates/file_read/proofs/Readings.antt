@@ -6,28 +6,26 @@ use Prim.Native.Nat.{ℕ, ◌+◌, ◌-◌, ◌*◌, ◌≤◌, ◌<◌}
 use native.Mathlib.Omega.{arith}
 use borrow.Author.Tests.{le-leb, lt-leb}
 use lib.Dec.{leb}
-use lib.ListN.{length, get_or, drop, take}
+use lib.ListN.{length, drop, take}
 use lib.Seq.{take-length}
-use Rattle.words.specs.Layout.{tree}
 use Rattle.words.specs.Moved.{Cleared}
 use Rattle.def_file.specs.Script.{Script, idents, enter_all}
 use Rattle.def_file.specs.Core.{core_nodes}
-use Rattle.def_file.specs.Read.{Read, bad, script, read, u32, header, parts, checked, rising, distinct, nodes_ok, fills, nodes_from, ends_from}
+use Rattle.def_file.specs.Read.{Read, bad, script, read, u32, parts, checked, rising, distinct, nodes_ok, fills, nodes_from, ends_from}
 use Rattle.file_read.specs.declared.header.Header.{Header}
 use Rattle.file_read.specs.declared.header.Head.{Head}
 use Rattle.file_read.specs.declared.header.Head.TheVariants.{Found, Refused as NoHead}
 use Rattle.file_read.specs.declared.read.Answer.{Answer}
-use Rattle.file_read.specs.declared.read.Answer.TheVariants as Answer
 use Rattle.file_preorder.specs.Child.{root_place}
 use Rattle.file_fields.specs.Text.{Placed, texts_of}
 use Rattle.file_read.specs.Idents.{ids_of, Listed}
 use Rattle.file_read.specs.Head.{HeadIs, headed, Headed, Counts}
 use Rattle.file_read.specs.Load.{script_of, Readable, Loaded, Next, Kept}
-use Rattle.file_read.specs.Reading.{CheckIs, Held, counts_of, told, Left, LoadIs, answer_of, After, WordsAre, ReadIs}
+use Rattle.file_read.specs.Reading.{CheckIs, Held, counts_of, told, Left, LoadIs, After, WordsAre, ReadIs}
 use Rattle.file_fields.proofs.Raws.{nodes-length}
 use Rattle.file_fields.proofs.Strings.{count-texts}
 use Rattle.file_read.proofs.Names.{ids-length}
-use Rattle.file_read.proofs.Cores.{core_all, kept_then}
+use Rattle.file_read.proofs.Cores.{core_all}
 
 -- after the header
 pub read-not : {bs : List ℕ} {r : Head} (m : ℕ) → HeadIs bs r → r ≡ NoHead m → read bs ≡ bad m

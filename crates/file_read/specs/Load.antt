@@ -1,9 +1,8 @@
 -- What loading a script's core into the words promises. Assumes nothing: these are definitions.
-use Rattle.std.specs.Prelude.{◌≡◌, Bool, true, false, List, [], ◌∷◌, ◌++◌, ℕ, suc, ◌+◌, ◌*◌, ◌≤◌, ◌<◌, length, get_or, drop, take}
+use Rattle.std.specs.Prelude.{◌≡◌, Bool, true, false, List, [], ◌∷◌, ◌++◌, ℕ, ◌+◌, ◌*◌, ◌≤◌, ◌<◌, length, get_or, drop, take}
 use Rattle.def_tree.specs.Tree.{Core}
 use Rattle.words.specs.Layout.{Agree, tree, beyond}
-use Rattle.def_file.specs.declared.Raw.{Raw}
-use Rattle.def_file.specs.Script.{Script, has_id, enter_all, idents, text_at}
+use Rattle.def_file.specs.Script.{Script, has_id, enter_all, idents}
 use Rattle.def_file.specs.Core.{core_nodes}
 use Rattle.def_file.specs.Read.{nodes_from, raw_of, nodes_ok}
 use Rattle.file_fields.specs.Text.{texts_of, Placed}

@@ -1,5 +1,5 @@
 -- What reading a file promises: the answer is the definition's, and so are the words. Assumes nothing: these are definitions.
-use Rattle.std.specs.Prelude.{◌≡◌, Bool, true, false, List, ℕ, ◌+◌, ◌*◌, leb, length, get_or}
+use Rattle.std.specs.Prelude.{◌≡◌, Bool, true, false, List, ℕ, leb, length, get_or}
 use Rattle.words.specs.Layout.{tree}
 use Rattle.words.specs.Moved.{Cleared}
 use Rattle.def_file.specs.Script.{Script, idents}
@@ -9,7 +9,6 @@ use Rattle.file_read.specs.declared.header.Header.{Header}
 use Rattle.file_read.specs.declared.header.Head.{Head}
 use Rattle.file_read.specs.declared.header.Head.TheVariants.{Found, Refused as NoHead}
 use Rattle.file_read.specs.declared.read.Answer.{Answer}
-use Rattle.file_read.specs.declared.read.Answer.TheVariants as Answer
 use Rattle.file_read.specs.Idents.{ids_of, Listed}
 use Rattle.file_read.specs.Head.{Counts}
 use Rattle.file_read.specs.Load.{Kept, script_of, Readable}

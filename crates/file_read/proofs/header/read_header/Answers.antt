@@ -1,12 +1,9 @@
 -- `file_read::header::read_header` meets its contract: each way out is a row of the definition. Assumes nothing.
-use mathlib.Core.Path.{◌≡◌, refl, sym, ap, ◌∙◌}
-use native.Mathlib.Omega.{arith}
+use mathlib.Core.Path.{◌≡◌, sym, ◌∙◌}
 use Rattle.file_read.proofs.Heads.{row3, row4, head-short, head-version, head-counts, head-sums, head-found, few, whole_length}
 use lib.ListN.{length}
-use mathlib.Core.Bool.{Bool}
 use Rattle.def_file.specs.Read.{u32}
 use Rattle.file_read.proofs.Heads.{ap₃, same4}
-use borrow.Author.Rules.{rules}
 use Rattle.file_read.proofs.header.read_header.Goals as goal
 
 pub returns-then-len-lt32 : goal.returns-then-len-lt32

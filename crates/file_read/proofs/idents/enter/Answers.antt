@@ -1,16 +1,14 @@
 -- `file_read::idents::enter` meets its contract: a known identifier changes nothing, a new one is listed last. Assumes nothing.
-use mathlib.Core.Path.{◌≡◌, refl, sym, ap, ap₂, ◌∙◌, subst}
+use mathlib.Core.Path.{◌≡◌, refl, sym, ap, ◌∙◌}
 use native.Mathlib.Omega.{arith}
-use mathlib.Core.Logic.{inl, inr}
-use mathlib.Core.List.{List, [], ◌∷◌, ◌++◌}
-use Prim.Native.Nat.{ℕ, ◌+◌, ◌-◌, ◌*◌, ◌≤◌, ◌<◌}
-use lib.ListN.{length, get_or, drop, set, length-set, length-append}
+use mathlib.Core.List.{[], ◌∷◌, ◌++◌}
+use Prim.Native.Nat.{ℕ, ◌+◌, ◌-◌, ◌*◌, ◌<◌}
+use lib.ListN.{get_or, drop, set, length-set, length-append}
 use Rattle.def_file.specs.declared.Raw.{Raw}
-use Rattle.def_file.specs.Script.{place_of, enter}
+use Rattle.def_file.specs.Script.{place_of}
 use Rattle.def_file.specs.Read.{raw_of}
 use Rattle.file_read.specs.Idents.{numbered, ids_of}
 use Rattle.file_read.proofs.Names.{text-field, ids-length, ids-same, listed_same, first_count, first-list, known-yes, known-no, enter-old, enter-new, place-new, more-size, more-other, more-ids, more-count, more-listed, more-texted}
-use borrow.Author.Rules.{rules}
 use Rattle.file_read.proofs.idents.enter.Goals as goal
 
 minus : (k : ℕ) → k + 1 - 1 ≡ k

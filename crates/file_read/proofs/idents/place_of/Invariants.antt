@@ -1,15 +1,10 @@
 -- `file_read::idents::place_of` meets its contract. The invariant: none of the first j has the identifier. Assumes nothing.
-use mathlib.Core.Path.{◌≡◌, refl, sym, ap, ap₂, ◌∙◌, subst}
-use mathlib.Core.Bool.{false}
-use mathlib.Core.Logic.{inl, inr}
-use native.Mathlib.Omega.{arith}
-use Prim.Native.Nat.{ℕ, suc, ◌+◌, ◌-◌, ◌*◌, ◌≤◌, ◌<◌}
-use lib.ListN.{length, get_or, drop}
-use Rattle.def_file.specs.Script.{zero_node, same_id, place_of}
+use mathlib.Core.Path.{◌≡◌}
+use Prim.Native.Nat.{◌+◌, ◌-◌, ◌≤◌}
+use lib.ListN.{drop}
+use Rattle.def_file.specs.Script.{place_of}
 use Rattle.def_file.specs.Read.{raw_of}
-use Rattle.file_read.specs.Idents.{numbered, ids_of}
-use Rattle.file_read.proofs.Names.{text-field, ids-length, ids_at, place-hit, place-miss, place_end, place-skip, text-other}
-use borrow.Author.Rules.{rules}
+use Rattle.file_read.specs.Idents.{ids_of}
 use Rattle.file_read.proofs.idents.place_of.Given as goal
 
 abbrev pub invariant-loop-j : goal.invariant-loop-j

@@ -1,13 +1,8 @@
 -- `file_read::idents::same_id` meets its contract: text and context are those of the two nodes. Assumes nothing.
-use mathlib.Core.Path.{◌≡◌, refl, sym, ap, ap₂, ◌∙◌, subst}
-use native.Mathlib.Omega.{arith}
-use mathlib.Core.Bool.{Bool, true, false, ◌&&◌}
-use borrow.Author.Tests.{eq-eqb, ne_eqb}
+use mathlib.Core.Path.{sym, ap₂, ◌∙◌}
+use mathlib.Core.Bool.{Bool}
 use lib.Dec.{eqb}
-use lib.ListN.{length, get_or, drop}
-use Rattle.def_file.specs.Read.{number, u32, raw_of}
 use Rattle.file_read.proofs.Names.{same_by, same_not}
-use borrow.Author.Rules.{rules}
 use Rattle.file_read.proofs.idents.same_id.Goals as goal
 
 pub returns-then-u32_at : goal.returns-then-u32_at

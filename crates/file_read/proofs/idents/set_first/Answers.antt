@@ -4,7 +4,6 @@ use native.Mathlib.Omega.{arith}
 use Prim.Native.Nat.{◌+◌}
 use lib.ListN.{get_or, set, length-set}
 use lib.Seq.{get_or-set_same, get_or-set_other}
-use borrow.Author.Rules.{rules}
 use Rattle.file_read.proofs.idents.set_first.Goals as goal
 
 pub returns-then-words-t-eq0 : goal.returns-then-words-t-eq0

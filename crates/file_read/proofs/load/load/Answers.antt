@@ -1,11 +1,10 @@
 -- `file_read::load::load` meets its contract. The invariant: the first k nodes are loaded. Assumes nothing.
-use mathlib.Core.Path.{◌≡◌, refl, sym, ap, ◌∙◌, subst}
+use mathlib.Core.Path.{◌≡◌, refl, subst}
 use native.Mathlib.Omega.{arith}
-use Prim.Native.Nat.{ℕ, ◌+◌, ◌-◌, ◌≤◌, ◌<◌}
-use lib.ListN.{length, length-set}
-use Rattle.file_read.specs.Load.{Loaded, Kept, Next}
+use Prim.Native.Nat.{ℕ, ◌+◌}
+use lib.ListN.{length-set}
+use Rattle.file_read.specs.Load.{Loaded, Next}
 use Rattle.file_read.proofs.Cores.{none-loaded, none_kept, kept_then}
-use borrow.Author.Rules.{rules}
 use Rattle.file_read.proofs.load.load.Goals as goal
 
 pub bounds-words-0 : goal.bounds-words-0

@@ -1,11 +1,6 @@
 -- `file_read::load::load` meets its contract. The invariant: the first k nodes are loaded. Assumes nothing.
-use mathlib.Core.Path.{◌≡◌, refl, sym, ap, ◌∙◌, subst}
-use native.Mathlib.Omega.{arith}
-use Prim.Native.Nat.{ℕ, ◌+◌, ◌-◌, ◌≤◌, ◌<◌}
-use lib.ListN.{length, length-set}
-use Rattle.file_read.specs.Load.{Loaded, Kept, Next}
-use Rattle.file_read.proofs.Cores.{none-loaded, none_kept, kept_then}
-use borrow.Author.Rules.{rules}
+use Prim.Native.Nat.{◌-◌, ◌≤◌}
+use Rattle.file_read.specs.Load.{Loaded, Kept}
 use Rattle.file_read.proofs.load.load.Given as goal
 
 abbrev pub invariant-loop-k : goal.invariant-loop-k

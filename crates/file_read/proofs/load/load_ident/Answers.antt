@@ -1,18 +1,16 @@
 -- `file_read::load::load_ident` meets its contract: the node has the number of its identifier, which is entered where it is new. Assumes nothing.
-use mathlib.Core.Path.{◌≡◌, refl, sym, ap, ap₂, ◌∙◌, subst}
+use mathlib.Core.Path.{◌≡◌, sym, ap, ◌∙◌, subst}
 use native.Mathlib.Omega.{arith}
-use Prim.Native.Nat.{ℕ, ◌+◌, ◌-◌, ◌*◌, ◌≤◌, ◌<◌}
-use lib.ListN.{length, get_or, drop}
-use Rattle.def_tree.specs.Tree.{core}
+use Prim.Native.Nat.{ℕ, ◌+◌, ◌*◌, ◌<◌}
+use lib.ListN.{get_or, drop}
 use Rattle.def_file.specs.declared.Raw.{Raw}
-use Rattle.def_file.specs.Script.{zero_node, has_id, is_lit}
-use Rattle.def_file.specs.Read.{raw_of, nodes_from}
+use Rattle.def_file.specs.Script.{zero_node, has_id}
+use Rattle.def_file.specs.Read.{raw_of}
 use Rattle.file_read.specs.Load.{script_of}
 use Rattle.file_fields.proofs.Raws.{nodes-length, node-raw}
-use Rattle.file_read.proofs.Cores.{node-sound, loaded-more, core-id, kept_by, kept_then, id-text, over, number-final}
-use Rattle.file_fields.proofs.Tests.{is_T}
+use Rattle.file_read.proofs.Cores.{node-sound, loaded-more, kept_by, kept_then, id-text, over, number-final}
 use Rattle.file_fields.proofs.Strings.{count-texts, text-is}
-use mathlib.Core.Bool.{true, false}
+use mathlib.Core.Bool.{true}
 use Rattle.words.specs.Layout.{tree}
 use Rattle.words.proofs.Nodes.{tree-same}
 use Rattle.file_read.specs.Idents.{ids_of, Case}
@@ -22,7 +20,6 @@ use mathlib.Core.List.{List}
 use Rattle.def_tree.specs.Base.{to_nat}
 use Rattle.file_fields.specs.Text.{text_in}
 use Rattle.file_read.proofs.Cores.{core-ident, flag_small}
-use borrow.Author.Rules.{rules}
 use Rattle.file_read.proofs.load.load_ident.Goals as goal
 
 pub overflow_mul-k : goal.overflow_mul-k

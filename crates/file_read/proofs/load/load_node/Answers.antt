@@ -1,19 +1,17 @@
 -- `file_read::load::load_node` meets its contract: a literal, an identifier or another node is loaded as the core has it. Assumes nothing.
-use mathlib.Core.Path.{◌≡◌, refl, sym, ap, ap₂, ◌∙◌, subst}
+use mathlib.Core.Path.{◌≡◌, refl, sym, ap, ◌∙◌}
 use native.Mathlib.Omega.{arith}
-use Prim.Native.Nat.{ℕ, ◌+◌, ◌-◌, ◌*◌, ◌≤◌, ◌<◌}
-use lib.ListN.{length, get_or, drop}
+use Prim.Native.Nat.{◌+◌}
+use lib.ListN.{get_or}
 use Rattle.def_tree.specs.Tree.{core}
 use Rattle.def_file.specs.declared.Raw.{Raw}
 use Rattle.def_file.specs.Script.{zero_node, has_id, is_lit}
-use Rattle.def_file.specs.Read.{raw_of, nodes_from}
 use Rattle.file_read.specs.Load.{script_of}
 use Rattle.file_fields.proofs.Raws.{nodes-length, node-raw}
 use Rattle.file_read.proofs.Cores.{node-sound, loaded-more, core-lit, core-plain, enter-none, kept_by}
 use Rattle.file_fields.proofs.Tests.{is_T}
 use mathlib.Core.Bool.{true, false}
 use Rattle.file_read.proofs.Cores.{lit-no-id}
-use borrow.Author.Rules.{rules}
 use Rattle.file_read.proofs.load.load_node.Goals as goal
 
 pub overflow_mul-k : goal.overflow_mul-k

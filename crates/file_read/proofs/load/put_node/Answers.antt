@@ -2,7 +2,6 @@
 use native.Mathlib.Omega.{arith}
 use lib.ListN.{length-set}
 use Rattle.file_read.proofs.Cores.{appended}
-use borrow.Author.Rules.{rules}
 use Rattle.file_read.proofs.load.put_node.Goals as goal
 
 pub bounds-words-k-2 : goal.bounds-words-k-2

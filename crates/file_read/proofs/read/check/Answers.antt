@@ -1,12 +1,10 @@
 -- `file_read::read::check` meets its contract: each way out is a row of the definition. Assumes nothing.
-use mathlib.Core.Path.{◌≡◌, refl, sym, ap, ◌∙◌}
+use mathlib.Core.Path.{◌≡◌, refl, sym, ◌∙◌}
 use native.Mathlib.Omega.{arith}
 use Rattle.file_read.proofs.Readings.{read-not, counts, falls, twice, placed, not-nodes, passed}
 use Rattle.file_read.specs.Reading.{CheckIs}
 use Rattle.file_read.specs.declared.header.Head.{Head}
 use Rattle.file_read.specs.declared.header.Head.TheVariants.{Found, Refused}
-use mathlib.Core.Path.{subst}
-use borrow.Author.Rules.{rules}
 use Rattle.file_read.proofs.read.check.Goals as goal
 
 pub returns-in_default : goal.returns-in_default

@@ -1,9 +1,8 @@
 -- `file_read::read::load_file` meets its contract. Assumes nothing.
-use mathlib.Core.Path.{◌≡◌, refl, sym, ap, ◌∙◌, subst}
+use mathlib.Core.Path.{subst}
 use Rattle.file_read.specs.Load.{Next}
 use Rattle.file_read.specs.Reading.{CheckIs}
 use Rattle.file_read.proofs.Readings.{loaded-script, loaded-over, loaded-not}
-use borrow.Author.Rules.{rules}
 use Rattle.file_read.proofs.read.load_file.Goals as goal
 
 pub load-requires : goal.load-requires

@@ -1,8 +1,5 @@
 -- `file_read::read::read` meets its contract. Assumes nothing.
-use mathlib.Core.Path.{◌≡◌, refl, sym, ap, ◌∙◌, subst}
-use native.Mathlib.Omega.{arith}
 use Rattle.file_read.proofs.Readings.{read-script, read-refused, read_short}
-use borrow.Author.Rules.{rules}
 use Rattle.file_read.proofs.read.read.Goals as goal
 
 pub returns-then-words-lt16384 : goal.returns-then-words-lt16384
