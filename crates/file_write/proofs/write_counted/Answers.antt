@@ -9,14 +9,14 @@ use borrow.Author.Rules.{rules}
 use Rattle.file_write.proofs.write_counted.Goals as goal
 
 pub overflow_cast-m : goal.overflow_cast-m
-overflow_cast-m c = omega (arith, c.shared_slice_known-3-1.given 0)
+overflow_cast-m c = omega (arith, c.type_inv.words 0)
 
 pub returns-then-m-eq0 : goal.returns-then-m-eq0
 returns-then-m-eq0 c =
     let a = c.args in
     let bs = a.file.now in
     let w = a.words.now in
-    let r = a.result.now in
+    let r = a.res.now in
     laid.left_so (result_bytes bs w) r (fitted bs w (length r)) 9 (laid.fit_none bs w (length r) c.if-m-eq0.true)
 
 pub returns-then-m-gt1024 : goal.returns-then-m-gt1024
@@ -24,7 +24,7 @@ returns-then-m-gt1024 c =
     let a = c.args in
     let bs = a.file.now in
     let w = a.words.now in
-    let r = a.result.now in
+    let r = a.res.now in
     let l : 1 ≤ get_or w 0 0 = omega arith in
     laid.left_so (result_bytes bs w) r (fitted bs w (length r)) 9 (laid.fit-many bs w (length r) l c.if-m-gt1024.true)
 
@@ -33,7 +33,7 @@ returns-then-res-total c =
     let a = c.args in
     let bs = a.file.now in
     let w = a.words.now in
-    let r = a.result.now in
+    let r = a.res.now in
     let K = c.requires in
     let l : 1 ≤ get_or w 0 0 = omega arith in
     let h : get_or w 0 0 ≤ 1024 = omega arith in
@@ -46,6 +46,6 @@ returns c =
     let w = a.words.now in
     let some : 1 ≤ get_or w 0 0 = omega (arith, c.if-m-eq0) in
     let few : get_or w 0 0 ≤ 1024 = omega (arith, c.if-m-gt1024) in
-    let r₁ = c.put_head.new.0 in
-    laid.all-wrote a.file.now w a.result.now a.n a.t a.b c.requires some few c.if-res-total.false r₁ c.put_nodes.new.1.1.1.0 c.copy.new.1.1.0 (length r₁)
-    c.put_head.auto.0 c.put_head.ensures c.put_nodes.ensures c.copy.ensures
+    let r₁ = c.put_head.new.b in
+    laid.all-wrote a.file.now w a.res.now a.n a.t a.b c.requires some few c.if-res-total.false r₁ c.put_nodes.new.out c.copy.new.dst (length r₁)
+    c.put_head.auto.b c.put_head.ensures c.put_nodes.ensures c.copy.ensures

@@ -13,7 +13,7 @@ pub returns-then-words-at : goal.returns-then-words-at
 returns-then-words-at c = let a = c.args in c.zero_node-then-words-at.ensures ∙ sym (backs.ident-out a.file.now a.words.now a.i c.if-words-i.false c.if-words-at.true)
 
 pub overflow_cast-words : goal.overflow_cast-words
-overflow_cast-words c = omega (arith, c.shared_slice_known-4-1.given (15504 + c.args.i))
+overflow_cast-words c = omega (arith, c.type_inv.words (15504 + c.args.i))
 
 pub returns : goal.returns
 returns c = let a = c.args in c.node_in.ensures ∙ sym (backs.ident-there a.file.now a.words.now a.i c.if-words-i.false)

@@ -25,7 +25,7 @@ loop-k-preserved c =
     let l = c.loop-k in
     let a = c.args in
     let f : ℕ → Raw = λ j. back_in a.file.now a.words.now (node_of a.words.now j) in
-    (omega arith, c.put_raw.auto.0 ∙ l.invariant.1, backs.nodes-more f l.k a.out.now c.back-x.result l.invariant.2 c.back-x.ensures c.put_raw.ensures)
+    (omega arith, c.put_raw.auto.b ∙ l.invariant.1, backs.nodes-more f l.k a.out.now c.back-x.result l.invariant.2 c.back-x.ensures c.put_raw.ensures)
 
 pub returns : goal.returns
 returns c =
