@@ -14,11 +14,6 @@ pub loop-k-init : goal.loop-k-init
 unfolding heads
 loop-k-init c = (omega arith, refl)
 
-pub overflow_cast-result : goal.overflow_cast-result
-overflow_cast-result c =
-    let w = c.args.w.now in
-    omega (arith, c.shared_slice_known-then-w-k-ge3-1.given (7184 + (c.loop-k.k - 1) * 4 + 1))
-
 pub returns-then-w-k-ge3 : goal.returns-then-w-k-ge3
 returns-then-w-k-ge3 c =
     let w = c.args.w.now in
