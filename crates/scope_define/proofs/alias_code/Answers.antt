@@ -8,4 +8,4 @@ use borrow.Author.Rules.{rules}
 use Rattle.scope_define.proofs.alias_code.Goals as goal
 
 pub returns-in-AliasOf : goal.returns-in-AliasOf
-returns-in-AliasOf c = ap alias_at (add-one c.type_code.result) ∙ ap some c.type_code.ensures.0 ∙ sym (ap alias_of c.a-1.given.1)
+returns-in-AliasOf c = ap alias_at (add-one c.type_code.result) ∙ ap some c.type_code.ensures.0 ∙ sym (ap alias_of c.in-AliasOf.is)

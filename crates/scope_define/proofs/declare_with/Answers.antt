@@ -16,7 +16,7 @@ use borrow.Author.Rules.{rules}
 use Rattle.scope_define.proofs.declare_with.Goals as goal
 
 pub prevent_if-requires : goal.prevent_if-requires
-prevent_if-requires c = let g = rw c.enum_told-1.given.1 at c.put_declared.ensures in g.0.good
+prevent_if-requires c = c.in-Done.ensures.0.good
 
 pub returns-in-Refused : goal.returns-in-Refused
 returns-in-Refused c =
@@ -29,7 +29,7 @@ returns-in-Refused c =
     let keep : Bool → Option Tree → Option Tree = λ t old. pick t old (value_of xs) in
     let same = declares.same-declared a.x (stack w) (ap keep c.is_seen-seen.ensures ∙ sym (declares.kept-is a.v xs sized)) c.mark-p.ensures c.mark-u.ensures c.type_code-k.ensures.0 c.alias_code-a.ensures in
     let o = declares.over-with a.x f (some a.target) a.prevented a.undefined (type_of a.kind) (alias_of a.alias) a.looped a.barred (stack w) in
-    let g = rw (c.n-1.given.1, same) at c.put_declared.ensures in
+    let g = rw same at c.in-Refused.ensures in
     (g.0, o ∙ g.1, g.2)
 
 pub shape_of-w-in-Done : goal.shape_of-w-in-Done
@@ -46,5 +46,5 @@ returns-in-Done c =
     let keep : Bool → Option Tree → Option Tree = λ t old. pick t old (value_of xs) in
     let same = declares.same-declared a.x (stack w) (ap keep c.is_seen-seen.ensures ∙ sym (declares.kept-is a.v xs sized)) c.mark-p.ensures c.mark-u.ensures c.type_code-k.ensures.0 c.alias_code-a.ensures in
     let o = declares.over-with a.x f (some a.target) a.prevented a.undefined (type_of a.kind) (alias_of a.alias) a.looped a.barred (stack w) in
-    let g = rw (c.enum_told-1.given.1, same) at c.put_declared.ensures in
+    let g = rw same at c.in-Done.ensures in
     (declares.three-marks a.x a.target a.looped a.barred st g.0 c.prevent_if.ensures c.prevent_if-in-Done.ensures c.prevent_if-in-Done-2.ensures, o ∙ g.1)
