@@ -40,7 +40,7 @@ loop-j-preserved c =
     let same = record_same w₀ w j (λ k l h. i.3.0 k l (omega (arith, c.requires.4))) (i.3.1 (8080 + j) (omega arith) (omega (arith, c.requires.4))) in
     let s : hoist_one (record_at w j) (stack w) ≡ hoist_up (λ k. record_at w₀ k) a (j + 1 - a) (stack w₀) = rw (n, q, same, i.4.is) refl in
     let t : end_up (λ k. record_at w₀ k) a (j + 1 - a) (stack w₀) ≡ end_up (λ k. record_at w₀ k) a (j - a) (stack w₀) + end_one (record_at w j) (stack w) = rw (n, q, same, i.4.is) refl in
-    (omega arith, omega arith, e.2, (λ k l h. e.1.0 k (omega arith) h ∙ i.3.0 k (omega arith) h, λ k l h. e.1.1 k (omega arith) h ∙ i.3.1 k (omega arith) h), becomes-then i.4 (rw s at e.0), c.hoist_one-n.auto.w ∙ i.5, e.3 ∙ i.6, c.wrapping_add_u32-ended.ensures ∙ more c.loop-j.ended c.hoist_one-n.result (end_up (λ k. record_at w₀ k) a (j - a) (stack w₀)) (end_one (record_at w j) (stack w)) (end_up (λ k. record_at w₀ k) a (j + 1 - a) (stack w₀)) i.7 e.4 t)
+    (omega arith, omega arith, e.2, (λ k l h. e.1.0 k (omega arith) h ∙ i.3.0 k (omega arith) h, λ k l h. e.1.1 k (omega arith) h ∙ i.3.1 k (omega arith) h), becomes-then i.4 (rw s at e.0), c.hoist_one-n.auto.w ∙ i.5, e.3 ∙ i.6, c.wrapping_add_u32-ended.ensures.value ∙ more c.loop-j.ended c.hoist_one-n.result (end_up (λ k. record_at w₀ k) a (j - a) (stack w₀)) (end_one (record_at w j) (stack w)) (end_up (λ k. record_at w₀ k) a (j + 1 - a) (stack w₀)) i.7 e.4 t)
   where
     more : (s r x y z : ℕ) → s ≡ x % 4294967296 → r ≡ y → z ≡ x + y → (s + r) % 4294967296 ≡ z % 4294967296
     more s r x y z p q t = omega (arith, p, q, t)

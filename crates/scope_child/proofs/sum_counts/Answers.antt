@@ -15,7 +15,7 @@ loop-j-smaller c = omega arith
 pub loop-j-preserved : goal.loop-j-preserved
 loop-j-preserved c =
     let i = c.loop-j.invariant in
-    (omega arith, omega arith, c.wrapping_add_u32-sum.ensures ∙ sum_more c.args.w.now c.args.a c.loop-j.j c.loop-j.sum i.0 i.2)
+    (omega arith, omega arith, c.wrapping_add_u32-sum.ensures.value ∙ sum_more c.args.w.now c.args.a c.loop-j.j c.loop-j.sum i.0 i.2)
 
 pub returns : goal.returns
 returns c = let e : c.loop-j.j ≡ c.args.e = omega arith in rw e at c.loop-j.invariant.2
