@@ -14,10 +14,8 @@ use Rattle.words.proofs.Nodes.{tree-length}
 use Rattle.laws_roundtrip.proofs.Nodes.{node-bytes-length}
 use Rattle.file_read.specs.declared.header.Header.{Header}
 use Rattle.file_read.specs.declared.header.Head.{Head}
-use Rattle.file_read.specs.declared.header.Head.TheVariants as Head
 use Rattle.file_read.specs.Head.{headed, Counts, Headed, HeadIs}
 use Rattle.file_write.specs.declared.Written.{Written}
-use Rattle.file_write.specs.declared.Written.TheVariants as Written
 use Rattle.file_write.specs.Back.{back_in}
 use Rattle.file_write.specs.Written.{Answer, refused, wrote, total, in_room, fitted, written, result_bytes, left, Wrote, Counted, none, behind}
 

@@ -4,7 +4,6 @@ use Rattle.def_file.specs.Read.{Read, bad, script, u32, header}
 use Rattle.def_file.specs.Write.{head_bytes, node_bytes}
 use Rattle.words.specs.Layout.{tree}
 use Rattle.file_write.specs.declared.Written.{Written}
-use Rattle.file_write.specs.declared.Written.TheVariants as Written
 use Rattle.file_write.specs.Back.{back_in, Source}
 
 -- document 01's number of a refusal, or the result's length

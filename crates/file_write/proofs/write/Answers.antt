@@ -2,7 +2,6 @@
 use lib.ListN.{length}
 use Rattle.file_write.specs.Written.{written, result_bytes}
 use Rattle.file_write.proofs.Laid as laid
-use borrow.Author.Rules.{rules}
 use Rattle.file_write.proofs.write.Goals as goal
 
 pub returns-then-words-lt16384 : goal.returns-then-words-lt16384

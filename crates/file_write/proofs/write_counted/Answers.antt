@@ -5,7 +5,6 @@ use native.Mathlib.Omega.{arith}
 use lib.ListN.{length, get_or}
 use Rattle.file_write.specs.Written.{fitted, total, result_bytes}
 use Rattle.file_write.proofs.Laid as laid
-use borrow.Author.Rules.{rules}
 use Rattle.file_write.proofs.write_counted.Goals as goal
 
 pub overflow_cast-m : goal.overflow_cast-m

@@ -1,7 +1,6 @@
 -- A node turned back, by its kind. Assumes nothing.
 use Rattle.file_write.proofs.Backs as backs
 use Rattle.words.specs.Layout.{node_of}
-use borrow.Author.Rules.{rules}
 use Rattle.file_write.proofs.nodes.back.Goals as goal
 
 pub returns-then-literal : goal.returns-then-literal

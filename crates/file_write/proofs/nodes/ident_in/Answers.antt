@@ -3,7 +3,6 @@ use mathlib.Core.Path.{sym, ◌∙◌}
 use Prim.Native.Nat.{◌+◌}
 use native.Mathlib.Omega.{arith}
 use Rattle.file_write.proofs.Backs as backs
-use borrow.Author.Rules.{rules}
 use Rattle.file_write.proofs.nodes.ident_in.Goals as goal
 
 pub returns-then-words-i : goal.returns-then-words-i

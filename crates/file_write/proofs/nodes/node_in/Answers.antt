@@ -2,7 +2,6 @@
 use mathlib.Core.Path.{sym, ◌∙◌}
 use native.Mathlib.Omega.{arith}
 use Rattle.file_write.proofs.Backs as backs
-use borrow.Author.Rules.{rules}
 use Rattle.file_write.proofs.nodes.node_in.Goals as goal
 
 pub overflow_sub-m : goal.overflow_sub-m

@@ -1,9 +1,9 @@
 -- Node by node. Assumes nothing.
 use mathlib.Core.Path.{◌≡◌, refl, sym, ap, ◌∙◌}
-use Prim.Native.Nat.{ℕ, ◌-◌, ◌≤◌}
+use Prim.Native.Nat.{ℕ}
 use mathlib.Core.List.{List}
 use native.Mathlib.Omega.{arith}
-use lib.ListN.{length, get_or}
+use lib.ListN.{get_or}
 use lib.Seq.{sets}
 use Rattle.def_file.specs.declared.Raw.{Raw}
 use Rattle.def_file.specs.Write.{node_bytes}
@@ -11,7 +11,6 @@ use Rattle.words.specs.Tab.{tab}
 use Rattle.words.specs.Layout.{node_of}
 use Rattle.file_write.specs.Back.{back_in}
 use Rattle.file_write.proofs.Backs as backs
-use borrow.Author.Rules.{rules}
 use Rattle.file_write.proofs.nodes.put_nodes.Goals as goal
 
 pub overflow_cast-count : goal.overflow_cast-count

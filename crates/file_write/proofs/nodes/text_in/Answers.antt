@@ -2,7 +2,6 @@
 use mathlib.Core.Path.{sym, ap, ◌∙◌}
 use Rattle.def_file.specs.declared.Raw.{Raw}
 use Rattle.file_write.proofs.Backs as backs
-use borrow.Author.Rules.{rules}
 use Rattle.file_write.proofs.nodes.text_in.Goals as goal
 
 pub returns-then-kept : goal.returns-then-kept

@@ -1,11 +1,9 @@
 -- A copy, byte by byte. Assumes nothing.
 use mathlib.Core.Path.{◌≡◌, refl}
 use native.Mathlib.Omega.{arith}
-use Prim.Native.Nat.{◌-◌, ◌≤◌}
-use lib.ListN.{length, drop, length-set}
-use lib.Seq.{paste, paste-zero}
+use lib.ListN.{drop, length-set}
+use lib.Seq.{paste-zero}
 use Rattle.file_write.proofs.Stores as stores
-use borrow.Author.Rules.{rules}
 use Rattle.file_write.proofs.put.copy.Goals as goal
 
 pub loop-j-init : goal.loop-j-init

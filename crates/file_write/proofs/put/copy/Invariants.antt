@@ -1,11 +1,8 @@
 -- A copy, byte by byte. Assumes nothing.
-use mathlib.Core.Path.{◌≡◌, refl}
-use native.Mathlib.Omega.{arith}
+use mathlib.Core.Path.{◌≡◌}
 use Prim.Native.Nat.{◌-◌, ◌≤◌}
-use lib.ListN.{length, drop, length-set}
-use lib.Seq.{paste, paste-zero}
-use Rattle.file_write.proofs.Stores as stores
-use borrow.Author.Rules.{rules}
+use lib.ListN.{length, drop}
+use lib.Seq.{paste}
 use Rattle.file_write.proofs.put.copy.Given as goal
 
 abbrev pub invariant-loop-j : goal.invariant-loop-j

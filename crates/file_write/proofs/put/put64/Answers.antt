@@ -1,6 +1,5 @@
 -- Two halves. Assumes nothing.
 use Rattle.file_write.proofs.Stores as stores
-use borrow.Author.Rules.{rules}
 use Rattle.file_write.proofs.put.put64.Goals as goal
 
 pub returns : goal.returns

@@ -1,7 +1,6 @@
 -- A byte. Assumes nothing.
 use native.Mathlib.Omega.{arith}
 use Rattle.file_write.proofs.Stores as stores
-use borrow.Author.Rules.{rules}
 use Rattle.file_write.proofs.put.put8.Goals as goal
 
 pub returns : goal.returns

@@ -3,7 +3,6 @@ use mathlib.Core.Path.{refl}
 use Prim.Native.Nat.{◌+◌, ◌*◌}
 use Rattle.def_file.specs.Write.{bytes}
 use Rattle.file_write.proofs.Stores as stores
-use borrow.Author.Rules.{rules}
 use Rattle.file_write.proofs.put.put_head.Goals as goal
 
 pub returns : goal.returns
