@@ -1,6 +1,6 @@
 -- The tree's nodes in the working words: what the functions here keep, and what they turn the list of nodes into. `put_at` and `cut_at` are
 -- what `put` and `cut_first` with `set_arity` of the walk on the list do to the nodes. Assumes nothing: these are definitions.
-use Rattle.std.specs.Prelude.{◌≡◌, List, [], ◌∷◌, ◌++◌, ℕ, zero, suc, ◌+◌, ◌-◌, ◌≤◌, ◌<◌, ltb, length, get_or, take, drop, set}
+use Rattle.std.specs.Prelude.{◌≡◌, List, [], ◌++◌, ℕ, ◌+◌, ◌-◌, ◌≤◌, ◌<◌, ltb, length, get_or, take, drop, set}
 use Rattle.def_tree.specs.Base.{pick}
 use Rattle.def_tree.specs.Tree.{Tree, Forest, count, counts, Core, no_core, flat, flats, take_f, plant, first_t}
 use Rattle.def_tree.specs.Combine.{re_arity}

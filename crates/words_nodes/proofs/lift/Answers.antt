@@ -1,8 +1,6 @@
 -- A second child copied over its parent, and the end of the tree moved. Assumes nothing.
 use mathlib.Core.Path.{◌≡◌}
-use Prim.Native.Nat.{◌-◌}
 use native.Mathlib.Omega.{arith}
-use borrow.Author.Rules.{rules}
 use lib.ListN.{get_or}
 use Rattle.words_nodes.proofs.Splice.{lift-room, lift-done}
 use Rattle.words_nodes.proofs.lift.Goals as goal
@@ -28,7 +26,7 @@ shift-requires c = omega (arith, c.requires.3, lift-room c.requires.0 c.requires
 pub slide-requires : goal.slide-requires
 slide-requires c =
     let r = lift-room c.requires.0 c.requires.1 in
-    let n : get_or c.shift.new.0 0 0 ≡ get_or c.args.w.now 0 0 = c.shift.ensures.low 0 (omega arith) in
+    let n : get_or c.shift.new.w 0 0 ≡ get_or c.args.w.now 0 0 = c.shift.ensures.low 0 (omega arith) in
     omega (arith, c.shift.ensures.size, c.requires.2, c.requires.3)
 
 pub returns : goal.returns

@@ -1,7 +1,5 @@
 -- A node packed and stored. Assumes nothing.
-use Prim.Native.Nat.{◌-◌}
 use native.Mathlib.Omega.{arith}
-use borrow.Author.Rules.{rules}
 use lib.ListN.{length-set}
 use Rattle.words_nodes.proofs.Splice.{node-stored}
 use Rattle.words_nodes.proofs.put_node.Goals as goal

@@ -1,7 +1,5 @@
 -- A place made and a recorded value copied there. Assumes nothing.
-use Prim.Native.Nat.{◌-◌}
 use native.Mathlib.Omega.{arith}
-use borrow.Author.Rules.{rules}
 use Rattle.words_nodes.proofs.Splice.{room, run-spliced, run-done}
 use Rattle.words_nodes.proofs.put_run.Goals as goal
 

@@ -1,36 +1,33 @@
 -- A recorded value in the place of a subtree: row 8, then row 9, then the copy. Assumes nothing.
 use mathlib.Core.Path.{◌≡◌, refl}
-use Prim.Native.Nat.{◌+◌, ◌-◌, ◌≤◌, ◌<◌}
+use mathlib.Core.List.{List}
+use Prim.Native.Nat.{ℕ, ◌+◌, ◌-◌, ◌≤◌, ◌<◌}
 use native.Mathlib.Omega.{arith}
-use borrow.Author.Rules.{rules}
 use lib.ListN.{get_or}
 use Rattle.def_tree.specs.Tree.{count}
 use Rattle.def_pass.specs.Tree.{height}
-use Rattle.words.specs.Layout.{tree}
+use Rattle.words.specs.Layout.{tree, run}
 use Rattle.words_nodes.specs.Nodes.{tree_from, value_from}
 use Rattle.words_nodes.proofs.Splice.{run-count, run-trees}
 use Rattle.words_nodes.proofs.Rows.{row-8, row-9, row-0}
 use Rattle.words_nodes.proofs.Words.{store-drop, store-tree}
 use Rattle.words_nodes.proofs.replace_at.Goals as goal
 
--- the value is low enough
-measured : (c : tie.After-enum-told) → let a = c.before.before.before.before.before.before.args in height (value_from a.w.now a.base a.at a.m) ≤ 201 - a.p
-measured c =
-    let a = c.before.before.before.before.before.before.args in
-    let high : (c.enum_told.given.0.0 ≡ a.at + count (value_from a.w.now a.base a.at a.m)) × (height (value_from a.w.now a.base a.at a.m) ≤ 201 - a.p) = rw (c.enum_told.given.1, store-tree a.w.now a.base (a.at + a.m) a.at a.m refl) at c.before.before.within-height.ensures in
-    high.1
+-- what the measurement says of the value
+low_enough : (w : List ℕ) (base at m p e : ℕ) → (e ≡ at + count (tree_from (run w base 0 (at + m)) at)) × (height (tree_from (run w base 0 (at + m)) at) ≤ 201 - p) → height (value_from w base at m) ≤ 201 - p
+low_enough w base at m p e h = (rw (store-tree w base (at + m) at m refl) at h).1
 
 pub within_height-r-requires : goal.within_height-r-requires
 within_height-r-requires c = (c.requires.4, omega (arith, c.requires.5), rw (store-drop c.args.w.now c.args.base (c.args.at + c.args.m) c.args.at c.args.m refl) (run-trees c.args.w.now c.args.base c.args.at c.args.m c.requires.5 c.requires.6))
 
 pub returns-in_default : goal.returns-in_default
 returns-in_default c =
-    let high : 201 - c.args.p < height (value_from c.args.w.now c.args.base c.args.at c.args.m) = rw (c.enum_told-in_default-1.given.1, store-tree c.args.w.now c.args.base (c.args.at + c.args.m) c.args.at c.args.m refl) at c.within_height-r.ensures in
+    let high : 201 - c.args.p < height (value_from c.args.w.now c.args.base c.args.at c.args.m) = let m : 201 - c.args.p < height (tree_from (run c.args.w.now c.args.base 0 (c.args.at + c.args.m)) c.args.at) = c.in_default.ensures in rw (store-tree c.args.w.now c.args.base (c.args.at + c.args.m) c.args.at c.args.m refl) at m in
     (row-8 c.args.p (get_or c.args.w.now 0 0) (tree_from (tree c.args.w.now) c.args.i) (value_from c.args.w.now c.args.base c.args.at c.args.m) (omega (arith, c.requires.2)), omega arith, refl)
 
 pub returns-then-old-n : goal.returns-then-old-n
 returns-then-old-n c =
-    let high = measured c in
+    let high = low_enough c.args.w.now c.args.base c.args.at c.args.m c.args.p _ c.in-Behind.ensures in
     let n = run-count c.args.w.now c.args.base c.args.at c.args.m c.requires.5 c.requires.6 in
     let eo : c.skip.result - c.args.i ≡ count (tree_from (tree c.args.w.now) c.args.i) = omega (arith, c.skip.ensures.0) in
     (row-9 c.args.p (get_or c.args.w.now 0 0) (tree_from (tree c.args.w.now) c.args.i) (value_from c.args.w.now c.args.base c.args.at c.args.m) (omega (arith, c.requires.2)) (omega (arith, c.if-old-n.true)), omega arith, refl)
@@ -42,7 +39,7 @@ put_run-requires c =
 
 pub returns : goal.returns
 returns c =
-    let high = measured c in
+    let high = low_enough c.args.w.now c.args.base c.args.at c.args.m c.args.p _ c.in-Behind.ensures in
     let n = run-count c.args.w.now c.args.base c.args.at c.args.m c.requires.5 c.requires.6 in
     let eo : c.skip.result - c.args.i ≡ count (tree_from (tree c.args.w.now) c.args.i) = omega (arith, c.skip.ensures.0) in
     (row-0 c.args.p (get_or c.args.w.now 0 0) (tree_from (tree c.args.w.now) c.args.i) (value_from c.args.w.now c.args.base c.args.at c.args.m) (omega (arith, c.requires.2)) (omega (arith, c.if-old-n.false)), c.put_run.ensures)

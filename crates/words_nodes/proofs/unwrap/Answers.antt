@@ -1,13 +1,13 @@
 -- A node replaced by its second child, measured first. Assumes nothing.
 use mathlib.Core.Path.{◌≡◌, refl}
-use Prim.Native.Nat.{◌+◌, ◌-◌, ◌≤◌, ◌<◌}
+use mathlib.Core.List.{List}
+use Prim.Native.Nat.{ℕ, ◌+◌, ◌-◌, ◌≤◌, ◌<◌}
 use native.Mathlib.Omega.{arith}
-use borrow.Author.Rules.{rules}
 use lib.ListN.{get_or, drop}
 use Rattle.def_tree.specs.Tree.{count}
 use Rattle.def_tree.proofs.Whole.{whole_drop}
 use Rattle.def_pass.specs.Tree.{height}
-use Rattle.words.specs.Layout.{tree}
+use Rattle.words.specs.Layout.{tree, run}
 use Rattle.words_nodes.specs.Nodes.{tree_from}
 use Rattle.words_nodes.proofs.Splice.{outer-in, inner-in, lift-room}
 use Rattle.words_nodes.proofs.Rows.{row-8, row-0}
@@ -15,9 +15,9 @@ use Rattle.words_nodes.proofs.Trees.{whole-trees}
 use Rattle.words_nodes.proofs.Words.{tree-whole, tree-run}
 use Rattle.words_nodes.proofs.unwrap.Goals as goal
 
--- the child is low enough, and ends where the measurement ended
-measured : (c : tie.After-r) → let a = c.before.before.before.before.before.before.args in (c.r.given.0.0 ≡ a.j + count (tree_from (tree a.w.now) a.j)) × (height (tree_from (tree a.w.now) a.j) ≤ 201 - a.p)
-measured c = rw (c.r.given.1, tree-run c.before.before.before.before.before.before.args.w.now) at c.before.before.within-height.ensures
+-- what the measurement says of the child
+measured : (w : List ℕ) (j p e : ℕ) → (e ≡ j + count (tree_from (run w 16 0 (get_or w 0 0)) j)) × (height (tree_from (run w 16 0 (get_or w 0 0)) j) ≤ 201 - p) → (e ≡ j + count (tree_from (tree w) j)) × (height (tree_from (tree w) j) ≤ 201 - p)
+measured w j p e h = rw (tree-run w) at h
 
 pub within_height-r-requires : goal.within_height-r-requires
 within_height-r-requires c =
@@ -27,20 +27,20 @@ within_height-r-requires c =
 
 pub returns-in_default : goal.returns-in_default
 returns-in_default c =
-    let high : 201 - c.args.p < height (tree_from (tree c.args.w.now) c.args.j) = rw (c.enum_told-1.given.1, tree-run c.args.w.now) at c.within_height-r.ensures in
+    let high : 201 - c.args.p < height (tree_from (tree c.args.w.now) c.args.j) = let m : 201 - c.args.p < height (tree_from (run c.args.w.now 16 0 (get_or c.args.w.now 0 0)) c.args.j) = c.in_default.ensures in rw (tree-run c.args.w.now) at m in
     (row-8 c.args.p (get_or c.args.w.now 0 0) (tree_from (tree c.args.w.now) c.args.i) (tree_from (tree c.args.w.now) c.args.j) (omega (arith, c.requires.2)), omega arith, refl)
 
 pub skip-requires : goal.skip-requires
 skip-requires c = (c.requires.0, outer-in c.requires.0 c.requires.1)
 
 pub overflow_sub-e : goal.overflow_sub-e
-overflow_sub-e c = omega (arith, (measured c).0)
+overflow_sub-e c = omega (arith, (measured c.args.w.now c.args.j c.args.p c.in-Behind.e c.in-Behind.ensures).0)
 
 pub lift-requires : goal.lift-requires
-lift-requires c = (c.requires.0, c.requires.1, omega (arith, c.skip.ensures.0), omega (arith, (measured c).0))
+lift-requires c = (c.requires.0, c.requires.1, omega (arith, c.skip.ensures.0), omega (arith, (measured c.args.w.now c.args.j c.args.p c.in-Behind.e c.in-Behind.ensures).0))
 
 pub returns : goal.returns
 returns c =
     let r = lift-room c.requires.0 c.requires.1 in
-    let high = measured c in
+    let high = measured c.args.w.now c.args.j c.args.p c.in-Behind.e c.in-Behind.ensures in
     (row-0 c.args.p (get_or c.args.w.now 0 0) (tree_from (tree c.args.w.now) c.args.i) (tree_from (tree c.args.w.now) c.args.j) (omega (arith, c.requires.2)) (omega arith), c.lift.ensures)
