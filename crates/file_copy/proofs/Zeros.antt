@@ -10,6 +10,7 @@ use lib.Dec.{T, eqb, leb, leb→le, ltb}
 use lib.ListN.{length, get_or}
 use Rattle.def_tree.specs.Base.{pick}
 use Rattle.def_file.specs.declared.Raw.{Raw}
+use Rattle.def_file.specs.declared.kinds.Class.TheVariants.{Root}
 use Rattle.def_file.specs.declared.kinds.Row.{Row}
 use Rattle.def_file.specs.Kinds.{allows, row_of, form_ok, count_ok, uses_text, uses_bits}
 use Rattle.def_file.specs.Script.{Script, has_id, zero_node}
@@ -93,7 +94,7 @@ filled t (p ∷ ps) (x ∷ xs) e (suc k) h = go (node_ok t p x) e (λ z. filled 
 
 pub node-zeros : (s : Script) → nodes_ok s ≡ true → (k : ℕ) → k < length s.nodes → Zeros (get_or s.nodes k zero_node)
 unfolding nodes_ok
-node-zeros s e k h = filled (length s.texts) _ s.nodes e k h
+node-zeros s e k h = filled (length s.texts) (record { class = Root; left = 200 } ∷ []) s.nodes e k h
 
 -- a kind that is no literal's
 not-lit : (k m : ℕ) → (leb 22 m && leb m 25) ≡ true → (leb 22 k && leb k 25) ≡ false → eqb k m ≡ false
