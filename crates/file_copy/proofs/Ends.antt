@@ -15,12 +15,11 @@ use Rattle.laws_roundtrip.proofs.Nodes.{nodes-length}
 use Rattle.laws_roundtrip.proofs.Round.{Found, found}
 use Rattle.file_read.specs.declared.header.Header.{Header}
 use Rattle.file_read.specs.declared.read.Answer.{Answer}
-use Rattle.file_read.specs.declared.read.Answer.TheVariants as Answer
 use Rattle.file_read.specs.Idents.{Listed}
 use Rattle.file_read.specs.Load.{Kept}
 use Rattle.file_read.specs.Reading.{Held, told, After, WordsAre as ReadWords, ReadIs}
 use Rattle.file_write.specs.declared.Written.{Written}
-use Rattle.file_write.specs.Written.{Answer as Said, refused, wrote, says, in_room, written, left, result_bytes, Wrote}
+use Rattle.file_write.specs.Written.{Answer as Said, refused, says, in_room, written, left, result_bytes, Wrote}
 use Rattle.file_write.proofs.Tied.{result_script, wrote-file}
 use Rattle.file_copy.specs.declared.Copied.{Copied}
 use Rattle.file_copy.specs.Copy.{roomed, ending, numbers, WordsAre, CopyIs}

@@ -1,6 +1,5 @@
 -- `file_copy::negbosun_copy` meets its contract. Assumes nothing.
 use Rattle.file_copy.proofs.Ends as ends
-use borrow.Author.Rules.{rules}
 use Rattle.file_copy.proofs.negbosun_copy.Goals as goal
 
 pub clear-requires : goal.clear-requires
