@@ -1,23 +1,21 @@
 -- A visitor's field stored, and what the words stand for then. Assumes nothing.
 use mathlib.Core.Path.{◌≡◌, refl, sym, ap, ◌∙◌}
 use mathlib.Core.List.{List}
-use mathlib.Core.Logic.{◌⊎◌, inl, inr, ⊎_elim}
 use Prim.Native.Nat.{ℕ, ◌≤◌, ◌<◌}
 use native.Mathlib.Omega.{arith}
 use lib.ListN.{length, get_or, set, length-set}
 use lib.Seq.{get_or-set_same, get_or-set_other}
-use Rattle.def_tree.specs.Combine.{Flat}
-use Rattle.words.specs.Layout.{Agree, yes, tree, beyond}
+use Rattle.words.specs.Layout.{yes, tree}
 use Rattle.words.proofs.Nodes.{tree-same, tree-length, beyond-same}
 use mathlib.Core.Bool.{Bool}
 use Rattle.def_tree.specs.Tree.{Core}
 use Rattle.def_pass.specs.Scope.{Stack, VarType}
-use Rattle.def_pass.specs.Walk.{St, PatMode, set_stack, set_changed, set_inlining, set_is_first_run, set_var_decl_kind, set_pat_mode, set_in_test, set_conds, set_nodes}
-use Rattle.words_scopes.specs.State.{Good, Becomes, stack, var_type_of, targeted}
+use Rattle.def_pass.specs.Walk.{St, PatMode, set_stack, set_nodes}
+use Rattle.words_scopes.specs.State.{Becomes, stack, var_type_of, targeted}
 use Rattle.words_scopes.proofs.Words.{targeted-same}
 use Rattle.words_nodes.specs.Nodes.{Planted, Replants}
 use Rattle.words_nodes.proofs.Apart.{Beside, beside-stack, beside-good, becomes-planted}
-use Rattle.words_state.specs.State.{mode_of, rest, abs, Ok, Turns}
+use Rattle.words_state.specs.State.{mode_of, rest, Ok, Turns}
 
 -- one word of 5 to 13 stored
 module _ (w : List ℕ) (P : Planted w) (k v : ℕ) (lo : 5 ≤ k) (hi : k ≤ 13) where

@@ -1,7 +1,6 @@
 -- `words_state::set_is_first_run` meets its contract: word 7 alone changes. Assumes nothing.
 use native.Mathlib.Omega.{arith}
 use mathlib.Core.Path.{ap}
-use borrow.Author.Rules.{rules}
 use Rattle.words.specs.Layout.{yes}
 use Rattle.words_scopes.specs.State.{var_type_of}
 use Rattle.words_state.specs.State.{mode_of, rest}
