@@ -1,5 +1,5 @@
 -- Declared, and nothing is taken out. Assumes nothing.
-use Rattle.scope.proofs.Given as goal
+use Rattle.scope.proofs.Given as given
 use Rattle.scope_var_info.specs.Handles.{tree_o}
 use mathlib.Core.Bool.{false}
 use Rattle.walk_declarator.proofs.Acts as acts
@@ -13,9 +13,9 @@ use borrow.Author.Rules.{rules}
 use Rattle.walk_declarator.proofs.after_bare.Goals as goal
 
 pub returns-in-Refused : goal.returns-in-Refused
-returns-in-Refused c = ends.after_stop (type_of c.args.kind) (named c.args.f c.args.x) c.args.q 0 c.args.i c.args.j (acts.moves-by (ends.bare-here c.args.f c.args.x (type_of c.args.kind) (tree c.args.w.now) c.args.i (rest c.args.w.now)) (acts.moves-stop (λ u. ret false) (rw c.n-1.given.1 at (rw (goal.init-none (tree_o (tree c.args.w.now) 0)) at c.declare_m.ensures))))
+returns-in-Refused c = ends.after_stop (type_of c.args.kind) (named c.args.f c.args.x) c.args.q 0 c.args.i c.args.j (acts.moves-by (ends.bare-here c.args.f c.args.x (type_of c.args.kind) (tree c.args.w.now) c.args.i (rest c.args.w.now)) (acts.moves-stop (λ u. ret false) (rw (given.init-none (tree_o (tree c.args.w.now) 0)) at c.in-Refused.ensures)))
 
 pub returns-in-Done : goal.returns-in-Done
 returns-in-Done c =
-    let p = (rw c.enum_told-1.given.1 at (rw (goal.init-none (tree_o (tree c.args.w.now) 0)) at c.declare_m.ensures)) in
+    let p = (rw (given.init-none (tree_o (tree c.args.w.now) 0)) at c.in-Done.ensures) in
     ends.after_kept (type_of c.args.kind) (named c.args.f c.args.x) c.args.q 0 c.args.i c.args.j c.requires.1 (acts.moves-by (ends.bare-here c.args.f c.args.x (type_of c.args.kind) (tree c.args.w.now) c.args.i (rest c.args.w.now)) (acts.moves-then (λ u. ret false) p (acts.moves-self p.ok.planted false)))

@@ -4,7 +4,7 @@ use borrow.Author.Rules.{rules}
 use Rattle.walk_declarator.proofs.answer.Goals as goal
 
 pub returns-in-Done : goal.returns-in-Done
-returns-in-Done c = λ s. rw c.enum_told-1.given.1 refl
+returns-in-Done c = λ s. rw c.in-Done.is refl
 
 pub returns-in-Refused : goal.returns-in-Refused
-returns-in-Refused c = λ s. rw c.r-1.given.1 refl
+returns-in-Refused c = λ s. rw c.in-Refused.is refl

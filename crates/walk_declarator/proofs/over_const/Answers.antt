@@ -27,7 +27,7 @@ returns-then-is_cheap c =
     let t = tree_from (tree w) c.args.e in
     let r = parts.rest-first w ∙ flag-set (get_or w 7 0) c.if-w-eq0.false in
     let q = ap (λ (b : Bool). pick b (some t) none) (sym c.is_cheap.ensures ∙ c.if-is_cheap.true) in
-    acts.moves-by (parts.const-first c.args.x (rest w) t (some t) q r) (acts.grown-moves (add_const (targeted w) c.args.x (some t)) c.requires.0 c.add_const.auto.0 c.add_const.result (rw (numbers.tree-in w c.args.e c.requires.1) at c.add_const.ensures))
+    acts.moves-by (parts.const-first c.args.x (rest w) t (some t) q r) (acts.grown-moves (add_const (targeted w) c.args.x (some t)) c.requires.0 c.add_const.auto.w c.add_const.result (rw (numbers.tree-in w c.args.e c.requires.1) at c.add_const.ensures))
 
 pub returns : goal.returns
 unfolding rest
@@ -36,4 +36,4 @@ returns c =
     let t = tree_from (tree w) c.args.e in
     let r = parts.rest-first w ∙ flag-set (get_or w 7 0) c.if-w-eq0.false in
     let q = ap (λ (b : Bool). pick b (some t) none) (sym c.is_cheap.ensures ∙ c.if-is_cheap.false) in
-    acts.moves-by (parts.const-first c.args.x (rest w) t none q r) (acts.grown-moves (add_const (targeted w) c.args.x none) c.requires.0 c.add_const-2.auto.0 c.add_const-2.result c.add_const-2.ensures)
+    acts.moves-by (parts.const-first c.args.x (rest w) t none q r) (acts.grown-moves (add_const (targeted w) c.args.x none) c.requires.0 c.add_const-2.auto.w c.add_const-2.result c.add_const-2.ensures)

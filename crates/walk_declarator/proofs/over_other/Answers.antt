@@ -1,5 +1,5 @@
 -- Declared, and then marked if its value has a `this`. Assumes nothing.
-use Rattle.scope.proofs.Given as goal
+use Rattle.scope.proofs.Given as given
 use Rattle.scope_define.specs.declared.Init.TheVariants.{Seen}
 use mathlib.Core.Path.{sym, ap, ◌∙◌}
 use mathlib.Core.List.{List}
@@ -24,25 +24,25 @@ declare_m-requires c = c.requires.0
 
 pub has_this-test-requires : goal.has_this-test-requires
 has_this-test-requires c =
-    let p = (rw c.enum_told-1.given.1 at c.declare_m.ensures) in
+    let p = c.in-Done.ensures in
     (p.ok.planted, rw (acts.moves-count p) c.requires.1)
 
 pub prevent_if-requires : goal.prevent_if-requires
 prevent_if-requires c =
-    let p = (rw c.enum_told-1.given.1 at c.declare_m.ensures) in
+    let p = c.in-Done.ensures in
     p.ok.planted
 
 pub shape_of-w-in-Refused : goal.shape_of-w-in-Refused
-shape_of-w-in-Refused c = c.declare_m.auto.0
+shape_of-w-in-Refused c = c.declare_m.auto.w
 
 pub returns-in-Refused : goal.returns-in-Refused
-returns-in-Refused c = acts.moves-by (parts.other-then c.args.f c.args.x (type_of c.args.kind) (tree_from (tree c.args.w.now) c.args.e) (rest c.args.w.now)) (acts.moves-stop (λ (u : Nothing). when (has_this (tree_from (tree c.args.w.now) c.args.e)) (mark (prevent_inline c.args.x)) >> ret (has_this (tree_from (tree c.args.w.now) c.args.e))) (rw c.n-1.given.1 at (rw (sym (goal.init-in c.args.w.now c.args.e Seen c.requires.1)) at c.declare_m.ensures)))
+returns-in-Refused c = acts.moves-by (parts.other-then c.args.f c.args.x (type_of c.args.kind) (tree_from (tree c.args.w.now) c.args.e) (rest c.args.w.now)) (acts.moves-stop (λ (u : Nothing). when (has_this (tree_from (tree c.args.w.now) c.args.e)) (mark (prevent_inline c.args.x)) >> ret (has_this (tree_from (tree c.args.w.now) c.args.e))) (rw (sym (given.init-in c.args.w.now c.args.e Seen c.requires.1)) at c.in-Refused.ensures))
 
 pub shape_of-w-in-Done : goal.shape_of-w-in-Done
-shape_of-w-in-Done c = c.prevent_if.auto.0 ∙ c.declare_m.auto.0
+shape_of-w-in-Done c = c.prevent_if.auto.w ∙ c.declare_m.auto.w
 
 pub returns-in-Done : goal.returns-in-Done
 returns-in-Done c =
-    let p = (rw c.enum_told-1.given.1 at (rw (sym (goal.init-in c.args.w.now c.args.e Seen c.requires.1)) at c.declare_m.ensures)) in
+    let p = (rw (sym (given.init-in c.args.w.now c.args.e Seen c.requires.1)) at c.in-Done.ensures) in
     let e = c.has_this-test.ensures ∙ ap (λ (ns : List Core). has_this (tree_from ns c.args.e)) p.nodes in
     rw (sym e) at (acts.moves-by (parts.other-then c.args.f c.args.x (type_of c.args.kind) (tree_from (tree c.args.w.now) c.args.e) (rest c.args.w.now)) (acts.moves-then (λ (u : Nothing). when (has_this (tree_from (tree c.args.w.now) c.args.e)) (mark (prevent_inline c.args.x)) >> ret (has_this (tree_from (tree c.args.w.now) c.args.e))) p (acts.moves-then (λ u. ret (has_this (tree_from (tree c.args.w.now) c.args.e))) (rw e at c.prevent_if.ensures) (acts.moves-self c.prevent_if.ensures.ok.planted (has_this (tree_from (tree c.args.w.now) c.args.e))))))

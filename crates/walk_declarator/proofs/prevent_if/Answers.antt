@@ -9,7 +9,7 @@ use borrow.Author.Rules.{rules}
 use Rattle.walk_declarator.proofs.prevent_if.Goals as goal
 
 pub returns-then-test : goal.returns-then-test
-returns-then-test c = acts.moves-by (ap (λ (b : Bool). when b (mark (prevent_inline c.args.x)) (rest c.args.w.now)) c.if-test.true) (acts.mark-moves (prevent_inline c.args.x) c.requires c.prevent_inline.auto.0 c.prevent_inline.ensures)
+returns-then-test c = acts.moves-by (ap (λ (b : Bool). when b (mark (prevent_inline c.args.x)) (rest c.args.w.now)) c.if-test.true) (acts.mark-moves (prevent_inline c.args.x) c.requires c.prevent_inline.auto.w c.prevent_inline.ensures)
 
 pub returns-else-test : goal.returns-else-test
 returns-else-test c = acts.moves-by (ap (λ (b : Bool). when b (mark (prevent_inline c.args.x)) (rest c.args.w.now)) c.if-test.false) (acts.moves-self c.requires tt)

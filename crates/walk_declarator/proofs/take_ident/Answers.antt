@@ -1,5 +1,5 @@
 -- Declared again, or nothing. Assumes nothing.
-use Rattle.scope.proofs.Given as goal
+use Rattle.scope.proofs.Given as given
 use Rattle.scope_define.specs.declared.Init.TheVariants.{Recorded}
 use mathlib.Core.Path.{refl, sym, ◌∙◌}
 use Rattle.walk_declarator.proofs.Acts as acts
@@ -17,10 +17,10 @@ pub declare_m-requires : goal.declare_m-requires
 declare_m-requires c = c.requires.0
 
 pub shape_of-w-then-is_ident : goal.shape_of-w-then-is_ident
-shape_of-w-then-is_ident c = c.declare_m.auto.0
+shape_of-w-then-is_ident c = c.declare_m.auto.w
 
 pub returns-then-is_ident : goal.returns-then-is_ident
-returns-then-is_ident c = acts.moves-by (parts.ident-yes c.args.f c.args.x (type_of c.args.kind) (tree_from (tree c.args.w.now) c.args.e) (rest c.args.w.now) (sym c.is_ident.ensures ∙ c.if-is_ident.true)) (rw (sym (goal.init-in c.args.w.now c.args.e Recorded c.requires.1)) at c.declare_m.ensures)
+returns-then-is_ident c = acts.moves-by (parts.ident-yes c.args.f c.args.x (type_of c.args.kind) (tree_from (tree c.args.w.now) c.args.e) (rest c.args.w.now) (sym c.is_ident.ensures ∙ c.if-is_ident.true)) (rw (sym (given.init-in c.args.w.now c.args.e Recorded c.requires.1)) at c.declare_m.ensures)
 
 pub shape_of-w : goal.shape_of-w
 shape_of-w c = refl

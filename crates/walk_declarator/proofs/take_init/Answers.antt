@@ -16,19 +16,19 @@ take_ident-requires c = (c.requires.0, c.requires.1)
 
 pub take_or_mark-requires : goal.take_or_mark-requires
 take_or_mark-requires c =
-    let p = (rw c.enum_told-1.given.1 at c.take_ident.ensures) in
+    let p = c.in-Done.ensures in
     (p.ok.planted, rw (acts.moves-count p) c.requires.1)
 
 pub shape_of-w-in-Refused : goal.shape_of-w-in-Refused
-shape_of-w-in-Refused c = c.take_ident.auto.0
+shape_of-w-in-Refused c = c.take_ident.auto.w
 
 pub returns-in-Refused : goal.returns-in-Refused
-returns-in-Refused c = acts.moves-by (parts.init-then c.args.f c.args.x (type_of c.args.kind) (tree_from (tree c.args.w.now) c.args.e) (rest c.args.w.now)) (acts.moves-stop (λ (u : Nothing). take_or_mark c.args.f c.args.x (type_of c.args.kind) (tree_from (tree c.args.w.now) c.args.e)) (rw c.n-1.given.1 at c.take_ident.ensures))
+returns-in-Refused c = acts.moves-by (parts.init-then c.args.f c.args.x (type_of c.args.kind) (tree_from (tree c.args.w.now) c.args.e) (rest c.args.w.now)) (acts.moves-stop (λ (u : Nothing). take_or_mark c.args.f c.args.x (type_of c.args.kind) (tree_from (tree c.args.w.now) c.args.e)) c.in-Refused.ensures)
 
 pub shape_of-w-in-Done : goal.shape_of-w-in-Done
-shape_of-w-in-Done c = c.take_or_mark.auto.0 ∙ c.take_ident.auto.0
+shape_of-w-in-Done c = c.take_or_mark.auto.w ∙ c.take_ident.auto.w
 
 pub returns-in-Done : goal.returns-in-Done
 returns-in-Done c =
-    let p = (rw c.enum_told-1.given.1 at c.take_ident.ensures) in
+    let p = c.in-Done.ensures in
     acts.moves-by (parts.init-then c.args.f c.args.x (type_of c.args.kind) (tree_from (tree c.args.w.now) c.args.e) (rest c.args.w.now)) (acts.moves-then (λ (u : Nothing). take_or_mark c.args.f c.args.x (type_of c.args.kind) (tree_from (tree c.args.w.now) c.args.e)) p (rw p.nodes at c.take_or_mark.ensures))

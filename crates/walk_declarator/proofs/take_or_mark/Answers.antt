@@ -25,7 +25,7 @@ pub prevent_if-requires : goal.prevent_if-requires
 prevent_if-requires c = c.requires.0
 
 pub shape_of-w-then-is_inline_prevented : goal.shape_of-w-then-is_inline_prevented
-shape_of-w-then-is_inline_prevented c = c.prevent_if.auto.0
+shape_of-w-then-is_inline_prevented c = c.prevent_if.auto.w
 
 pub returns-then-is_inline_prevented : goal.returns-then-is_inline_prevented
 returns-then-is_inline_prevented c = acts.moves-by (parts.marked c.args.f c.args.x (type_of c.args.kind) (tree_from (tree c.args.w.now) c.args.e) (rest c.args.w.now) (ap (λ (st : Stack). is_inline_prevented (tree_from (tree c.args.w.now) c.args.e) st) (acts.rest-stack c.args.w.now) ∙ ap (λ (o : Option Tree). prevented_o o (stack c.args.w.now)) (sym (numbers.tree-in c.args.w.now c.args.e c.requires.1)) ∙ sym c.is_inline_prevented.ensures ∙ c.if-is_inline_prevented.true)) (acts.moves-then (λ u. ret false) c.prevent_if.ensures (acts.moves-self c.prevent_if.ensures.ok.planted false))
@@ -34,7 +34,7 @@ pub take_value-requires : goal.take_value-requires
 take_value-requires c = (c.requires.0, c.requires.1)
 
 pub shape_of-w : goal.shape_of-w
-shape_of-w c = c.take_value.auto.0
+shape_of-w c = c.take_value.auto.w
 
 pub returns : goal.returns
 returns c = acts.moves-by (parts.unmarked c.args.f c.args.x (type_of c.args.kind) (tree_from (tree c.args.w.now) c.args.e) (rest c.args.w.now) (ap (λ (st : Stack). is_inline_prevented (tree_from (tree c.args.w.now) c.args.e) st) (acts.rest-stack c.args.w.now) ∙ ap (λ (o : Option Tree). prevented_o o (stack c.args.w.now)) (sym (numbers.tree-in c.args.w.now c.args.e c.requires.1)) ∙ sym c.is_inline_prevented.ensures ∙ c.if-is_inline_prevented.false)) c.take_value.ensures

@@ -27,7 +27,7 @@ pub read_cnt-requires : goal.read_cnt-requires
 read_cnt-requires c = c.requires.0.good
 
 pub returns-in-Nothing : goal.returns-in-Nothing
-returns-in-Nothing c = sym (parts.wants-once c.args.x (stack c.args.w.now) (tree_from (tree c.args.w.now) c.args.e) (sym c.is_cheap.ensures ∙ c.if-is_cheap.false) (sym c.ident_prevented.ensures ∙ c.if-ident_prevented.false) ∙ ap parts.once_o (sym c.read_cnt.ensures ∙ ap count_of c.enum_told-1.given.1))
+returns-in-Nothing c = sym (parts.wants-once c.args.x (stack c.args.w.now) (tree_from (tree c.args.w.now) c.args.e) (sym c.is_cheap.ensures ∙ c.if-is_cheap.false) (sym c.ident_prevented.ensures ∙ c.if-ident_prevented.false) ∙ ap parts.once_o (sym c.in-Nothing.ensures))
 
 pub returns-in-Reads : goal.returns-in-Reads
-returns-in-Reads c = sym (parts.wants-once c.args.x (stack c.args.w.now) (tree_from (tree c.args.w.now) c.args.e) (sym c.is_cheap.ensures ∙ c.if-is_cheap.false) (sym c.ident_prevented.ensures ∙ c.if-ident_prevented.false) ∙ ap parts.once_o (sym c.read_cnt.ensures ∙ ap count_of c.n-1.given.1))
+returns-in-Reads c = sym (parts.wants-once c.args.x (stack c.args.w.now) (tree_from (tree c.args.w.now) c.args.e) (sym c.is_cheap.ensures ∙ c.if-is_cheap.false) (sym c.ident_prevented.ensures ∙ c.if-ident_prevented.false) ∙ ap parts.once_o (sym c.in-Reads.ensures))

@@ -12,19 +12,18 @@ use Rattle.walk_ident.proofs.enter.Goals as goal
 
 pub set_var_decl_kind-requires : goal.set_var_decl_kind-requires
 set_var_decl_kind-requires c =
-    let g = rw c.enum_told-1.given.1 at c.open_kind.ensures in
+    let g = c.in-Done.ensures in
     becomes-planted c.requires g.0
 
 pub returns-in-Refused : goal.returns-in-Refused
 returns-in-Refused c =
     let w = c.args.w.now in
-    let g = rw c.n-1.given.1 at c.open_kind.ensures in
-    let n = c.n-1.given.0.0 in
-    record { ok = still-ok c.requires c.open_kind.auto.0 g.2; acts = laws.acts-stop _ (scopes.enter-full w (scope_kind_of c.args.kind) g.1 ∙ ap stop (sym g.0)) (omega (arith, g.0)) }
+    let g = c.in-Refused.ensures in
+    record { ok = still-ok c.requires c.open_kind.auto.w g.2; acts = laws.acts-stop _ (scopes.enter-full w (scope_kind_of c.args.kind) g.1 ∙ ap stop (sym g.0)) (omega (arith, g.0)) }
 
 pub returns-in-Done : goal.returns-in-Done
 returns-in-Done c =
     let w = c.args.w.now in
-    let g = rw c.enum_told-1.given.1 at c.open_kind.ensures in
-    let t = laws.then_turns (set_var_decl_kind v_var) (becomes-turns c.requires c.open_kind.auto.0 g.0) c.set_var_decl_kind.ensures in
+    let g = c.in-Done.ensures in
+    let t = laws.then_turns (set_var_decl_kind v_var) (becomes-turns c.requires c.open_kind.auto.w g.0) c.set_var_decl_kind.ensures in
     record { ok = t.ok; acts = laws.acts-done _ (scopes.enter-open w (scope_kind_of c.args.kind) g.1) (laws.turns-abs t) }

@@ -16,4 +16,4 @@ pub add_read-requires : goal.add_read-requires
 add_read-requires c = c.test_read.ensures.good
 
 pub returns : goal.returns
-returns c = idents.analysed c.requires.0 c.requires.1 c.ident_at-x.ensures c.form_at-f.ensures (c.add_read.auto.0 ∙ c.test_read.auto.0) c.test_read.ensures c.add_read.ensures
+returns c = idents.analysed c.requires.0 c.requires.1 c.ident_at-x.ensures c.form_at-f.ensures (c.add_read.auto.w ∙ c.test_read.auto.w) c.test_read.ensures c.add_read.ensures

@@ -20,10 +20,10 @@ pub overflow_add-i : goal.overflow_add-i
 overflow_add-i c = omega (arith, c.requires.0.good.nodes, c.requires.1, c.requires.5)
 
 pub landed-requires : goal.landed-requires
-landed-requires c = (rw c.enum_told-1.given.1 at (numbers.puts-swapped c.args.w.now c.args.p c.args.i (held (constant_at (abs c.args.w.now) c.args.i)) c.put_constant.result _ (find_constant c.ident_at-x.result (stack c.args.w.now)) c.requires.1 (fates.const-now c.args.w.now c.args.i c.ident_at-x.result c.requires.1 c.ident_at-x.ensures (omega (arith, c.requires.3, c.requires.4))) c.put_constant.ensures.0)).1.planted
+landed-requires c = (numbers.puts-swapped c.args.w.now c.args.p c.args.i (held (constant_at (abs c.args.w.now) c.args.i)) _ _ (find_constant c.ident_at-x.result (stack c.args.w.now)) c.requires.1 (fates.const-now c.args.w.now c.args.i c.ident_at-x.result c.requires.1 c.ident_at-x.ensures (omega (arith, c.requires.3, c.requires.4))) c.in-Done.ensures.0).1.planted
 
 pub returns-in-Refused : goal.returns-in-Refused
-returns-in-Refused c = laws.goes-stop c.args.w.now _ c.args.p c.args.i (held (constant_at (abs c.args.w.now) c.args.i)) c.requires.0 c.requires.1 changes refl (rw c.n-1.given.1 at (numbers.puts-swapped c.args.w.now c.args.p c.args.i (held (constant_at (abs c.args.w.now) c.args.i)) c.put_constant.result _ (find_constant c.ident_at-x.result (stack c.args.w.now)) c.requires.1 (fates.const-now c.args.w.now c.args.i c.ident_at-x.result c.requires.1 c.ident_at-x.ensures (omega (arith, c.requires.3, c.requires.4))) c.put_constant.ensures.0))
+returns-in-Refused c = laws.goes-stop c.args.w.now _ c.args.p c.args.i (held (constant_at (abs c.args.w.now) c.args.i)) c.requires.0 c.requires.1 changes refl (numbers.puts-swapped c.args.w.now c.args.p c.args.i (held (constant_at (abs c.args.w.now) c.args.i)) _ _ (find_constant c.ident_at-x.result (stack c.args.w.now)) c.requires.1 (fates.const-now c.args.w.now c.args.i c.ident_at-x.result c.requires.1 c.ident_at-x.ensures (omega (arith, c.requires.3, c.requires.4))) c.in-Refused.ensures.0)
 
 pub returns-in-Done : goal.returns-in-Done
-returns-in-Done c = laws.goes_on c.args.w.now _ c.args.p c.args.i (held (constant_at (abs c.args.w.now) c.args.i)) c.requires.0 c.requires.1 changes refl (rw c.enum_told-1.given.1 at (numbers.puts-swapped c.args.w.now c.args.p c.args.i (held (constant_at (abs c.args.w.now) c.args.i)) c.put_constant.result _ (find_constant c.ident_at-x.result (stack c.args.w.now)) c.requires.1 (fates.const-now c.args.w.now c.args.i c.ident_at-x.result c.requires.1 c.ident_at-x.ensures (omega (arith, c.requires.3, c.requires.4))) c.put_constant.ensures.0)) c.landed.ensures (ap (λ (n : ℕ). c.args.i + n) (c.requires.4 ∙ ap count_o (numbers.held-some (constant_at (abs c.args.w.now) c.args.i) (omega (arith, c.requires.3, c.requires.4)))))
+returns-in-Done c = laws.goes_on c.args.w.now _ c.args.p c.args.i (held (constant_at (abs c.args.w.now) c.args.i)) c.requires.0 c.requires.1 changes refl (numbers.puts-swapped c.args.w.now c.args.p c.args.i (held (constant_at (abs c.args.w.now) c.args.i)) _ _ (find_constant c.ident_at-x.result (stack c.args.w.now)) c.requires.1 (fates.const-now c.args.w.now c.args.i c.ident_at-x.result c.requires.1 c.ident_at-x.ensures (omega (arith, c.requires.3, c.requires.4))) c.in-Done.ensures.0) c.landed.ensures (ap (λ (n : ℕ). c.args.i + n) (c.requires.4 ∙ ap count_o (numbers.held-some (constant_at (abs c.args.w.now) c.args.i) (omega (arith, c.requires.3, c.requires.4)))))

@@ -24,10 +24,10 @@ pub overflow_add-i : goal.overflow_add-i
 overflow_add-i c = omega (arith, c.requires.0.good.nodes, c.requires.1, c.value_len-m.ensures.1)
 
 pub counted-requires : goal.counted-requires
-counted-requires c = (rw c.enum_told-1.given.1 at (numbers.puts-swapped c.args.w.now c.args.p c.args.i (value_by c.args.w.now c.args.b) c.put_value.result _ (value_o (numbered (stack c.args.w.now) c.args.b)) c.requires.1 c.requires.3 c.put_value.ensures)).1.planted
+counted-requires c = (numbers.puts-swapped c.args.w.now c.args.p c.args.i (value_by c.args.w.now c.args.b) _ _ (value_o (numbered (stack c.args.w.now) c.args.b)) c.requires.1 c.requires.3 c.in-Done.ensures).1.planted
 
 pub returns-in-Refused : goal.returns-in-Refused
-returns-in-Refused c = laws.goes-stop c.args.w.now _ c.args.p c.args.i (value_by c.args.w.now c.args.b) c.requires.0 c.requires.1 (counts_if (not c.same_ident-same.result) c.ident_at-x.result) (laws.value-is c.args.w.now c.args.p c.args.i (value_by c.args.w.now c.args.b) c.same_ident-same.result c.ident_at-x.result c.same_ident-same.ensures (c.ident_at-x.ensures ∙ sym (laws.tree-num c.args.w.now c.args.i c.requires.1))) (rw c.n-1.given.1 at (numbers.puts-swapped c.args.w.now c.args.p c.args.i (value_by c.args.w.now c.args.b) c.put_value.result _ (value_o (numbered (stack c.args.w.now) c.args.b)) c.requires.1 c.requires.3 c.put_value.ensures))
+returns-in-Refused c = laws.goes-stop c.args.w.now _ c.args.p c.args.i (value_by c.args.w.now c.args.b) c.requires.0 c.requires.1 (counts_if (not c.same_ident-same.result) c.ident_at-x.result) (laws.value-is c.args.w.now c.args.p c.args.i (value_by c.args.w.now c.args.b) c.same_ident-same.result c.ident_at-x.result c.same_ident-same.ensures (c.ident_at-x.ensures ∙ sym (laws.tree-num c.args.w.now c.args.i c.requires.1))) (numbers.puts-swapped c.args.w.now c.args.p c.args.i (value_by c.args.w.now c.args.b) _ _ (value_o (numbered (stack c.args.w.now) c.args.b)) c.requires.1 c.requires.3 c.in-Refused.ensures)
 
 pub returns-in-Done : goal.returns-in-Done
-returns-in-Done c = laws.goes_on c.args.w.now _ c.args.p c.args.i (value_by c.args.w.now c.args.b) c.requires.0 c.requires.1 (counts_if (not c.same_ident-same.result) c.ident_at-x.result) (laws.value-is c.args.w.now c.args.p c.args.i (value_by c.args.w.now c.args.b) c.same_ident-same.result c.ident_at-x.result c.same_ident-same.ensures (c.ident_at-x.ensures ∙ sym (laws.tree-num c.args.w.now c.args.i c.requires.1))) (rw c.enum_told-1.given.1 at (numbers.puts-swapped c.args.w.now c.args.p c.args.i (value_by c.args.w.now c.args.b) c.put_value.result _ (value_o (numbered (stack c.args.w.now) c.args.b)) c.requires.1 c.requires.3 c.put_value.ensures)) c.counted.ensures (ap (λ (n : ℕ). c.args.i + n) (c.value_len-m.ensures.0 ∙ ap count_o c.requires.3))
+returns-in-Done c = laws.goes_on c.args.w.now _ c.args.p c.args.i (value_by c.args.w.now c.args.b) c.requires.0 c.requires.1 (counts_if (not c.same_ident-same.result) c.ident_at-x.result) (laws.value-is c.args.w.now c.args.p c.args.i (value_by c.args.w.now c.args.b) c.same_ident-same.result c.ident_at-x.result c.same_ident-same.ensures (c.ident_at-x.ensures ∙ sym (laws.tree-num c.args.w.now c.args.i c.requires.1))) (numbers.puts-swapped c.args.w.now c.args.p c.args.i (value_by c.args.w.now c.args.b) _ _ (value_o (numbered (stack c.args.w.now) c.args.b)) c.requires.1 c.requires.3 c.in-Done.ensures) c.counted.ensures (ap (λ (n : ℕ). c.args.i + n) (c.value_len-m.ensures.0 ∙ ap count_o c.requires.3))

@@ -30,7 +30,7 @@ pub set_in_test-requires : goal.set_in_test-requires
 set_in_test-requires c = c.set_pat_mode.ensures.ok.planted
 
 pub shape_of-w : goal.shape_of-w
-shape_of-w c = c.set_in_test.ensures.ok.size ∙ c.set_pat_mode.ensures.ok.size ∙ c.set_var_decl_kind.ensures.ok.size ∙ c.set_inlining.ensures.ok.size ∙ c.set_ended.ensures.ok.size ∙ c.close-n.auto.0
+shape_of-w c = c.set_in_test.ensures.ok.size ∙ c.set_pat_mode.ensures.ok.size ∙ c.set_var_decl_kind.ensures.ok.size ∙ c.set_inlining.ensures.ok.size ∙ c.set_ended.ensures.ok.size ∙ c.close-n.auto.w
 
 pub returns : goal.returns
 returns c =
@@ -38,8 +38,8 @@ returns c =
     let a = c.args in
     let b = c.close-n.ensures.0 in
     let v = c.wrapping_add_u32.result in
-    let sum = scopes.total (get_or c.close-n.new.0 12 0) (get_or w 12 0) c.close-n.result (ending (stack w)) v (b.others.low 12 (omega arith) (omega arith)) c.close-n.ensures.1 c.wrapping_add_u32.ensures in
-    let t = becomes-turns c.requires c.close-n.auto.0 b in
+    let sum = scopes.total (get_or c.close-n.new.w 12 0) (get_or w 12 0) c.close-n.result (ending (stack w)) v (b.others.low 12 (omega arith) (omega arith)) c.close-n.ensures.1 c.wrapping_add_u32.ensures.value in
+    let t = becomes-turns c.requires c.close-n.auto.w b in
     let t₀ = laws.then_turns (set_ended v) t c.set_ended.ensures in
     let t₁ = laws.then_turns (set_inlining (yes a.inl)) t₀ c.set_inlining.ensures in
     let t₂ = laws.then_turns (set_var_decl_kind (var_type_of a.decl)) t₁ c.set_var_decl_kind.ensures in

@@ -15,12 +15,12 @@ pub returns-in-Refused : goal.returns-in-Refused
 returns-in-Refused c =
     let w = c.args.w.now in
     let e : Tree = tree_from (tree w) c.args.j in
-    laws.goes-stop w _ c.args.p c.args.i e c.requires.0 (outer-in c.requires.0 c.requires.1) quiet refl (rw c.n-1.given.1 at c.unwrap.ensures)
+    laws.goes-stop w _ c.args.p c.args.i e c.requires.0 (outer-in c.requires.0 c.requires.1) quiet refl c.in-Refused.ensures
 
 pub returns-in-Done : goal.returns-in-Done
 returns-in-Done c =
     let w = c.args.w.now in
     let e : Tree = tree_from (tree w) c.args.j in
-    let h = rw c.enum_told-1.given.1 at c.unwrap.ensures in
+    let h = c.in-Done.ensures in
     let n : c.skip.result - c.args.j ≡ count e = omega (arith, c.skip.ensures.0) in
     laws.goes_on w _ c.args.p c.args.i e c.requires.0 (outer-in c.requires.0 c.requires.1) quiet refl h (record { at = refl; turns = laws.turns-self h.1.planted }) (ap (λ (k : ℕ). c.args.i + k) n)

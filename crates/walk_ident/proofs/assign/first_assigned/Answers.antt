@@ -15,7 +15,7 @@ first_value-requires c = c.requires.0
 
 pub lift_value-requires : goal.lift_value-requires
 lift_value-requires c =
-    let g = rw c.enum_told-1.given.1 at c.first_value.ensures in
+    let g = c.in-Done.ensures in
     (becomes-planted c.requires.0 g.0, rw g.0.tree c.requires.1, c.requires.2)
 
 pub returns-in-Refused : goal.returns-in-Refused
@@ -24,7 +24,7 @@ returns-in-Refused c =
     let e : Tree = tree_from (tree w) c.args.j in
     let v = tree_o (tree w) c.args.j in
     let q : v ≡ some e = numbers.tree-in w c.args.j (inner-in c.requires.0 c.requires.1) in
-    assigns.first-stop c.args.p c.args.x e c.args.i c.requires.0 c.first_value.auto.0 v q (rw c.n-1.given.1 at c.first_value.ensures)
+    assigns.first-stop c.args.p c.args.x e c.args.i c.requires.0 c.first_value.auto.w v q c.in-Refused.ensures
 
 pub returns-in-Done : goal.returns-in-Done
 returns-in-Done c =
@@ -32,5 +32,5 @@ returns-in-Done c =
     let e : Tree = tree_from (tree w) c.args.j in
     let v = tree_o (tree w) c.args.j in
     let q : v ≡ some e = numbers.tree-in w c.args.j (inner-in c.requires.0 c.requires.1) in
-    let g = rw c.enum_told-1.given.1 at c.first_value.ensures in
-    assigns.first_on c.args.p c.args.x e c.args.i c.requires.0 c.first_value.auto.0 v q g (ap (λ (xs : List Core). tree_from xs c.args.j) g.0.tree) c.lift_value.ensures
+    let g = c.in-Done.ensures in
+    assigns.first_on c.args.p c.args.x e c.args.i c.requires.0 c.first_value.auto.w v q g (ap (λ (xs : List Core). tree_from xs c.args.j) g.0.tree) c.lift_value.ensures
