@@ -13,7 +13,7 @@ use Rattle.def_tree.specs.Tree.{Tree, Core, no_core}
 use Rattle.def_pass.specs.Tree.{count_o}
 use Rattle.def_pass.specs.Scope.{VarInfo, Stack, change, with_value, recorded_nodes, live}
 use Rattle.words.specs.Tab.{tab, tab-ext, length-tab, get_d-tab, set-tab, same_or_not, sum-part}
-use Rattle.words.specs.Layout.{yes, Agree, run, node_of, tree}
+use Rattle.words.specs.Layout.{yes, run, node_of, tree}
 use Rattle.words.proofs.Nodes.{run_length, tree-length, tree-at}
 use Rattle.words_scopes.specs.State.{Good, Past, Others, Becomes, split, heads, flags, binds, consts, stack, bind_at, len_at, off, coff, run_at, value_of, run_of, var_type_of, alias_at, place}
 use Rattle.words_scopes.proofs.Split as laws

@@ -1,5 +1,5 @@
 -- The check on recorded nodes, added from the current scope outwards. Assumes nothing: these are definitions.
-use Rattle.std.specs.Prelude.{◌≡◌, List, [], ◌∷◌, Bool, true, false, ℕ, suc, ◌+◌, ◌≤◌, ◌<◌, take, ltb}
+use Rattle.std.specs.Prelude.{◌≡◌, [], ◌∷◌, true, false, ℕ, suc, ◌+◌, ◌≤◌, ◌<◌, take, ltb}
 use Rattle.std.proofs.Math.Option.{Option, none, some}
 use Rattle.def_pass.specs.Scope.{Scope, Stack, values_in, values_of, recorded_nodes, is_some}
 use Rattle.scope_values.specs.declared.Sum.{Sum}

@@ -1,11 +1,7 @@
 -- A scan of a table. Assumes nothing.
 use Prim.Native.Nat.{ℕ, ◌+◌, ◌*◌, ◌-◌, ◌≤◌, ◌<◌}
 use mathlib.Core.Path.{◌≡◌}
-use native.Mathlib.Omega.{arith}
 use lib.ListN.{get_or}
-use Rattle.words_scopes.proofs.Words.{none_more}
-use Rattle.scope_values.proofs.Store.{stride}
-use borrow.Author.Rules.{rules}
 use Rattle.scope_values.proofs.first_at.Given as goal
 
 abbrev pub invariant-loop-k : goal.invariant-loop-k

@@ -1,12 +1,11 @@
 -- The sum of words of a table. Assumes nothing.
-use Prim.Native.Nat.{ℕ, ◌+◌, ◌*◌, ◌-◌, ◌≤◌}
-use mathlib.Core.Path.{◌≡◌, sym}
+use Prim.Native.Nat.{ℕ, ◌+◌, ◌*◌}
+use mathlib.Core.Path.{◌≡◌}
 use native.Mathlib.Omega.{arith}
 use lib.ListN.{get_or}
 use Rattle.words.specs.Tab as sums
 use Rattle.words.specs.Tab.{sum}
 use Rattle.scope_values.proofs.Store.{stride}
-use borrow.Author.Rules.{rules}
 use Rattle.scope_values.proofs.lengths.Goals as goal
 
 pub loop-j-init : goal.loop-j-init

@@ -1,12 +1,8 @@
 -- The sum of words of a table. Assumes nothing.
-use Prim.Native.Nat.{ℕ, ◌+◌, ◌*◌, ◌-◌, ◌≤◌}
-use mathlib.Core.Path.{◌≡◌, sym}
-use native.Mathlib.Omega.{arith}
+use Prim.Native.Nat.{◌+◌, ◌*◌, ◌-◌, ◌≤◌}
+use mathlib.Core.Path.{◌≡◌}
 use lib.ListN.{get_or}
-use Rattle.words.specs.Tab as sums
 use Rattle.words.specs.Tab.{sum}
-use Rattle.scope_values.proofs.Store.{stride}
-use borrow.Author.Rules.{rules}
 use Rattle.scope_values.proofs.lengths.Given as goal
 
 abbrev pub invariant-loop-j : goal.invariant-loop-j

@@ -2,7 +2,6 @@
 use mathlib.Core.Path.{sym}
 use native.Mathlib.Omega.{arith}
 use Rattle.scope_values.proofs.Count.{live-is}
-use borrow.Author.Rules.{rules}
 use Rattle.scope_values.proofs.live.Goals as goal
 
 pub returns : goal.returns

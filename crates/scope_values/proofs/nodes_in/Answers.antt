@@ -5,7 +5,6 @@ use lib.ListN.{get_or}
 use Rattle.words.specs.Tab as sums
 use Rattle.words_scopes.specs.State.{len_at, clen_at}
 use Rattle.scope_values.proofs.Count.{words-bind, words-const}
-use borrow.Author.Rules.{rules}
 use Rattle.scope_values.proofs.nodes_in.Goals as goal
 
 pub lengths-requires : goal.lengths-requires

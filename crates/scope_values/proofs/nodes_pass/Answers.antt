@@ -1,15 +1,13 @@
 -- No more nodes than there were, or added from the current scope outwards. Assumes nothing.
 use Prim.Native.Nat.{◌+◌, ◌-◌}
-use mathlib.Core.Path.{refl, sym, ap, ◌∙◌}
+use mathlib.Core.Path.{refl, sym}
 use native.Mathlib.Omega.{arith}
 use borrow.Author.Tests.{le-ltb}
-use Rattle.def_pass.specs.Scope.{recorded_nodes, is_some}
+use Rattle.def_pass.specs.Scope.{recorded_nodes}
 use Rattle.words_scopes.specs.State.{stack}
-use Rattle.scope_values.specs.Outwards.{stop_of}
-use Rattle.scope_values.specs.declared.Sum.{Sum}
+use Rattle.scope_values.specs.declared.Sum.TheVariants.{Within, Over}
 use Rattle.scope_values.proofs.Count.{recorded-is}
 use Rattle.scope_values.proofs.Outwards.{answers}
-use borrow.Author.Rules.{rules}
 use Rattle.scope_values.proofs.nodes_pass.Goals as goal
 
 pub returns-then-m-old : goal.returns-then-m-old
@@ -22,10 +20,10 @@ pub returns-in-Within : goal.returns-in-Within
 returns-in-Within c =
     let a = c.args in
     let st = stack a.w.now in
-    ap (λ (s : Sum). is_some (stop_of s)) (sym c.enum_told-1.given.1) ∙ answers (a.m - a.old) a.old a.m st c.stops_at.result refl (omega arith) c.requires.1 c.stops_at.ensures
+    answers (a.m - a.old) a.old a.m st Within refl (omega arith) c.requires.1 c.in-Within.ensures
 
 pub returns-in-Over : goal.returns-in-Over
 returns-in-Over c =
     let a = c.args in
     let st = stack a.w.now in
-    ap (λ (s : Sum). is_some (stop_of s)) (sym c.enum_told-in-Over-1.given.1) ∙ answers (a.m - a.old) a.old a.m st c.stops_at.result refl (omega arith) c.requires.1 c.stops_at.ensures
+    answers (a.m - a.old) a.old a.m st (Over _) refl (omega arith) c.requires.1 c.in-Over.ensures

@@ -1,7 +1,5 @@
 -- Row 9, before the change. Assumes nothing.
-use Prim.Native.Nat.{◌+◌, ◌-◌}
 use mathlib.Core.Path.{refl, sym, ◌∙◌}
-use borrow.Author.Rules.{rules}
 use Rattle.scope_values.proofs.passes.Goals as goal
 
 pub returns-then-nodes_pass : goal.returns-then-nodes_pass

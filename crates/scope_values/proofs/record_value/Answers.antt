@@ -11,7 +11,6 @@ use Rattle.words_scopes.specs.State.{len_at, place, heads, binds, stack, value_o
 use Rattle.words_scopes.proofs.Words as laws
 use Rattle.scope_values.proofs.Count as count
 use Rattle.scope_values.proofs.Listed as listed
-use borrow.Author.Rules.{rules}
 use Rattle.scope_values.proofs.record_value.Goals as goal
 
 pub returns-then-k1-eq0 : goal.returns-then-k1-eq0

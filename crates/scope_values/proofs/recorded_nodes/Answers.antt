@@ -1,7 +1,6 @@
 -- The nodes of all values. Assumes nothing.
 use native.Mathlib.Omega.{arith}
 use Rattle.scope_values.proofs.Count.{recorded-is}
-use borrow.Author.Rules.{rules}
 use Rattle.scope_values.proofs.recorded_nodes.Goals as goal
 
 pub returns : goal.returns

@@ -4,7 +4,6 @@ use lib.ListN.{get_or, length-set}
 use Rattle.words.specs.Tab as sums
 use Rattle.words_scopes.specs.State.{len_at}
 use Rattle.scope_values.proofs.Listed as listed
-use borrow.Author.Rules.{rules}
 use Rattle.scope_values.proofs.set_run.Goals as goal
 
 pub offset_from-end-requires : goal.offset_from-end-requires
@@ -25,10 +24,10 @@ splice-requires c =
     (c.requires.0.long, omega arith, omega arith, omega (arith, c.requires.0.nodes, c.requires.2), omega (arith, c.offset-at.ensures.0), omega (arith, c.offset_from-end.ensures.1), omega (arith, c.requires.3))
 
 pub shape_of-w : goal.shape_of-w
-shape_of-w c = simp length-set c.splice.auto.0
+shape_of-w c = simp length-set c.splice.auto.w
 
 pub returns : goal.returns
 returns c =
     let w = c.args.w.now in
     let s = rw (c.offset-at.ensures.0, c.offset_from-end.ensures.0) at c.splice.ensures in
-    (listed.valued w c.splice.new.0 c.requires.0 c.args.k c.args.i c.args.m c.requires.1 c.requires.2 c.requires.3 s c.requires.4, listed.valued_past w c.splice.new.0 c.requires.0 c.args.k c.args.i c.args.m c.requires.1 c.requires.2 c.requires.3 s)
+    (listed.valued w c.splice.new.w c.requires.0 c.args.k c.args.i c.args.m c.requires.1 c.requires.2 c.requires.3 s c.requires.4, listed.valued_past w c.splice.new.w c.requires.0 c.args.k c.args.i c.args.m c.requires.1 c.requires.2 c.requires.3 s)

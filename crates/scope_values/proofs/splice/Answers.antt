@@ -2,11 +2,10 @@
 use mathlib.Core.Path.{◌∙◌}
 use native.Mathlib.Omega.{arith}
 use Rattle.scope_values.proofs.Store.{spliced}
-use borrow.Author.Rules.{rules}
 use Rattle.scope_values.proofs.splice.Goals as goal
 
 pub shape_of-w : goal.shape_of-w
-shape_of-w c = c.shift-2.auto.0 ∙ c.shift.auto.0
+shape_of-w c = c.shift-2.auto.w ∙ c.shift.auto.w
 
 pub returns : goal.returns
 returns c = spliced c.args.base c.args.at c.args.old c.args.end c.args.i c.args.m (omega arith) (omega arith) (omega arith) (omega arith) (omega arith) c.shift.ensures c.shift-2.ensures

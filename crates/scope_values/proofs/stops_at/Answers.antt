@@ -1,14 +1,13 @@
 -- Scope by scope, the current one first: the invariant is that the answer is that of the scopes left. Assumes nothing.
-use Prim.Native.Nat.{ℕ, suc, ◌+◌, ◌*◌, ◌-◌, ◌≤◌}
+use Prim.Native.Nat.{ℕ, suc, ◌+◌, ◌*◌, ◌-◌}
 use mathlib.Core.Path.{◌≡◌, refl, sym, ap, ◌∙◌}
 use mathlib.Core.Option.{some}
 use native.Mathlib.Omega.{arith}
 use lib.ListN.{get_or}
-use Rattle.words_scopes.specs.State.{Fits, CFits, heads_at, heads, stack, off, coff}
+use Rattle.words_scopes.specs.State.{Fits, CFits, heads_at, heads}
 use Rattle.words_scopes.proofs.Look.{outer, outer-all}
 use Rattle.scope_values.specs.Outwards.{stops_at}
 use Rattle.scope_values.proofs.Outwards.{begins, goes_on, over-now, within, later, later-one, later-none}
-use borrow.Author.Rules.{rules}
 use Rattle.scope_values.proofs.stops_at.Goals as goal
 
 pub loop-sum-init : goal.loop-sum-init
@@ -54,12 +53,6 @@ overflow_add-sum c =
     let g = c.requires.0 in
     let i = c.loop-sum.i in
     omega (arith, c.loop-sum.invariant.6, c.nodes_in-sum.ensures, g.recorded, c.requires.1)
-
-pub overflow_cast-e-in-loop-sum : goal.overflow_cast-e-in-loop-sum
-overflow_cast-e-in-loop-sum c = omega (arith, c.shared_slice_known-in-loop-sum-1.given (7184 + (get_or c.args.w.now 2 0 - 1 - c.loop-sum.i) * 4 + 1))
-
-pub overflow_cast-c-in-loop-sum : goal.overflow_cast-c-in-loop-sum
-overflow_cast-c-in-loop-sum c = omega (arith, c.shared_slice_known-in-loop-sum-2-1.given (7184 + (get_or c.args.w.now 2 0 - 1 - c.loop-sum.i) * 4 + 2))
 
 pub loop-sum-preserved : goal.loop-sum-preserved
 loop-sum-preserved c =

@@ -1,14 +1,11 @@
 -- Scope by scope, the current one first: the invariant is that the answer is that of the scopes left. Assumes nothing.
-use Prim.Native.Nat.{ℕ, suc, ◌+◌, ◌*◌, ◌-◌, ◌≤◌}
-use mathlib.Core.Path.{◌≡◌, refl, sym, ap, ◌∙◌}
-use mathlib.Core.Option.{some}
-use native.Mathlib.Omega.{arith}
+use Prim.Native.Nat.{◌+◌, ◌-◌, ◌≤◌}
+use mathlib.Core.Path.{◌≡◌}
 use lib.ListN.{get_or}
-use Rattle.words_scopes.specs.State.{Fits, CFits, heads_at, heads, stack, off, coff}
-use Rattle.words_scopes.proofs.Look.{outer, outer-all}
+use Rattle.words_scopes.specs.State.{Fits, CFits, heads_at, stack, off, coff}
+use Rattle.words_scopes.proofs.Look.{outer}
 use Rattle.scope_values.specs.Outwards.{stops_at}
-use Rattle.scope_values.proofs.Outwards.{begins, goes_on, over-now, within, later, later-one, later-none}
-use borrow.Author.Rules.{rules}
+use Rattle.scope_values.proofs.Outwards.{later}
 use Rattle.scope_values.proofs.stops_at.Given as goal
 
 abbrev pub invariant-loop-sum : goal.invariant-loop-sum
