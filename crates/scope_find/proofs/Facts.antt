@@ -8,22 +8,22 @@ use Prim.Native.Nat.{ℕ, zero, suc, ◌+◌, ◌-◌, ◌*◌, ◌%◌, ◌≤�
 use native.Mathlib.Nat.{eq-or-lt_of_le}
 use native.Mathlib.Numerals.{add-one}
 use native.Mathlib.Omega.{arith}
-use borrow.Author.Tests.{eq-eqb, ne_eqb, lt-ltb, le-ltb}
+use borrow.Author.Tests.{eq-eqb, ne_eqb}
 use lib.ListN.{length, get_or, drop, drop_of_length-le}
-use lib.Dec.{eqb, ltb}
+use lib.Dec.{eqb}
 use lib.Seq.{get_or-drop, drop-cons}
 use Rattle.def_tree.specs.Base.{pick, or_else}
 use Rattle.def_tree.specs.Tree.{Tree, Forest, node, nil, cons, kind, num, kids, Core, no_core, take_f, drop_f, plant, first_t}
 use Rattle.def_pass.specs.Scope.{VarInfo, Scope, Stack, is_var, is_some, find_in, has_in, const_in, find_binding, idx_val, member_o, free_to_read, var_inline_prevented, is_hoisted_prevented, read_prevents_inlining, write_prevents_inline, scope_for, should_prevent_inline_because_of_scope, any_from, between, ident_of, mark_of, mark_of_id, is_inline_prevented, has_same_this}
 use Rattle.def_pass.specs.Tree.{head_t}
-use Rattle.words.specs.Tab.{tab, length-tab, get_d-tab, get_d-tab-out}
+use Rattle.words.specs.Tab.{tab, get_d-tab, get_d-tab-out}
 use Rattle.words.specs.Layout.{yes, core_from, node_of, tree}
 use Rattle.words.proofs.Nodes.{run_length, run-at, tree-length, tree-at}
 use Rattle.words.specs.Flags.{flag_at}
 use Rattle.words_scopes.specs.State.{bind_at, unres_at, value_of, var_type_of, len_at, off, run_at, heads, binds, stack, Good, place, index_in, Named}
 use Rattle.words_scopes.proofs.Split as laws
 use Rattle.words_scopes.proofs.Look as outwards
-use Rattle.scope_find.specs.Look.{first, scope_at, below, at_place, kind_o, held, bars_here, node_tree}
+use Rattle.scope_find.specs.Look.{first, scope_at, below, at_place, kind_o, held, node_tree}
 use Rattle.scope_find.proofs.Out as out
 
 -- a word as a flag

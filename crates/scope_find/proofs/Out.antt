@@ -1,19 +1,19 @@
 -- The walk through the scopes from the current one outwards, or from the root inwards. Assumes nothing.
 use mathlib.Core.Path.{◌≡◌, refl, sym, ap, ◌∙◌}
 use mathlib.Core.List.{List, [], ◌∷◌}
-use mathlib.Core.Bool.{Bool, true, false, ◌||◌}
+use mathlib.Core.Bool.{Bool, true, false}
 use mathlib.Core.Option.{Option, none, some}
 use Prim.Native.Nat.{ℕ, zero, suc, ◌+◌, ◌-◌, ◌*◌, ◌≤◌, ◌<◌}
 use native.Mathlib.Numerals.{add-one}
 use native.Mathlib.Omega.{arith}
 use borrow.Author.Tests.{eq-eqb, ne_eqb, lt-ltb, le-ltb}
 use lib.ListN.{length, get_or, drop, length-drop}
-use lib.Dec.{eqb, ltb}
+use lib.Dec.{eqb}
 use lib.Seq.{get_or-drop}
 use Rattle.def_tree.specs.Tree.{Tree}
-use Rattle.def_pass.specs.Scope.{VarInfo, Scope, Stack, is_fn, is_loop, is_block, is_some, find_in, has_in, const_in, find_binding_from_current, write_prevents_inline, has_constant, in_loop}
+use Rattle.def_pass.specs.Scope.{VarInfo, Scope, Stack, is_fn, is_loop, is_block, is_some, find_in, has_in, const_in, write_prevents_inline, has_constant, in_loop}
 use Rattle.words.specs.Tab.{tab, length-tab, get_d-tab}
-use Rattle.words_scopes.specs.State.{bind_at, const_at, head_at, heads_at, heads, stack, Fits, CFits, Good, scope_kind_of, index_in}
+use Rattle.words_scopes.specs.State.{bind_at, const_at, heads_at, heads, stack, Fits, CFits, Good, scope_kind_of, index_in}
 use Rattle.words_scopes.proofs.Split as laws
 use Rattle.words_scopes.proofs.Words.{up_to, scan-hit, scan-miss}
 use Rattle.words_scopes.proofs.Look as outwards

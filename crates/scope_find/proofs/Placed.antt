@@ -1,15 +1,15 @@
 -- Where the innermost binding of an identifier is in the first scopes: what the index and the table of what is shadowed say of it. Assumes nothing.
 use mathlib.Core.Path.{◌≡◌, refl, sym, ap, ◌∙◌}
-use mathlib.Core.List.{List, [], ◌∷◌}
+use mathlib.Core.List.{List, ◌∷◌}
 use mathlib.Core.Bool.{true, false}
-use mathlib.Core.Option.{none, some}
+use mathlib.Core.Option.{some}
 use Prim.Native.Nat.{ℕ, zero, suc, ◌+◌, ◌-◌, ◌*◌, ◌≤◌, ◌<◌}
 use native.Mathlib.Omega.{arith}
 use lib.ListN.{length, get_or, take, drop, length-drop}
 use lib.Seq.{get_or-drop}
-use Rattle.def_pass.specs.Scope.{VarInfo, has_in, find_in}
+use Rattle.def_pass.specs.Scope.{VarInfo, has_in}
 use Rattle.words.specs.Tab.{tab, length-tab, get_d-tab, take-tab}
-use Rattle.words_scopes.specs.State.{bind_at, Head, head_at, heads_at, heads, binds, place, index_in, Good}
+use Rattle.words_scopes.specs.State.{bind_at, head_at, heads_at, heads, binds, place, index_in, Good}
 use Rattle.words_scopes.proofs.Split as laws
 use Rattle.words_scopes.proofs.Index as index
 use Rattle.scope_find.specs.Look.{first, scope_at, at_place, place_below, FoundIn}

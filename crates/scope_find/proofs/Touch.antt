@@ -1,14 +1,14 @@
 -- Words in which only barriers and unresolved uses differ: what their scopes are. Assumes nothing.
 use mathlib.Core.Path.{◌≡◌, refl, sym, ap, ◌∙◌}
-use mathlib.Core.List.{List, [], ◌∷◌, map}
-use mathlib.Core.Bool.{Bool, true, false, ◌||◌}
+use mathlib.Core.List.{List, ◌∷◌, map}
+use mathlib.Core.Bool.{Bool, false, ◌||◌}
 use mathlib.Core.Option.{Option}
 use mathlib.Core.Logic.{◌⊎◌, inl, inr, ⊎_elim}
 use Prim.Native.Nat.{◌/◌, ℕ, zero, suc, ◌+◌, ◌-◌, ◌*◌, ◌≤◌, ◌<◌}
 use native.Mathlib.Nat.{eq-or-lt_of_le}
 use native.Mathlib.Omega.{arith}
 use borrow.Author.Tests.{eq-eqb, ne_eqb}
-use lib.ListN.{length, get_or, set, drop, length-drop, length-set}
+use lib.ListN.{length, get_or, set, length-drop, length-set}
 use lib.Dec.{eqb}
 use lib.Seq.{get_or-set_same, get_or-set_other, drop-set-lt}
 use Rattle.def_tree.specs.Tree.{Tree}
@@ -18,7 +18,7 @@ use Rattle.words.specs.Layout.{yes, Agree, tree, beyond}
 use Rattle.words.proofs.Nodes.{run-same}
 use Rattle.words.specs.Flags.{flag_at, Flagged}
 use Rattle.words.proofs.Flags.{flag_same}
-use Rattle.words_scopes.specs.State.{scope_kind_of, len_at, off, run_at, bind_at, coff, const_at, unres_at, head_at, heads_at, heads, stack, Fits, CFits, Good, Becomes}
+use Rattle.words_scopes.specs.State.{scope_kind_of, len_at, off, run_at, bind_at, const_at, unres_at, heads_at, heads, stack, Fits, CFits, Good, Becomes}
 use Rattle.words_scopes.proofs.Words.{bind-same, part-coff, part-crun, part-consts, part-tree, free-same}
 use Rattle.words_scopes.proofs.Index.{begins-same, beside_same}
 use Rattle.scope_find.specs.Look.{first, cfirst, scope_at, below}

@@ -1,5 +1,5 @@
 -- Words in which only barriers and unresolved uses differ. Assumes nothing: these are definitions.
-use Rattle.std.specs.Prelude.{◌≡◌, List, Bool, ◌||◌, ℕ, ◌+◌, ◌*◌, ◌<◌, ◌≤◌, length, get_or, eqb}
+use Rattle.std.specs.Prelude.{◌≡◌, List, ◌||◌, ℕ, ◌+◌, ◌*◌, ◌<◌, ◌≤◌, length, get_or, eqb}
 use Rattle.words.specs.Layout.{Agree, beyond}
 use Rattle.scope_find.specs.Look.{scope_at}
 

@@ -1,7 +1,6 @@
 -- The order, or a barrier. Assumes nothing.
 use mathlib.Core.Path.{refl, sym, ◌∙◌}
 use borrow.Author.Tests.{lt-ltb, le-ltb}
-use borrow.Author.Rules.{rules}
 use Rattle.words_scopes.specs.State.{stack}
 use Rattle.scope_find.specs.Look.{bars_here}
 use Rattle.scope_find.proofs.Facts as facts

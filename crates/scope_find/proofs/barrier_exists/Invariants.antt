@@ -1,13 +1,10 @@
 -- The invariant: none passed so far. Assumes nothing.
 use Prim.Native.Nat.{◌-◌, ◌≤◌}
 use mathlib.Core.Bool.{false}
-use mathlib.Core.Path.{◌≡◌, refl, sym, ◌∙◌}
-use native.Mathlib.Omega.{arith}
-use borrow.Author.Rules.{rules}
+use mathlib.Core.Path.{◌≡◌}
 use Rattle.def_pass.specs.Scope.{any_from}
 use Rattle.words_scopes.specs.State.{stack}
 use Rattle.scope_find.specs.Look.{bars_here}
-use Rattle.scope_find.proofs.Facts as facts
 use Rattle.scope_find.proofs.barrier_exists.Given as goal
 
 abbrev pub invariant-loop-n : goal.invariant-loop-n

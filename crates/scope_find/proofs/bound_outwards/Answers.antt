@@ -1,12 +1,9 @@
 -- Outwards: the invariant is that the answer is that of the scopes left. Assumes nothing.
-use Prim.Native.Nat.{ℕ, suc, ◌-◌, ◌≤◌}
+use Prim.Native.Nat.{ℕ, suc, ◌-◌}
 use mathlib.Core.Bool.{true, false}
 use mathlib.Core.Path.{◌≡◌, sym, ap, ◌∙◌}
 use native.Mathlib.Omega.{arith}
-use borrow.Author.Rules.{rules}
-use lib.ListN.{get_or}
 use Rattle.def_pass.specs.Scope.{Stack, is_some, has_in, scope_for}
-use Rattle.words_scopes.specs.State.{stack, heads, binds, place}
 use Rattle.scope_find.specs.Look.{scope_at, below, place_below}
 use Rattle.scope_find.proofs.Placed as placed
 use Rattle.scope_find.proofs.Facts as facts

@@ -1,16 +1,11 @@
 -- Outwards: the invariant is that the answer is that of the scopes left. Assumes nothing.
-use Prim.Native.Nat.{ℕ, suc, ◌-◌, ◌≤◌}
-use mathlib.Core.Bool.{true, false}
-use mathlib.Core.Path.{◌≡◌, sym, ap, ◌∙◌}
-use native.Mathlib.Omega.{arith}
-use borrow.Author.Rules.{rules}
+use Prim.Native.Nat.{◌≤◌}
+use mathlib.Core.Bool.{true}
+use mathlib.Core.Path.{◌≡◌}
 use lib.ListN.{get_or}
-use Rattle.def_pass.specs.Scope.{Stack, is_some, has_in, scope_for}
+use Rattle.def_pass.specs.Scope.{scope_for}
 use Rattle.words_scopes.specs.State.{stack, heads, binds, place}
-use Rattle.scope_find.specs.Look.{scope_at, below, place_below}
-use Rattle.scope_find.proofs.Placed as placed
-use Rattle.scope_find.proofs.Facts as facts
-use Rattle.scope_find.proofs.Out as out
+use Rattle.scope_find.specs.Look.{below, place_below}
 use Rattle.scope_find.proofs.bound_outwards.Given as goal
 
 abbrev pub invariant-loop-k : goal.invariant-loop-k

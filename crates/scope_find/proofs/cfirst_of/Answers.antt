@@ -1,8 +1,5 @@
 -- Where a scope begins. Assumes nothing.
-use Prim.Native.Nat.{◌+◌, ◌*◌}
 use mathlib.Core.Path.{sym}
-use native.Mathlib.Omega.{arith}
-use borrow.Author.Rules.{rules}
 use Rattle.scope_find.proofs.Out as out
 use Rattle.scope_find.proofs.cfirst_of.Goals as goal
 

@@ -1,7 +1,6 @@
 -- The bindings of the current scope. Assumes nothing.
 use mathlib.Core.Path.{ap, ◌∙◌}
 use native.Mathlib.Omega.{arith}
-use borrow.Author.Rules.{rules}
 use lib.ListN.{get_or}
 use Rattle.def_pass.specs.Scope.{find_binding_from_current}
 use Rattle.scope_find.specs.Look.{below}

@@ -1,9 +1,5 @@
 -- A scan of one stretch of the constants. Assumes nothing.
-use Prim.Native.Nat.{ℕ, ◌+◌, ◌*◌, ◌-◌, ◌≤◌, ◌<◌}
-use mathlib.Core.Path.{◌≡◌}
 use native.Mathlib.Omega.{arith}
-use borrow.Author.Rules.{rules}
-use lib.ListN.{get_or}
 use Rattle.words_scopes.proofs.Words.{none_more}
 use Rattle.scope_find.proofs.find_const.Goals as goal
 

@@ -2,7 +2,6 @@
 use mathlib.Core.Path.{◌∙◌}
 use native.Mathlib.Omega.{arith}
 use Rattle.scope_find.proofs.Placed as placed
-use borrow.Author.Rules.{rules}
 use Rattle.scope_find.proofs.found_from.Goals as goal
 
 pub returns-then-first_of-p : goal.returns-then-first_of-p

@@ -1,11 +1,8 @@
 -- Outwards: the invariant is that the answer is that of the scopes left. Assumes nothing.
-use Prim.Native.Nat.{ℕ, ◌-◌, ◌≤◌}
+use Prim.Native.Nat.{ℕ, ◌-◌}
 use mathlib.Core.Path.{◌≡◌, sym, ap, ◌∙◌}
 use native.Mathlib.Omega.{arith}
-use borrow.Author.Rules.{rules}
-use lib.ListN.{get_or}
 use Rattle.def_pass.specs.Scope.{has_constant}
-use Rattle.words_scopes.specs.State.{stack}
 use Rattle.scope_find.specs.Look.{scope_at, below}
 use Rattle.scope_find.proofs.Out as out
 use Rattle.scope_find.proofs.has_constant.Goals as goal

@@ -1,13 +1,10 @@
 -- Outwards: the invariant is that the answer is that of the scopes left. Assumes nothing.
-use Prim.Native.Nat.{ℕ, ◌-◌, ◌≤◌}
-use mathlib.Core.Path.{◌≡◌, sym, ap, ◌∙◌}
-use native.Mathlib.Omega.{arith}
-use borrow.Author.Rules.{rules}
+use Prim.Native.Nat.{◌≤◌}
+use mathlib.Core.Path.{◌≡◌}
 use lib.ListN.{get_or}
 use Rattle.def_pass.specs.Scope.{has_constant}
 use Rattle.words_scopes.specs.State.{stack}
-use Rattle.scope_find.specs.Look.{scope_at, below}
-use Rattle.scope_find.proofs.Out as out
+use Rattle.scope_find.specs.Look.{below}
 use Rattle.scope_find.proofs.has_constant.Given as goal
 
 abbrev pub invariant-loop-k : goal.invariant-loop-k

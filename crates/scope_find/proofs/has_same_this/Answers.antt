@@ -3,7 +3,6 @@ use Prim.Native.Nat.{ℕ, ◌-◌}
 use mathlib.Core.Option.{Option, some}
 use mathlib.Core.Bool.{not}
 use mathlib.Core.Path.{◌≡◌, sym, ap, ◌∙◌}
-use borrow.Author.Rules.{rules}
 use lib.Dec.{eqb}
 use Rattle.def_tree.specs.Tree.{kind}
 use Rattle.def_pass.specs.Scope.{VarInfo, has_same_this}

@@ -1,14 +1,12 @@
 -- Outwards: the invariant is that the answer is that of the scopes left. Assumes nothing.
-use Prim.Native.Nat.{ℕ, suc, ◌+◌, ◌*◌, ◌-◌, ◌≤◌}
+use Prim.Native.Nat.{ℕ, suc, ◌-◌}
 use mathlib.Core.Path.{◌≡◌, refl, sym, ap, ◌∙◌}
 use native.Mathlib.Omega.{arith}
-use lib.ListN.{get_or}
 use Rattle.def_pass.specs.Scope.{is_hoisted_prevented}
 use Rattle.words.specs.Layout.{yes}
 use Rattle.scope_find.specs.Look.{scope_at, below, held, place_below}
 use Rattle.scope_find.proofs.Facts as facts
 use Rattle.scope_find.proofs.Out as out
-use borrow.Author.Rules.{rules}
 use Rattle.scope_find.proofs.held_below.Goals as goal
 
 pub loop-k-init : goal.loop-k-init

@@ -1,14 +1,7 @@
 -- Outwards: the invariant is that the answer is that of the scopes left. Assumes nothing.
-use Prim.Native.Nat.{ℕ, suc, ◌+◌, ◌*◌, ◌-◌, ◌≤◌}
-use mathlib.Core.Path.{◌≡◌, refl, sym, ap, ◌∙◌}
-use native.Mathlib.Omega.{arith}
-use lib.ListN.{get_or}
-use Rattle.def_pass.specs.Scope.{is_hoisted_prevented}
-use Rattle.words.specs.Layout.{yes}
-use Rattle.scope_find.specs.Look.{scope_at, below, held, place_below}
-use Rattle.scope_find.proofs.Facts as facts
-use Rattle.scope_find.proofs.Out as out
-use borrow.Author.Rules.{rules}
+use Prim.Native.Nat.{◌≤◌}
+use mathlib.Core.Path.{◌≡◌}
+use Rattle.scope_find.specs.Look.{below, held, place_below}
 use Rattle.scope_find.proofs.held_below.Given as goal
 
 abbrev pub invariant-loop-k : goal.invariant-loop-k

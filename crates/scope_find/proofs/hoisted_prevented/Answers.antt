@@ -1,7 +1,6 @@
 -- Both marks. Assumes nothing.
 use Prim.Native.Nat.{ℕ}
 use mathlib.Core.Path.{refl, sym, ap, ◌∙◌}
-use borrow.Author.Rules.{rules}
 use Rattle.def_pass.specs.Scope.{is_hoisted_prevented}
 use Rattle.scope_find.specs.Look.{at_place}
 use Rattle.scope_find.proofs.Facts as facts

@@ -1,6 +1,5 @@
 -- A node's number. Assumes nothing.
 use native.Mathlib.Omega.{arith}
-use borrow.Author.Rules.{rules}
 use Rattle.scope_find.proofs.Facts as facts
 use Rattle.scope_find.proofs.ident_at.Goals as goal
 

@@ -1,6 +1,5 @@
 -- The innermost binding's mark. Assumes nothing.
 use mathlib.Core.Path.{sym, ap, ◌∙◌}
-use borrow.Author.Rules.{rules}
 use Rattle.def_pass.specs.Scope.{mark_of}
 use Rattle.scope_find.specs.Look.{at_place}
 use Rattle.scope_find.proofs.Facts as facts

@@ -3,7 +3,6 @@ use Prim.Native.Nat.{ℕ}
 use mathlib.Core.Bool.{◌||◌}
 use mathlib.Core.Logic.{inr}
 use mathlib.Core.Path.{sym, ap, ◌∙◌}
-use borrow.Author.Rules.{rules}
 use lib.Dec.{eqb}
 use Rattle.def_tree.specs.Tree.{kind, num}
 use Rattle.def_pass.specs.Scope.{mark_of, find_binding}

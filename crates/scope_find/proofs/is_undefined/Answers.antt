@@ -1,6 +1,5 @@
 -- A flag of one binding. Assumes nothing.
 use Prim.Native.Nat.{◌+◌, ◌*◌}
-use borrow.Author.Rules.{rules}
 use lib.ListN.{get_or}
 use Rattle.scope_find.proofs.Facts as facts
 use Rattle.scope_find.proofs.is_undefined.Goals as goal

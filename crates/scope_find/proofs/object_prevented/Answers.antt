@@ -3,7 +3,6 @@ use Prim.Native.Nat.{ℕ}
 use mathlib.Core.Logic.{inr}
 use mathlib.Core.Option.{Option}
 use mathlib.Core.Path.{sym, ap, ◌∙◌}
-use borrow.Author.Rules.{rules}
 use Rattle.def_pass.specs.Scope.{mark_of, mark_of_id, find_binding}
 use Rattle.words_scopes.specs.State.{stack}
 use Rattle.scope_find.proofs.Facts as facts

@@ -8,7 +8,6 @@ use Rattle.words.specs.Tab.{tab}
 use Rattle.words_scopes.specs.State.{bind_at, head_at, heads_at, place}
 use Rattle.scope_find.specs.Look.{first}
 use Rattle.scope_find.proofs.Placed as placed
-use borrow.Author.Rules.{rules}
 use Rattle.scope_find.proofs.outside.Goals as goal
 
 pub overflow_add-result : goal.overflow_add-result

@@ -1,6 +1,5 @@
 -- The innermost binding's reads. Assumes nothing.
 use mathlib.Core.Path.{sym, ap, ◌∙◌}
-use borrow.Author.Rules.{rules}
 use Rattle.scope_find.specs.Look.{reads_o, at_place}
 use Rattle.scope_find.proofs.Facts as facts
 use Rattle.scope_find.proofs.read_cnt.Goals as goal

@@ -1,7 +1,6 @@
 -- By the binding found. Assumes nothing.
 use Prim.Native.Nat.{◌-◌}
 use mathlib.Core.Path.{sym, ap, ◌∙◌}
-use borrow.Author.Rules.{rules}
 use Rattle.def_pass.specs.Scope.{is_var}
 use Rattle.words_scopes.specs.State.{stack, bind_at, var_type_of}
 use Rattle.scope_find.specs.Look.{at_place}

@@ -1,8 +1,7 @@
 -- The current scope, and those behind it. Assumes nothing.
-use Prim.Native.Nat.{◌+◌, ◌*◌, ◌-◌}
+use Prim.Native.Nat.{◌-◌}
 use mathlib.Core.Path.{refl, sym, ap, ◌∙◌}
 use native.Mathlib.Omega.{arith}
-use borrow.Author.Rules.{rules}
 use lib.ListN.{get_or}
 use Rattle.def_pass.specs.Scope.{should_prevent_inline_because_of_scope}
 use Rattle.words.specs.Layout.{yes}

@@ -1,5 +1,4 @@
 -- The kind of a value's first node. Assumes nothing.
-use borrow.Author.Rules.{rules}
 use Rattle.scope_find.proofs.Facts as facts
 use Rattle.scope_find.proofs.value_kind.Goals as goal
 

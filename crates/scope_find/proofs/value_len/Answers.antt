@@ -1,7 +1,6 @@
 -- A value's length. Assumes nothing.
 use mathlib.Core.Path.{refl}
 use native.Mathlib.Omega.{arith}
-use borrow.Author.Rules.{rules}
 use lib.ListN.{get_or}
 use Rattle.words.specs.Tab.{sum-part}
 use Rattle.words_scopes.specs.State.{len_at}

@@ -1,7 +1,6 @@
 -- The mark, or a value by its kind. Assumes nothing.
 use Prim.Native.Nat.{ℕ}
 use mathlib.Core.Path.{sym, ap, ◌∙◌}
-use borrow.Author.Rules.{rules}
 use lib.Dec.{eqb}
 use Rattle.words_scopes.specs.State.{bind_at}
 use Rattle.scope_find.proofs.Facts as facts

@@ -1,12 +1,11 @@
 -- Outwards: the invariant is that the answer is that of the scopes left. Assumes nothing.
-use Prim.Native.Nat.{ℕ, suc, ◌+◌, ◌*◌, ◌-◌, ◌≤◌}
+use Prim.Native.Nat.{ℕ, suc, ◌+◌, ◌*◌, ◌-◌}
 use mathlib.Core.Bool.{false}
 use mathlib.Core.Path.{◌≡◌, sym, ap, ◌∙◌}
 use native.Mathlib.Omega.{arith}
-use borrow.Author.Rules.{rules}
 use lib.ListN.{get_or}
 use Rattle.def_pass.specs.Scope.{is_some, is_block, has_in, write_prevents_inline}
-use Rattle.words_scopes.specs.State.{stack, scope_kind_of, heads, binds, place}
+use Rattle.words_scopes.specs.State.{scope_kind_of}
 use Rattle.scope_find.specs.Look.{scope_at, below, place_below}
 use Rattle.scope_find.proofs.Placed as placed
 use Rattle.scope_find.proofs.Out as out

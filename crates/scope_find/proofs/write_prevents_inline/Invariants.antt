@@ -1,15 +1,10 @@
 -- Outwards: the invariant is that the answer is that of the scopes left. Assumes nothing.
-use Prim.Native.Nat.{ℕ, suc, ◌+◌, ◌*◌, ◌-◌, ◌≤◌}
-use mathlib.Core.Bool.{false}
-use mathlib.Core.Path.{◌≡◌, sym, ap, ◌∙◌}
-use native.Mathlib.Omega.{arith}
-use borrow.Author.Rules.{rules}
+use Prim.Native.Nat.{◌≤◌}
+use mathlib.Core.Path.{◌≡◌}
 use lib.ListN.{get_or}
-use Rattle.def_pass.specs.Scope.{is_some, is_block, has_in, write_prevents_inline}
-use Rattle.words_scopes.specs.State.{stack, scope_kind_of, heads, binds, place}
-use Rattle.scope_find.specs.Look.{scope_at, below, place_below}
-use Rattle.scope_find.proofs.Placed as placed
-use Rattle.scope_find.proofs.Out as out
+use Rattle.def_pass.specs.Scope.{write_prevents_inline}
+use Rattle.words_scopes.specs.State.{stack, heads, binds, place}
+use Rattle.scope_find.specs.Look.{below, place_below}
 use Rattle.scope_find.proofs.write_prevents_inline.Given as goal
 
 abbrev pub invariant-loop-k : goal.invariant-loop-k
