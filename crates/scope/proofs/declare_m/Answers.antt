@@ -25,5 +25,5 @@ returns c =
     let e = c.sited-e.result in
     let t = tree_from (tree w) c.args.i in
     let k = type_of c.args.kind in
-    let m = moves.moves-by (undefined.declare-m-is c.args.f c.args.x e t c.args.is-change c.undefined_now-undefined.result k (rest w) c.undefined_now-undefined.ensures) (moves.grown-moves (declare (ltb 1 c.args.f) c.args.x (init_from e t) c.undefined_now-undefined.result k) c.requires c.declare.auto.0 c.declare.result c.declare.ensures) in
+    let m = moves.moves-by (undefined.declare-m-is c.args.f c.args.x e t c.args.is_change c.undefined_now-undefined.result k (rest w) c.undefined_now-undefined.ensures) (moves.grown-moves (declare (ltb 1 c.args.f) c.args.x (init_from e t) c.undefined_now-undefined.result k) c.requires c.declare.auto.w c.declare.result c.declare.ensures) in
     rw c.sited-e.ensures.1 at m

@@ -1,6 +1,6 @@
 use native.Mathlib.Omega.{arith}
 use Prim.Native.Nat.{◌-◌}
-use Rattle.scope.proofs.Given as goal
+use Rattle.scope.proofs.Given as given
 use borrow.Author.Rules.{rules}
 use Rattle.scope.proofs.run_of.Goals as goal
 
@@ -16,11 +16,11 @@ overflow_sub-result c = omega (arith, c.skip-e.ensures.1)
 pub returns-then-in_tree : goal.returns-then-in_tree
 returns-then-in_tree c =
     let w = c.args.w.now in
-    let i = c.v-1.given.0.0 in
-    rw c.v-1.given.1 (goal.runs-tree c.requires (c.in_tree.ensures.0 c.if-in_tree.true) (c.skip-e.result - i) (omega (arith, c.skip-e.ensures.0)) (omega (arith, c.skip-e.ensures.0, c.skip-e.ensures.2)))
+    let i = c.in-At.i in
+    rw c.in-At.is (given.runs-tree c.requires (c.in_tree.ensures.0 c.if-in_tree.true) (c.skip-e.result - i) (omega (arith, c.skip-e.ensures.0)) (omega (arith, c.skip-e.ensures.0, c.skip-e.ensures.2)))
 
 pub returns-in-Nothing : goal.returns-in-Nothing
-returns-in-Nothing c = rw c.enum_told-1.given.1 (goal.runs_none c.args.w.now)
+returns-in-Nothing c = rw c.in-Nothing.is (given.runs_none c.args.w.now)
 
 pub returns-else-in_tree : goal.returns-else-in_tree
-returns-else-in_tree c = rw (c.v-1.given.1, c.in_tree.ensures.1 c.if-in_tree.false) (goal.runs_none c.args.w.now)
+returns-else-in_tree c = rw (c.in-At.is, c.in_tree.ensures.1 c.if-in_tree.false) (given.runs_none c.args.w.now)

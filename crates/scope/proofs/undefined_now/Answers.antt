@@ -11,13 +11,13 @@ use borrow.Author.Rules.{rules}
 use Rattle.scope.proofs.undefined_now.Goals as goal
 
 pub returns-then-w-ne1 : goal.returns-then-w-ne1
-returns-then-w-ne1 c = sym (parts.not-var (is_var (rest c.args.w.now).var_decl_kind) c.args.is-change (has_none c.args.v) (rest c.args.w.now).inlining (ap is_var (parts.rest-kind c.args.w.now) ∙ var-no (get_or c.args.w.now 8 0) c.if-w-ne1.true))
+returns-then-w-ne1 c = sym (parts.not-var (is_var (rest c.args.w.now).var_decl_kind) c.args.is_change (has_none c.args.v) (rest c.args.w.now).inlining (ap is_var (parts.rest-kind c.args.w.now) ∙ var-no (get_or c.args.w.now 8 0) c.if-w-ne1.true))
 
 pub returns-then-is_change : goal.returns-then-is_change
-returns-then-is_change c = sym (parts.a-change (is_var (rest c.args.w.now).var_decl_kind) c.args.is-change (has_none c.args.v) (rest c.args.w.now).inlining c.if-is_change.true)
+returns-then-is_change c = sym (parts.a-change (is_var (rest c.args.w.now).var_decl_kind) c.args.is_change (has_none c.args.v) (rest c.args.w.now).inlining c.if-is_change.true)
 
 pub returns-then-no_value : goal.returns-then-no_value
-returns-then-no_value c = sym (parts.all_but (is_var (rest c.args.w.now).var_decl_kind) c.args.is-change (has_none c.args.v) (rest c.args.w.now).inlining (ap is_var (parts.rest-kind c.args.w.now ∙ ap var_type_of c.if-w-ne1.false)) c.if-is_change.false (sym c.no_value.ensures ∙ c.if-no_value.true) ∙ parts.rest-inlining c.args.w.now ∙ sym (flag (get_or c.args.w.now 6 0)))
+returns-then-no_value c = sym (parts.all_but (is_var (rest c.args.w.now).var_decl_kind) c.args.is_change (has_none c.args.v) (rest c.args.w.now).inlining (ap is_var (parts.rest-kind c.args.w.now ∙ ap var_type_of c.if-w-ne1.false)) c.if-is_change.false (sym c.no_value.ensures ∙ c.if-no_value.true) ∙ parts.rest-inlining c.args.w.now ∙ sym (flag (get_or c.args.w.now 6 0)))
 
 pub returns : goal.returns
-returns c = sym (parts.a-value (is_var (rest c.args.w.now).var_decl_kind) c.args.is-change (has_none c.args.v) (rest c.args.w.now).inlining (sym c.no_value.ensures ∙ c.if-no_value.false))
+returns c = sym (parts.a-value (is_var (rest c.args.w.now).var_decl_kind) c.args.is_change (has_none c.args.v) (rest c.args.w.now).inlining (sym c.no_value.ensures ∙ c.if-no_value.false))
