@@ -7,7 +7,7 @@ use Prim.Native.Nat.{ℕ, suc, ◌+◌, ◌-◌, ◌*◌, ◌≤◌, ◌<◌}
 use native.Mathlib.Omega.{arith}
 use lib.ListN.{length, get_or, take, drop, length-drop}
 use lib.Seq.{get_or-drop}
-use Rattle.def_pass.specs.Scope.{VarInfo, Scope, Stack, has_in, find_in, find_binding_from_current, is_some, put, change, append, on_bindings}
+use Rattle.def_pass.specs.Scope.{VarInfo, Scope, Stack, has_in, find_binding_from_current, is_some, put, change, append, on_bindings}
 use Rattle.words.specs.Tab.{get_d-tab}
 use Rattle.words.specs.Layout.{yes}
 use Rattle.words.specs.Flags.{flag_at}
@@ -84,7 +84,7 @@ module _ (w : List ℕ) (g : Good w) (z : 0 < get_or w 2 0) where
       i = index_in x (drop a (binds w))
 
       has : has_in x (drop a (binds w)) ≡ true
-      has = index.place_here x (head_at w d) (heads_at w d) (binds w) (omega (arith, is))
+      has = index.place_here_lem x (head_at w d) (heads_at w d) (binds w) (omega (arith, is))
 
       there : p ≡ suc (a + i)
       there = is ∙ laws.place-yes x (head_at w d) (heads_at w d) (binds w) has

@@ -14,7 +14,6 @@ use Rattle.scope_values.proofs.Listed as listed
 use Rattle.scope_values.proofs.Count as count
 use Rattle.scope_redeclare.proofs.Again as again
 use Rattle.scope_redeclare.proofs.Again.{twice, listed-count}
-use borrow.Author.Rules.{rules}
 use Rattle.scope_redeclare.proofs.redeclare_as.Goals as goal
 
 pub overflow_cast-old : goal.overflow_cast-old
@@ -59,7 +58,7 @@ remark-requires c =
     (l.good, omega (arith, listed-count c.args.k _ c.requires.0 l, c.requires.1))
 
 pub shape_of-w : goal.shape_of-w
-shape_of-w c = c.remark.auto.0 ∙ c.set_run.auto.0
+shape_of-w c = c.remark.auto.w ∙ c.set_run.auto.w
 
 pub returns : goal.returns
 returns c =

@@ -5,7 +5,6 @@ use Rattle.words.specs.Layout.{yes}
 use Rattle.words_scopes.specs.State.{bind_at}
 use Rattle.scope_values.specs.Steps.{put_at}
 use Rattle.scope_values.proofs.Listed as listed
-use borrow.Author.Rules.{rules}
 use Rattle.scope_redeclare.proofs.redeclare_seen.Goals as goal
 
 pub returns : goal.returns

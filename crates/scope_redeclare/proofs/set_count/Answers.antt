@@ -1,6 +1,5 @@
 -- The count of a binding overwritten. Assumes nothing.
 use Rattle.scope_redeclare.proofs.Fields.{recounted, recounted-past}
-use borrow.Author.Rules.{rules}
 use Rattle.scope_redeclare.proofs.set_count.Goals as goal
 
 pub returns : goal.returns
