@@ -8,7 +8,7 @@ use Prim.Native.Nat.{ℕ, zero, suc, ◌+◌, ◌-◌, ◌*◌, ◌≤◌, ◌<�
 use native.Mathlib.Nat.{eq-or-lt_of_le}
 use native.Mathlib.Omega.{arith}
 use borrow.Author.Tests.{eq-eqb, ne_eqb, lt-ltb, le-ltb}
-use lib.ListN.{length, get_or, set, take, drop, length-take, length-set}
+use lib.ListN.{length, get_or, set, take, drop, length-take}
 use lib.Dec.{eqb, ltb}
 use lib.Seq.{ext_get_or}
 use Rattle.def_tree.specs.Base.{pick}
@@ -16,7 +16,7 @@ use Rattle.def_tree.specs.Tree.{Tree}
 use Rattle.def_pass.specs.Scope.{VarInfo, Scope, Stack, is_fn, is_param, change, defined, sensitive_now, prevent, one_more, read_once, prevent_param, prevent_inline_of_params, on_bindings}
 use Rattle.words.specs.Tab.{tab, tab-ext, length-tab, get_d-tab, same_or_not, below_or_not}
 use Rattle.words.specs.Layout.{yes}
-use Rattle.words_scopes.specs.State.{var_type_of, alias_at, value_of, run_at, bind_at, Head, head_at, heads_at, heads, flags, binds, consts, split, scope_of, stack, Good, Becomes, Fits, place}
+use Rattle.words_scopes.specs.State.{var_type_of, alias_at, value_of, bind_at, Head, head_at, heads_at, heads, flags, binds, consts, split, scope_of, stack, Good, Becomes, Fits, place}
 use Rattle.words_scopes.proofs.Split as laws
 use Rattle.words_scopes.proofs.Words as words
 use Rattle.words_scopes.proofs.Grow.{some-head}

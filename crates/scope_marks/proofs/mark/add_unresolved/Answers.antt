@@ -7,7 +7,6 @@ use Rattle.words_scopes.proofs.Words as words
 use Rattle.scope_find.specs.Look.{below}
 use Rattle.scope_find.proofs.Touch as touch
 use Rattle.scope_find.proofs.Out as out
-use borrow.Author.Rules.{rules}
 use Rattle.scope_marks.proofs.mark.add_unresolved.Goals as goal
 
 pub returns-then-d-eq0 : goal.returns-then-d-eq0

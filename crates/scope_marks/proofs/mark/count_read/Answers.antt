@@ -9,7 +9,6 @@ use Rattle.words_scopes.specs.State.{stack}
 use Rattle.scope_find.proofs.Facts as facts
 use Rattle.scope_find.proofs.Out as out
 use Rattle.scope_marks.proofs.Fields as fields
-use borrow.Author.Rules.{rules}
 use Rattle.scope_marks.proofs.mark.count_read.Goals as goal
 
 pub returns-then-k1-eq0 : goal.returns-then-k1-eq0

@@ -1,13 +1,9 @@
 -- Outwards: the invariant is that the answer is that of the scopes left. Assumes nothing.
-use Prim.Native.Nat.{ℕ, ◌+◌, ◌*◌, ◌-◌, ◌≤◌}
-use mathlib.Core.Path.{◌≡◌, refl, sym, ap, ◌∙◌}
-use native.Mathlib.Omega.{arith}
-use borrow.Author.Rules.{rules}
+use Prim.Native.Nat.{◌≤◌}
+use mathlib.Core.Path.{◌≡◌}
 use lib.ListN.{get_or}
 use Rattle.words_scopes.specs.State.{heads, heads_at}
 use Rattle.scope_find.specs.Look.{fn_start}
-use Rattle.scope_marks.proofs.Fields as fields
-use Rattle.scope_find.proofs.Out as out
 use Rattle.scope_marks.proofs.mark.fn_start.Given as goal
 
 abbrev pub invariant-loop-k : goal.invariant-loop-k

@@ -1,7 +1,6 @@
 -- Up to 2. Assumes nothing.
 use mathlib.Core.Path.{refl, sym}
 use borrow.Author.Tests.{lt-ltb, le-ltb}
-use borrow.Author.Rules.{rules}
 use Rattle.scope_marks.proofs.mark.one_more.Goals as goal
 
 pub returns-then-n-lt2 : goal.returns-then-n-lt2

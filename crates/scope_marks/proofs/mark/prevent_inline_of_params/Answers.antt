@@ -1,6 +1,5 @@
 -- Where the function begins, and the sweep. Assumes nothing.
 use native.Mathlib.Omega.{arith}
-use borrow.Author.Rules.{rules}
 use Rattle.scope_marks.proofs.Fields as fields
 use Rattle.scope_marks.proofs.mark.prevent_inline_of_params.Goals as goal
 

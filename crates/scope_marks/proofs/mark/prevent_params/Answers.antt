@@ -1,8 +1,7 @@
 -- The sweep over the bindings from lo on. Assumes nothing.
-use Prim.Native.Nat.{ℕ, ◌+◌, ◌*◌, ◌-◌, ◌≤◌, ◌<◌}
+use Prim.Native.Nat.{ℕ, ◌+◌, ◌*◌, ◌≤◌, ◌<◌}
 use mathlib.Core.Path.{◌≡◌, refl, ap, ◌∙◌}
 use native.Mathlib.Omega.{arith}
-use borrow.Author.Rules.{rules}
 use lib.ListN.{length, length-set, get_or}
 use Rattle.def_pass.specs.Scope.{is_param}
 use Rattle.words_scopes.specs.State.{var_type_of}

@@ -1,12 +1,7 @@
 -- The sweep over the bindings from lo on. Assumes nothing.
-use Prim.Native.Nat.{ℕ, ◌+◌, ◌*◌, ◌-◌, ◌≤◌, ◌<◌}
-use mathlib.Core.Logic.{⊎_elim}
-use mathlib.Core.Path.{◌≡◌, refl, ap, ◌∙◌}
-use native.Mathlib.Omega.{arith}
-use borrow.Author.Rules.{rules}
-use lib.ListN.{length, length-set, get_or}
-use Rattle.def_pass.specs.Scope.{is_param}
-use Rattle.words_scopes.specs.State.{var_type_of}
+use Prim.Native.Nat.{◌-◌, ◌≤◌}
+use mathlib.Core.Path.{◌≡◌}
+use lib.ListN.{length, get_or}
 use Rattle.scope_marks.proofs.Fields as fields
 use Rattle.scope_marks.proofs.mark.prevent_params.Given as goal
 

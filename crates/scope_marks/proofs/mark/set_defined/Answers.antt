@@ -2,7 +2,6 @@
 use Prim.Native.Nat.{suc, ◌-◌}
 use mathlib.Core.Path.{◌≡◌, sym, ◌∙◌}
 use native.Mathlib.Omega.{arith}
-use borrow.Author.Rules.{rules}
 use Rattle.words_scopes.proofs.Words as words
 use Rattle.scope_marks.proofs.Fields as fields
 use Rattle.scope_marks.proofs.mark.set_defined.Goals as goal

@@ -3,7 +3,6 @@ use Prim.Native.Nat.{suc}
 use mathlib.Core.Path.{◌≡◌, ap, ◌∙◌}
 use native.Mathlib.Numerals.{add-one}
 use native.Mathlib.Omega.{arith}
-use borrow.Author.Rules.{rules}
 use Rattle.scope_find.specs.Look.{first}
 use Rattle.scope_find.proofs.Touch as touch
 use Rattle.scope_find.proofs.Out as out

@@ -1,8 +1,6 @@
 -- From the root inwards. Assumes nothing.
 use Prim.Native.Nat.{◌-◌, ◌≤◌}
-use mathlib.Core.Path.{◌≡◌, refl, ◌∙◌}
-use native.Mathlib.Omega.{arith}
-use borrow.Author.Rules.{rules}
+use mathlib.Core.Path.{◌≡◌}
 use lib.ListN.{length, get_or}
 use Rattle.scope_find.proofs.Touch as touch
 use Rattle.scope_marks.proofs.mark.store_inline_barrier.Given as goal
