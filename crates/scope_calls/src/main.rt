@@ -46,7 +46,7 @@ fn next(w: &mut [u32], s: &[u8], i: usize, no: u32) -> u32
 // Plays the sequence that begins at a place, up to its end or to a call that is refused; where the next one begins.
 fn play(rt: &impl Print, w: &mut [u32], s: &[u8], from: usize) -> io::Result<usize>
     requires { (16384 ≤ length w.old) × (from < length s.now) × (length s.now ≤ 65536) }
-    ensures { IfOk result (λ i. from < i) × (16384 ≤ length w.new) }
+    ensures { (IfOk result (λ i. from < i)) × (16384 ≤ length w.new) }
 {
     begin(w);
     let mut no: u32 = 0;

@@ -1,10 +1,9 @@
--- `print_roots` meets its contract: what is printed stands within the buffer. Assumes nothing.
-use borrow.Author.Rules.{rules}
-use Prim.Native.Nat.{◌≤◌, ◌-◌}
+-- What is shown stands within the buffer. Assumes nothing.
+use Rattle.std.proofs.Common.{◌≤◌, ◌-◌}
 use Rattle.negbosun.proofs.print_roots.Given as goal
 
 abbrev pub invariant-loop-k : goal.invariant-loop-k
-invariant-loop-k l = l.k ≤ l.n
+invariant-loop-k g l = l.k ≤ l.n
 
 abbrev pub decreases-loop-k : goal.decreases-loop-k
-decreases-loop-k l = l.n - l.k
+decreases-loop-k g l = l.n - l.k

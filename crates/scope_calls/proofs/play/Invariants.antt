@@ -5,7 +5,7 @@ use Rattle.scope_calls.proofs.Keep as keep
 use Rattle.scope_calls.proofs.play.Given as goal
 
 abbrev pub invariant-loop-w : goal.invariant-loop-w
-invariant-loop-w l = Planted l.w × (length l.w ≡ length l.initial.w) × (l.from ≤ l.i) × (l.i ≤ length l.s + 4)
+invariant-loop-w g l = Planted l.w × (length l.w ≡ length l.initial.w) × (l.from ≤ l.i) × (l.i ≤ length l.s + 4)
 
 abbrev pub decreases-loop-w : goal.decreases-loop-w
-decreases-loop-w l = length l.s + 4 - l.i
+decreases-loop-w g l = length l.s + 4 - l.i

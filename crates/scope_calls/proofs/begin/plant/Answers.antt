@@ -37,7 +37,7 @@ pub grow-requires-11 : goal.grow-requires-11
 grow-requires-11 c = let b = c.grow-10.ensures _ (c.grow-9.ensures _ (c.grow-8.ensures _ (c.grow-7.ensures _ (c.grow-6.ensures _ (c.grow-5.ensures _ (c.grow-4.ensures _ (c.grow-3.ensures _ (c.grow-2.ensures _ (c.grow.ensures _ (keep.cleared c.requires c.clear.ensures)))))))))) in (b.long, omega (arith, keep.size b), omega arith, omega arith)
 
 pub shape_of-w : goal.shape_of-w
-shape_of-w c = c.grow-11.auto.0 ∙ c.grow-10.auto.0 ∙ c.grow-9.auto.0 ∙ c.grow-8.auto.0 ∙ c.grow-7.auto.0 ∙ c.grow-6.auto.0 ∙ c.grow-5.auto.0 ∙ c.grow-4.auto.0 ∙ c.grow-3.auto.0 ∙ c.grow-2.auto.0 ∙ c.grow.auto.0 ∙ c.clear.auto.0
+shape_of-w c = c.grow-11.auto.w ∙ c.grow-10.auto.w ∙ c.grow-9.auto.w ∙ c.grow-8.auto.w ∙ c.grow-7.auto.w ∙ c.grow-6.auto.w ∙ c.grow-5.auto.w ∙ c.grow-4.auto.w ∙ c.grow-3.auto.w ∙ c.grow-2.auto.w ∙ c.grow.auto.w ∙ c.clear.auto.w
 
 pub returns : goal.returns
 returns c = keep.begun-planted (c.grow-11.ensures _ (c.grow-10.ensures _ (c.grow-9.ensures _ (c.grow-8.ensures _ (c.grow-7.ensures _ (c.grow-6.ensures _ (c.grow-5.ensures _ (c.grow-4.ensures _ (c.grow-3.ensures _ (c.grow-2.ensures _ (c.grow.ensures _ (keep.cleared c.requires c.clear.ensures))))))))))))

@@ -3,7 +3,7 @@ use Rattle.std.proofs.Common.{◌-◌, arith, rules}
 use Rattle.scope_calls.proofs.show.show_consts.Given as goal
 
 abbrev pub invariant-loop-k : goal.invariant-loop-k
-invariant-loop-k l = Unit {0}
+invariant-loop-k g l = Unit {0}
 
 abbrev pub decreases-loop-k : goal.decreases-loop-k
-decreases-loop-k l = l.e - l.k
+decreases-loop-k g l = l.e - l.k

@@ -3,7 +3,7 @@ use Rattle.std.proofs.Common.{◌-◌, arith, rules}
 use Rattle.scope_calls.proofs.show.show_unresolved.Given as goal
 
 abbrev pub invariant-loop-x : goal.invariant-loop-x
-invariant-loop-x l = Unit {0}
+invariant-loop-x g l = Unit {0}
 
 abbrev pub decreases-loop-x : goal.decreases-loop-x
-decreases-loop-x l = 4 - l.x
+decreases-loop-x g l = 4 - l.x

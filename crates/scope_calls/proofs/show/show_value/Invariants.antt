@@ -3,7 +3,7 @@ use Rattle.std.proofs.Common.{◌-◌, arith, rules}
 use Rattle.scope_calls.proofs.show.show_value.Given as goal
 
 abbrev pub invariant-loop-j : goal.invariant-loop-j
-invariant-loop-j l = Unit {0}
+invariant-loop-j g l = Unit {0}
 
 abbrev pub decreases-loop-j : goal.decreases-loop-j
-decreases-loop-j l = l.n - l.j
+decreases-loop-j g l = l.n - l.j
