@@ -7,7 +7,7 @@ use borrow.Author.Tests.{eqb-true}
 use lib.Dec.{eqb}
 use lib.ListN.{drop}
 use Rattle.def_tree.specs.Base.{pick}
-use Rattle.def_tree.specs.Tree.{Tree, Forest, node, nil, cons, kind, num, length_f, tail_f, Core, core, flat, flats, take_f, drop_f, plant}
+use Rattle.def_tree.specs.Tree.{Tree, Forest, node, nil, cons, length_f, tail_f, Core, core, flat, flats, take_f, drop_f, plant}
 use Rattle.def_pass.specs.Tree.{head_t}
 use Rattle.def_pass.specs.Twice.{is_function, is_named, binds, no_literal, declarators, vars, vars_f, params, twice, flag, flags, flag_named}
 use Rattle.words_nodes.specs.Nodes.{forest_from}

@@ -5,7 +5,6 @@ use Rattle.def_pass.specs.Twice.{twice}
 use Rattle.words.specs.Layout.{tree}
 use Rattle.words_nodes.specs.Nodes.{forest_from}
 use Rattle.words_twice.proofs.Steps as steps
-use borrow.Author.Rules.{rules}
 use Rattle.words_twice.proofs.flag_node.Goals as goal
 
 pub kind_at-requires : goal.kind_at-requires

@@ -8,7 +8,6 @@ use Rattle.words_nodes.specs.Nodes.{forest_from}
 use Rattle.words_twice.specs.Twice.{flagged_from}
 use Rattle.words_twice.proofs.Looks as looks
 use Rattle.words_twice.proofs.Steps as steps
-use borrow.Author.Rules.{rules}
 use Rattle.words_twice.proofs.flag_twice.Goals as goal
 
 pub arity_at-n-requires : goal.arity_at-n-requires

@@ -1,8 +1,8 @@
 -- Tree by tree. Assumes nothing.
 use mathlib.Core.Path.{refl, sym, ap, ◌∙◌}
-use Prim.Native.Nat.{ℕ, ◌+◌, ◌-◌}
+use Prim.Native.Nat.{ℕ, ◌+◌}
 use native.Mathlib.Omega.{arith}
-use lib.ListN.{length, get_or}
+use lib.ListN.{length}
 use Rattle.def_tree.specs.Tree.{Forest}
 use Rattle.def_pass.specs.Twice.{params}
 use Rattle.words.specs.Layout.{tree}
@@ -11,7 +11,6 @@ use Rattle.words_nodes.proofs.Words.{tree-whole, in_tree}
 use Rattle.words_twice.proofs.Places.{stand-open}
 use Rattle.words_twice.proofs.Counts as counts
 use Rattle.words_twice.proofs.Looks as looks
-use borrow.Author.Rules.{rules}
 use Rattle.words_twice.proofs.params.Goals as goal
 
 pub loop-more-init : goal.loop-more-init

@@ -1,17 +1,10 @@
 -- Tree by tree. Assumes nothing.
-use mathlib.Core.Path.{refl, sym, ap, ◌∙◌}
-use Prim.Native.Nat.{ℕ, ◌+◌, ◌-◌}
-use native.Mathlib.Omega.{arith}
+use Prim.Native.Nat.{◌-◌}
 use lib.ListN.{length, get_or}
 use Rattle.def_tree.specs.Tree.{Forest}
 use Rattle.def_pass.specs.Twice.{params}
 use Rattle.words.specs.Layout.{tree}
-use Rattle.words_nodes.specs.Nodes.{tree_from}
-use Rattle.words_nodes.proofs.Words.{tree-whole, in_tree}
-use Rattle.words_twice.proofs.Places.{stand-open}
 use Rattle.words_twice.proofs.Counts as counts
-use Rattle.words_twice.proofs.Looks as looks
-use borrow.Author.Rules.{rules}
 use Rattle.words_twice.proofs.params.Given as goal
 
 abbrev pub invariant-loop-more : goal.invariant-loop-more

@@ -2,7 +2,6 @@
 use mathlib.Core.Path.{sym, ◌∙◌}
 use native.Mathlib.Omega.{arith}
 use Rattle.words_twice.proofs.Looks as looks
-use borrow.Author.Rules.{rules}
 use Rattle.words_twice.proofs.var_at.Goals as goal
 
 pub kind_at-requires : goal.kind_at-requires

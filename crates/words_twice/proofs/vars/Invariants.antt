@@ -1,17 +1,11 @@
 -- Node by node, past functions. Assumes nothing.
-use mathlib.Core.Path.{◌≡◌, refl, sym, ap, ◌∙◌}
-use Prim.Native.Nat.{◌+◌, ◌-◌}
-use native.Mathlib.Omega.{arith}
+use Prim.Native.Nat.{◌-◌}
 use lib.ListN.{get_or}
-use Rattle.def_tree.specs.Tree.{Forest, Core}
+use Rattle.def_tree.specs.Tree.{Forest}
 use Rattle.def_pass.specs.Twice.{vars_f}
 use Rattle.words.specs.Layout.{tree}
-use Rattle.words_nodes.proofs.Words.{tree-whole, in_tree, few-open, node-here}
 use Rattle.words_twice.specs.Twice.{tally}
-use Rattle.words_twice.proofs.Places.{stand-open}
 use Rattle.words_twice.proofs.Counts as counts
-use Rattle.words_twice.proofs.Looks as looks
-use borrow.Author.Rules.{rules}
 use Rattle.words_twice.proofs.vars.Given as goal
 
 abbrev pub invariant-loop-more : goal.invariant-loop-more
