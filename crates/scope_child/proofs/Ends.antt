@@ -1,16 +1,16 @@
 -- The end of a scope, whole. Assumes nothing.
 use Rattle.std.proofs.Common.{◌≡◌, ℕ, zero, suc, ◌+◌, ◌-◌, ◌*◌, ◌%◌, ◌<◌, ◌≤◌, Bool, true, false, ◌||◌, ◌⊎◌, List, [], ◌∷◌, ◌++◌, length, get_or, drop, set, sym, refl, ap, ◌∙◌, inl, inr, ⊎_elim, arith, length-drop, length-set, get_or-drop, get_or-set_other, get_or-set_same, ext_get_or}
 use Rattle.def_tree.specs.Base.{pick}
-use Rattle.def_pass.specs.Scope.{VarInfo, Scope, Stack, is_fn, is_var, put, hoist, hoist_all, on_bindings, close, wrap, counts_in, count_in, ending_all, ending}
+use Rattle.def_pass.specs.Scope.{VarInfo, Scope, Stack, is_fn, is_var, put, hoist, hoist_all, on_bindings, close, counts_in, count_in, ending_all, ending}
 use Rattle.words.specs.Tab.{tab, tab-zero, tab-suc, length-tab, get_d-tab, sum-zero, below_or_not}
-use Rattle.words.specs.Layout.{Agree, tree}
+use Rattle.words.specs.Layout.{tree}
 use Rattle.words.specs.Moved.{Zeroed}
 use Rattle.words.proofs.Nodes.{beyond-same, tree-same}
 use Rattle.words_scopes.specs.State.{Good, Past, Becomes, bind_at, binds, stack, Fits, heads, head_at, heads_at, scope_kind_of, drop_inner, len_at, clen_at}
 use Rattle.words_scopes.proofs.Index.{beside_none}
 use Rattle.scope_values.proofs.Count.{depth_is}
 use Rattle.scope_values.proofs.Listed.{stack-none}
-use Rattle.scope_child.specs.Hoist.{record_at, hoist_up, end_one, end_up}
+use Rattle.scope_child.specs.Hoist.{record_at, hoist_up, end_up}
 use Rattle.scope_redeclare.proofs.Top.{top_scope, under, heads-top, stack_top, under-length, top-fits}
 use Rattle.scope_child.proofs.Hoist.{record_same}
 

@@ -1,14 +1,12 @@
 -- One binding hoisted. Assumes nothing.
-use Rattle.std.proofs.Common.{◌≡◌, ℕ, zero, suc, ◌+◌, ◌*◌, ◌<◌, ◌≤◌, Bool, true, false, ◌||◌, eqb, List, [], ◌∷◌, length, get_or, set, sym, refl, ap, ◌∙◌, arith, length-set, get_or-set_same, set-set}
+use Rattle.std.proofs.Common.{◌≡◌, ℕ, zero, suc, ◌+◌, ◌*◌, ◌<◌, ◌≤◌, Bool, true, false, ◌||◌, eqb, List, [], ◌∷◌, length, get_or, set, sym, refl, ap, ◌∙◌, arith}
 use mathlib.Core.Option.{Option, none, some}
 use Rattle.def_pass.specs.Scope.{VarInfo, Stack, is_var, hoist, with_value, change, append, find_in, find_binding_from_current, count_in, is_some}
-use Rattle.words.specs.Tab.{tab-zero}
-use Rattle.words.specs.Layout.{yes, Agree, run, core_from}
-use Rattle.words_scopes.specs.State.{Good, Becomes, bind_at, binds, consts, stack, var_type_of, alias_at, bare_of, with_count}
+use Rattle.words.specs.Layout.{yes, Agree}
+use Rattle.words_scopes.specs.State.{Becomes, bind_at, binds, consts, stack, var_type_of, alias_at, bare_of, with_count}
 use Rattle.words_scopes.proofs.Words.{bind-eq}
 use Rattle.scope_values.specs.Steps.{Listed, refill}
-use Rattle.scope_values.proofs.Count.{length-binds}
-use Rattle.scope_values.proofs.Listed.{bind-there, change-at, listed_then, listed-becomes}
+use Rattle.scope_values.proofs.Listed.{change-at, listed-becomes}
 use Rattle.scope_redeclare.specs.Own.{Own}
 use Rattle.scope_redeclare.proofs.Top.{put_top, put-there, put-absent, unres_top}
 use Rattle.scope_child.specs.Hoist.{record_at, hoist_one, hoist_up, end_one}

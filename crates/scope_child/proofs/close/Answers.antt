@@ -1,5 +1,5 @@
 -- Dropped, and then hoisted into what is innermost now. Assumes nothing.
-use Rattle.std.proofs.Common.{◌≡◌, ℕ, ◌+◌, ◌-◌, ◌*◌, ◌%◌, ◌<◌, get_or, sym, ap, ◌∙◌, arith, rules}
+use Rattle.std.proofs.Common.{ℕ, ◌+◌, ◌*◌, ◌%◌, ◌<◌, get_or, sym, ap, ◌∙◌, arith}
 use Rattle.words_scopes.specs.State.{stack}
 use Rattle.scope_values.proofs.Count.{depth_is}
 use Rattle.scope_values.proofs.Listed.{becomes-then}

@@ -1,5 +1,5 @@
 -- The index, and three counts. Assumes nothing.
-use Rattle.std.proofs.Common.{◌∙◌, arith, length-set, rules}
+use Rattle.std.proofs.Common.{arith, length-set}
 use Rattle.scope_child.proofs.Ends as ends
 use Rattle.scope_child.proofs.drop_all.Goals as goal
 

@@ -1,5 +1,5 @@
 -- By the first. Assumes nothing.
-use Rattle.std.proofs.Common.{sym, refl, rules}
+use Rattle.std.proofs.Common.{sym, refl}
 use Rattle.scope_child.proofs.Hoist.{yes_of}
 use Rattle.scope_child.proofs.either.Goals as goal
 

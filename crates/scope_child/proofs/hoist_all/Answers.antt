@@ -1,6 +1,6 @@
 -- Binding by binding, the oldest first. Assumes nothing.
-use Rattle.std.proofs.Common.{◌≡◌, ℕ, suc, ◌+◌, ◌-◌, ◌*◌, ◌%◌, ◌≤◌, length, get_or, refl, ap, ◌∙◌, arith, rules}
-use Rattle.words_scopes.specs.State.{stack, Past, Becomes}
+use Rattle.std.proofs.Common.{◌≡◌, ℕ, suc, ◌+◌, ◌-◌, ◌*◌, ◌%◌, length, refl, ap, ◌∙◌, arith}
+use Rattle.words_scopes.specs.State.{stack}
 use Rattle.scope_values.proofs.Count.{depth_is}
 use Rattle.scope_values.proofs.Listed.{becomes-self, becomes-then}
 use Rattle.scope_child.specs.Hoist.{record_at, hoist_one, hoist_up, end_one, end_up}

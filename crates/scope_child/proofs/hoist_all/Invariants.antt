@@ -1,10 +1,7 @@
 -- Binding by binding, the oldest first. Assumes nothing.
-use Rattle.std.proofs.Common.{◌≡◌, ℕ, suc, ◌+◌, ◌-◌, ◌*◌, ◌%◌, ◌≤◌, length, get_or, refl, ap, ◌∙◌, arith, rules}
+use Rattle.std.proofs.Common.{◌≡◌, ◌-◌, ◌%◌, ◌≤◌, length, get_or}
 use Rattle.words_scopes.specs.State.{stack, Past, Becomes}
-use Rattle.scope_values.proofs.Count.{depth_is}
-use Rattle.scope_values.proofs.Listed.{becomes-self, becomes-then}
-use Rattle.scope_child.specs.Hoist.{record_at, hoist_one, hoist_up, end_one, end_up}
-use Rattle.scope_child.proofs.Hoist.{length_up, record_same}
+use Rattle.scope_child.specs.Hoist.{record_at, hoist_up, end_up}
 use Rattle.scope_child.proofs.hoist_all.Given as goal
 
 abbrev pub invariant-loop-j : goal.invariant-loop-j

@@ -1,5 +1,5 @@
 -- Only a `var`. Assumes nothing.
-use Rattle.std.proofs.Common.{◌+◌, ◌*◌, get_or, sym, refl, arith, rules}
+use Rattle.std.proofs.Common.{◌+◌, ◌*◌, get_or, sym, refl, arith}
 use Rattle.words_scopes.specs.State.{stack}
 use Rattle.scope_values.proofs.Listed.{becomes-self}
 use Rattle.scope_child.specs.Hoist.{record_at, hoist_one}

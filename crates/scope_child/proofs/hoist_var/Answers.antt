@@ -1,5 +1,5 @@
 -- In place, or appended. Assumes nothing.
-use Rattle.std.proofs.Common.{ℕ, ◌+◌, ◌*◌, Bool, ◌||◌, get_or, sym, refl, ap, ◌∙◌, arith, rules}
+use Rattle.std.proofs.Common.{ℕ, ◌+◌, ◌*◌, Bool, ◌||◌, get_or, sym, refl, ap, ◌∙◌, arith}
 use mathlib.Core.Option.{none}
 use Rattle.words.specs.Layout.{yes}
 use Rattle.def_pass.specs.Scope.{VarInfo, with_value, append}

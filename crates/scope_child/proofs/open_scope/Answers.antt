@@ -1,5 +1,5 @@
 -- Refused before the words change. Assumes nothing.
-use Rattle.std.proofs.Common.{length, refl, arith, rules, le-leb}
+use Rattle.std.proofs.Common.{length, refl, arith, le-leb}
 use borrow.Author.Tests.{lt-leb}
 use Rattle.words_scopes.specs.State.{stack}
 use Rattle.scope_values.proofs.Listed as listed

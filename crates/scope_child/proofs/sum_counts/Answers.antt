@@ -1,8 +1,5 @@
 -- The counts, one by one. Assumes nothing.
-use Rattle.std.proofs.Common.{◌≡◌, ◌+◌, ◌-◌, ◌%◌, ◌≤◌, sym, ap, ◌∙◌, arith, rules}
-use Rattle.def_pass.specs.Scope.{counts_in}
-use Rattle.words.specs.Tab.{tab}
-use Rattle.words_scopes.specs.State.{bind_at}
+use Rattle.std.proofs.Common.{◌≡◌, ◌∙◌, arith}
 use Rattle.scope_child.proofs.Ends.{sum-none, sum_more}
 use Rattle.scope_child.proofs.sum_counts.Goals as goal
 

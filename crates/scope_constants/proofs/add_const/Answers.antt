@@ -6,7 +6,6 @@ use Rattle.scope_constants.proofs.Targeted as laws
 use Rattle.words.specs.Layout.{run}
 use mathlib.Core.List.{[]}
 use Rattle.scope_values.proofs.Listed as listed
-use borrow.Author.Rules.{rules}
 use Rattle.scope_constants.proofs.add_const.Goals as goal
 
 pub returns-then-d-eq0 : goal.returns-then-d-eq0

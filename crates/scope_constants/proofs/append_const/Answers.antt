@@ -12,7 +12,6 @@ use mathlib.Core.List.{[], ◌∷◌, ◌++◌}
 use Rattle.scope_constants.proofs.Constants as consts
 use Rattle.scope_values.proofs.Listed as listed
 use Rattle.scope_values.proofs.Count as count
-use borrow.Author.Rules.{rules}
 use Rattle.scope_constants.proofs.append_const.Goals as goal
 
 pub returns-then-passes : goal.returns-then-passes

@@ -1,14 +1,12 @@
 -- Scope by scope, innermost first: a constant without a value hides none. Assumes nothing.
-use Prim.Native.Nat.{ℕ, suc, ◌+◌, ◌*◌, ◌-◌, ◌≤◌, ◌<◌}
+use Prim.Native.Nat.{ℕ, suc, ◌+◌, ◌*◌, ◌-◌, ◌<◌}
 use mathlib.Core.Path.{◌≡◌, refl, sym, ap, ◌∙◌}
 use native.Mathlib.Omega.{arith}
 use lib.ListN.{get_or}
 use Rattle.scope_constants.proofs.Constants as consts
 use Rattle.words.specs.Tab as sums
 use Rattle.words.specs.Layout.{run}
-use Rattle.def_pass.specs.Scope.{find_constant}
-use Rattle.words_scopes.specs.State.{CFits, heads_at, heads, stack, clen_at, value_of}
-use borrow.Author.Rules.{rules}
+use Rattle.words_scopes.specs.State.{CFits, heads_at, heads, clen_at, value_of}
 use Rattle.scope_constants.proofs.find_constant.Goals as goal
 
 pub loop-k-init : goal.loop-k-init

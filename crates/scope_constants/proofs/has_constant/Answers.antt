@@ -1,7 +1,6 @@
 -- A scan of all constants. Assumes nothing.
 use mathlib.Core.Path.{sym}
 use Rattle.scope_constants.proofs.Constants as consts
-use borrow.Author.Rules.{rules}
 use Rattle.scope_constants.proofs.has_constant.Goals as goal
 
 pub returns-then-first_at-c : goal.returns-then-first_at-c

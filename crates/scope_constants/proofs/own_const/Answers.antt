@@ -1,9 +1,6 @@
 -- A scan of the innermost scope. Assumes nothing.
-use Prim.Native.Nat.{◌+◌, ◌*◌, ◌-◌}
 use native.Mathlib.Omega.{arith}
-use lib.ListN.{get_or}
 use Rattle.scope_constants.proofs.Constants as consts
-use borrow.Author.Rules.{rules}
 use Rattle.scope_constants.proofs.own_const.Goals as goal
 
 pub first_at-requires : goal.first_at-requires

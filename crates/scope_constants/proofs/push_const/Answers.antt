@@ -2,7 +2,6 @@
 use native.Mathlib.Omega.{arith}
 use lib.ListN.{length-set}
 use Rattle.scope_constants.proofs.ConstWords as words
-use borrow.Author.Rules.{rules}
 use Rattle.scope_constants.proofs.push_const.Goals as goal
 
 pub bounds-w-c-2 : goal.bounds-w-c-2

@@ -12,7 +12,6 @@ use Rattle.def_pass.specs.Scope.{recorded_nodes, live}
 use Rattle.scope_constants.proofs.Constants as consts
 use Rattle.scope_values.proofs.Listed as listed
 use Rattle.scope_values.proofs.Count as count
-use borrow.Author.Rules.{rules}
 use Rattle.scope_constants.proofs.replace_const.Goals as goal
 
 pub overflow_cast-old : goal.overflow_cast-old

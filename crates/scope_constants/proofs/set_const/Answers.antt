@@ -4,7 +4,6 @@ use lib.ListN.{get_or, length-set}
 use Rattle.words.specs.Tab as sums
 use Rattle.words_scopes.specs.State.{clen_at}
 use Rattle.scope_constants.proofs.ConstWords as words
-use borrow.Author.Rules.{rules}
 use Rattle.scope_constants.proofs.set_const.Goals as goal
 
 pub overflow_cast-old : goal.overflow_cast-old

@@ -4,7 +4,6 @@ use native.Mathlib.Nat.{pos_of_ne-zero}
 use native.Mathlib.Omega.{arith}
 use Rattle.words.specs.Flags.{flag_at}
 use Rattle.scope_constants.proofs.Targeted as laws
-use borrow.Author.Rules.{rules}
 use Rattle.scope_constants.proofs.untargeted.Goals as goal
 
 pub returns-then-m-eq0 : goal.returns-then-m-eq0

@@ -4,7 +4,6 @@ use mathlib.Core.Option.{some}
 use native.Mathlib.Numerals.{add-one}
 use Rattle.words_scopes.specs.State.{alias_at}
 use Rattle.scope_define.specs.Kinds.{alias_of}
-use borrow.Author.Rules.{rules}
 use Rattle.scope_define.proofs.alias_code.Goals as goal
 
 pub returns-in-AliasOf : goal.returns-in-AliasOf

@@ -15,7 +15,6 @@ use Rattle.scope_values.proofs.Listed.{becomes-then}
 use Rattle.scope_values.proofs.Listed as listed
 use Rattle.scope_values.proofs.Count as count
 use Rattle.scope_define.proofs.Declares as declares
-use borrow.Author.Rules.{rules}
 use Rattle.scope_define.proofs.declare_new.Goals as goal
 
 pub returns-then-passes : goal.returns-then-passes

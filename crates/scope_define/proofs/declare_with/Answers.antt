@@ -12,7 +12,6 @@ use Rattle.scope_define.specs.Declare.{put_declared}
 use mathlib.Core.Path.{sym, ap, ◌∙◌}
 use lib.ListN.{length}
 use Rattle.scope_define.proofs.Declares as declares
-use borrow.Author.Rules.{rules}
 use Rattle.scope_define.proofs.declare_with.Goals as goal
 
 pub prevent_if-requires : goal.prevent_if-requires

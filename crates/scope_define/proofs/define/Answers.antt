@@ -8,7 +8,6 @@ use Rattle.def_pass.specs.Scope.{change, defined}
 use Rattle.words_scopes.specs.State.{place, heads, binds, stack}
 use Rattle.words_scopes.proofs.Words as laws
 use Rattle.scope_values.proofs.Listed as listed
-use borrow.Author.Rules.{rules}
 use Rattle.scope_define.proofs.define.Goals as goal
 
 pub returns-then-k1-eq0 : goal.returns-then-k1-eq0

@@ -8,7 +8,6 @@ use Rattle.words.specs.Layout.{run}
 use Rattle.words_scopes.specs.State.{stack, value_of}
 use Rattle.scope_values.proofs.Listed as listed
 use Rattle.scope_define.proofs.Declares as declares
-use borrow.Author.Rules.{rules}
 use Rattle.scope_define.proofs.first_value.Goals as goal
 
 pub record_value-requires : goal.record_value-requires

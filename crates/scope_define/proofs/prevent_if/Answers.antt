@@ -2,7 +2,6 @@
 use mathlib.Core.Path.{refl}
 use Rattle.words_scopes.specs.State.{stack}
 use Rattle.scope_values.proofs.Listed as listed
-use borrow.Author.Rules.{rules}
 use Rattle.scope_define.proofs.prevent_if.Goals as goal
 
 pub returns-then-test : goal.returns-then-test

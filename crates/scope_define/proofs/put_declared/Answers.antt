@@ -9,7 +9,6 @@ use Rattle.words_scopes.specs.State.{value_of, var_type_of, alias_at}
 use Rattle.scope_values.proofs.Listed as listed
 use Rattle.scope_define.proofs.Declares as declares
 use Rattle.scope_redeclare.proofs.Again.{run_none}
-use borrow.Author.Rules.{rules}
 use Rattle.scope_define.proofs.put_declared.Goals as goal
 
 pub returns-then-w-eq0 : goal.returns-then-w-eq0

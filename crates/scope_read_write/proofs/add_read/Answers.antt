@@ -1,5 +1,4 @@
 -- Marks, and the count. Assumes nothing.
-use borrow.Author.Rules.{rules}
 use Rattle.def_tree.specs.Base.{pick}
 use Rattle.def_pass.specs.Scope.{Stack, is_some, find_binding, change, read_once, add_unresolved, prevent_inline_of_params, add_read}
 use Rattle.scope_read_write.proofs.Limits as limits

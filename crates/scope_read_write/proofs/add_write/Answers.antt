@@ -1,5 +1,4 @@
 -- Marks, and the rest. Assumes nothing.
-use borrow.Author.Rules.{rules}
 use Rattle.def_tree.specs.Base.{pick}
 use Rattle.def_pass.specs.Scope.{Stack, prevent_inline_of_params, add_write}
 use Rattle.words_scopes.specs.State.{stack}

@@ -1,5 +1,4 @@
 -- Both ways. Assumes nothing.
-use borrow.Author.Rules.{rules}
 use Rattle.scope_read_write.proofs.Limits as limits
 use Rattle.scope_read_write.proofs.prevent_if.Goals as goal
 

@@ -1,5 +1,4 @@
 -- The field, and the marks. Assumes nothing.
-use borrow.Author.Rules.{rules}
 use Rattle.def_tree.specs.Base.{pick}
 use Rattle.def_pass.specs.Scope.{Stack, prevent_inline}
 use Rattle.scope_read_write.proofs.Limits as limits

@@ -3,7 +3,6 @@ use mathlib.Core.Option.{none}
 use mathlib.Core.Bool.{true, false}
 use mathlib.Core.Path.{◌≡◌, sym, ◌∙◌}
 use native.Mathlib.Omega.{arith}
-use borrow.Author.Rules.{rules}
 use Rattle.def_pass.specs.Scope.{fresh, v_var, has_constant, append}
 use Rattle.words_scopes.specs.State.{stack}
 use Rattle.scope_find.specs.Answers.{write_free}

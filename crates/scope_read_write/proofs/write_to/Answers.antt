@@ -1,7 +1,6 @@
 -- By the scope found. Assumes nothing.
 use mathlib.Core.Bool.{Bool, true, false, not, ◌&&◌, ◌||◌}
 use mathlib.Core.Path.{◌≡◌, sym, ap, ◌∙◌}
-use borrow.Author.Rules.{rules}
 use Rattle.def_pass.specs.Scope.{scope_for}
 use Rattle.words_scopes.specs.State.{stack}
 use Rattle.scope_read_write.proofs.Again as again
