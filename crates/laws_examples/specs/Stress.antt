@@ -1,5 +1,5 @@
 -- How far antt computes: deep trees, nested right sides, a long script.
-use Rattle.std.specs.Prelude.{Bool, true, false, List, [], ◌∷◌, ℕ, zero, suc, ◌+◌, T, ◌≡◌, refl}
+use Rattle.std.specs.Prelude.{List, [], ◌∷◌, ℕ, zero, suc, T, ◌≡◌, refl}
 use Rattle.def_pass.specs.Tree.{Tree, nil, cons}
 use Rattle.def_pass.specs.Walk.{core_pass}
 use Rattle.def_file.specs.declared.Raw.{Raw}
@@ -8,7 +8,7 @@ use Rattle.def_file.specs.Write.{file}
 use Rattle.def_pass.specs.Script.{pass_file}
 use Rattle.def_pass.specs.Table.{n, seen, refusal}
 use Rattle.def_pass.specs.Imitations.{nest, many}
-use Rattle.def_pass.specs.Cases.{Case, stays, is_refused, right, script, do', name, array, op, lit, decl_to, f2}
+use Rattle.def_pass.specs.Cases.{stays, is_refused, right, script, do', name, array, op}
 
 -- b && [b && [ .. ]]
 abbrev pub ands : ℕ → Tree

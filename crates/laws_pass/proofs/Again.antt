@@ -16,7 +16,7 @@ use Rattle.def_file.specs.Kinds.{allows, row_of, form_ok, count_ok, child_of, us
 use Rattle.def_file.specs.Script.{Script, is_lit, has_id, known, enter, enter_all, idents, is_arguments, place_of, zero_node, node_at}
 use Rattle.def_file.specs.Read.{Place, fields_ok, node_ok, below, fills, nodes_ok, Read, bad, script, checked, read}
 use Rattle.def_file.specs.Core.{has_text, core_node, core_from, core_nodes, Out, ident_at, back}
-use Rattle.def_pass.specs.Tree.{Tree, Forest, node, nil, cons, kind, heights, kids}
+use Rattle.def_pass.specs.Tree.{Tree, Forest, node, nil, cons, heights, kids}
 use Rattle.laws_pass.specs.Readable.{form_of, row_at, FitsF, Readable}
 use Rattle.laws_pass.proofs.Tests.{is_T, is_true, and_left, and_right, both}
 use Rattle.laws_pass.proofs.Keep.{All, all_append}

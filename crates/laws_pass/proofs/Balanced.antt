@@ -7,14 +7,13 @@ use Prim.Native.Nat.{ℕ, ◌+◌, ◌%◌}
 use native.Mathlib.Omega.{arith}
 use lib.Dec.{eqb}
 use Rattle.def_tree.specs.Base.{pick, or_else}
-use Rattle.def_tree.specs.Combine.{Res, stop, done}
+use Rattle.def_tree.specs.Combine.{Res, done}
 use Rattle.def_pass.specs.Tree.{Tree}
-use Rattle.def_pass.specs.Targets.{targets}
 use Rattle.def_pass.specs.Scope as Scope
 use Rattle.def_pass.specs.Scope.{VarInfo, Stack, counts_in, count_in, live_counts, hoist_all, ending_all, ending, close}
 use Rattle.def_pass.specs.Walk as Walk
 use Rattle.def_pass.specs.Walk.{St}
-use Rattle.laws_pass.specs.Reached.{Step, opens, prevents, reads, writes, senses, bars, declares, stores, begins, fixes, Reached, first, step, closes, counts, same, full, bare, inner}
+use Rattle.laws_pass.specs.Reached.{Step, opens, prevents, reads, writes, senses, bars, declares, stores, begins, fixes, first, step, closes, counts, same, full, bare, inner}
 use Rattle.laws_pass.specs.Balanced.{Balanced, CountsBalance}
 use Rattle.laws_pass.proofs.Measure.{Const, Kept, all, same-prevent, same-change, same_read, same_write, same-barrier, same-sensitive, same-declare}
 use Rattle.laws_pass.proofs.Effects.{Went, full-does, bare-does, inner-does, run-does}

@@ -8,7 +8,7 @@ use Prim.Native.Nat.{ℕ, suc, ◌+◌}
 use lib.Dec.{eqb}
 use lib.ListN.{length, length-map}
 use Rattle.def_tree.specs.Base.{pick, or_else}
-use Rattle.def_pass.specs.Tree.{Tree, Forest, node, nil, cons, kind, kids, is_member, head_t}
+use Rattle.def_pass.specs.Tree.{Tree, Forest, node, nil, cons, kids, is_member, head_t}
 use Rattle.def_pass.specs.Relabel.{has_origin, relabel, relabel_f}
 use Rattle.def_pass.specs.Scope
 use Rattle.def_pass.specs.Scope.{VarInfo, Scope as Sc, Stack, Init, no_init, recorded, seen, VarType}

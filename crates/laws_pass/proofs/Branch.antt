@@ -1,13 +1,13 @@
 -- In Inlining `y = x` never becomes `x`: the write just before has cleared the undefined mark, or x is prevented. Assumes nothing.
-use mathlib.Core.Path.{◌≡◌, refl, sym, ap, ◌∙◌, subst}
+use mathlib.Core.Path.{◌≡◌, refl, sym, subst}
 use mathlib.Core.Bool.{Bool, true, false, ◌&&◌, ◌||◌, not}
 use mathlib.Core.Option.{Option, none, some}
 use mathlib.Core.Logic.{◌⊎◌, inl, inr}
 use mathlib.Core.List.{List, [], ◌∷◌, ◌++◌, map}
-use Prim.Native.Nat.{ℕ, zero, suc, ◌+◌, ◌-◌}
-use lib.Dec.{T, eqb, ltb, leb}
+use Prim.Native.Nat.{ℕ, suc}
+use lib.Dec.{T, eqb, ltb}
 use Rattle.def_tree.specs.Base.{pick, or_else}
-use Rattle.def_tree.specs.Combine.{Res, stop, done, Nothing, and_then, ◌>>=◌, ◌>>◌, ret, iff, each, split, on_kids}
+use Rattle.def_tree.specs.Combine.{Res, stop, done, Nothing, and_then, ◌>>◌, ret, iff, each, split}
 use Rattle.def_pass.specs.Tree as Tree'
 use Rattle.def_pass.specs.Tree.{Tree, Forest, node, nil, cons, kind, form, num, kids, head_t, tail_f}
 use Rattle.def_pass.specs.Twice.{is_args}
@@ -16,7 +16,7 @@ use Rattle.def_pass.specs.Scope.{VarInfo, Stack}
 use Rattle.def_pass.specs.Walk as Walk
 use Rattle.def_pass.specs.Walk.{St, M, Walks}
 use Rattle.laws_pass.specs.Branch.{Cleared, WriteClears, Ends, NeverTaken}
-use Rattle.laws_pass.proofs.Single.{Fresh, unbound, pick_id}
+use Rattle.laws_pass.proofs.Single.{Fresh, unbound}
 use Rattle.laws_pass.proofs.Tests.{pick-ok, pick_known}
 
 none-cleared : (o : Option VarInfo) → Scope.is_some o ≡ false → Cleared o

@@ -1,15 +1,14 @@
 -- The look-up of a constant gives no targeted identifier: through every step, walk and run the constants of the open scopes are free of
 -- targeted identifiers, and what is targeted stays. Assumes nothing.
 use mathlib.Core.Path.{◌≡◌, refl, sym, ap, ◌∙◌, subst}
-use mathlib.Core.Bool.{Bool, true, false, ◌&&◌, not, ◌||◌}
+use mathlib.Core.Bool.{Bool, true, false, ◌&&◌}
 use mathlib.Core.Option.{Option, none, some}
-use mathlib.Core.List.{List, [], ◌∷◌, ◌++◌, map}
+use mathlib.Core.List.{List, [], ◌∷◌}
 use Prim.Native.Nat.{ℕ}
 use native.Mathlib.Omega.{arith}
 use lib.Dec.{eqb}
-use lib.ListN.{length}
 use Rattle.def_tree.specs.Base.{pick, or_else}
-use Rattle.def_tree.specs.Combine.{Res, stop, done}
+use Rattle.def_tree.specs.Combine.{Res, done}
 use Rattle.def_pass.specs.Tree.{Tree, num, is_ident}
 use Rattle.def_pass.specs.Targets.{targets}
 use Rattle.def_pass.specs.Scope as Scope

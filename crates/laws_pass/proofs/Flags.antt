@@ -1,16 +1,16 @@
 -- A tree with its bindings flagged has the shape of the tree. Assumes nothing.
-use mathlib.Core.Path.{◌≡◌, refl, sym, ap, ap₂, ◌∙◌, subst}
+use mathlib.Core.Path.{◌≡◌, refl, sym, ap, ap₂, subst}
 use mathlib.Core.Bool.{Bool, true, false, ◌&&◌, ◌||◌}
 use Prim.Native.Nat.{ℕ, suc, ◌+◌, max}
-use lib.Dec.{T, eqb, eqb→eq}
+use lib.Dec.{T, eqb}
 use Rattle.def_tree.specs.Base.{pick}
 use Rattle.def_tree.specs.Tree.{length_f}
 use Rattle.def_file.specs.declared.kinds.Row.{Row}
 use Rattle.def_file.specs.Kinds.{allows, row_of, child_of, form_ok, count_ok}
 use Rattle.def_pass.specs.Tree.{Tree, Forest, node, nil, cons, kind, kids, count, counts, height, heights}
-use Rattle.def_pass.specs.Twice.{is_function, is_named, twice, flag, flags, flag_named, flagged}
+use Rattle.def_pass.specs.Twice.{is_function, is_named, twice, flag, flags, flag_named}
 use Rattle.laws_pass.specs.Readable.{form_of, row_at, Fits, FitsF}
-use Rattle.laws_pass.proofs.Tests.{is_T, elim-ok}
+use Rattle.laws_pass.proofs.Tests.{elim-ok}
 
 -- what holds of every way to flag some trees
 abbrev pub inner : (ℕ → Bool) → ℕ → ℕ → Forest → Forest

@@ -18,7 +18,7 @@ use Rattle.def_file.specs.declared.kinds.Row.{Row}
 use Rattle.def_file.specs.Kinds.{allows, row_of, form_ok, count_ok}
 use Rattle.def_file.specs.Script.{Script, is_lit, has_id, is_arguments, place_of, idents}
 use Rattle.def_file.specs.Read.{Place, fields_ok, node_ok, below, fills, nodes_ok, nodes_from, ends_from, texts_from, rising, distinct, Read, bad, script, checked, u32, read}
-use Rattle.def_pass.specs.Tree.{Tree, Forest, node, nil, cons, kind, kids, head_t, tail_f, count, counts, height, heights}
+use Rattle.def_pass.specs.Tree.{Tree, Forest, node, nil, cons, kind, kids, head_t, tail_f, counts, height, heights}
 use Rattle.def_file.specs.Core.{core_node, core_from, core_nodes}
 use Rattle.def_pass.specs.Script.{core_tree, pass_tree, pass, answer}
 use Rattle.def_pass.specs.Walk as Walk

@@ -11,7 +11,7 @@ use Rattle.laws_pass.proofs.Effects.{Law, Effects, GF, VF, VO, VB, VI, Passed, p
 use Rattle.laws_pass.proofs.Single.{Single, ids, has-mem, ids-append, ids-map, ids-change, pick_id, single-append, single-put, Fresh, unbound}
 use lib.ListN.{length}
 use Rattle.def_tree.specs.Base.{pick, or_else}
-use Rattle.def_pass.specs.Tree.{Tree, Forest, node, nil, cons, kind, num, kids, is_ident}
+use Rattle.def_pass.specs.Tree.{Tree, Forest, node, nil, cons, kind, num, is_ident}
 use Rattle.def_pass.specs.Twice.{unflagged, is_function, is_named, twice, flag, flags, flag_named, flagged}
 use Rattle.def_pass.specs.Scope as Scope
 use Rattle.def_pass.specs.Walk as Walk

@@ -5,7 +5,7 @@ use mathlib.Core.Option.{none, some}
 use Prim.Native.Nat.{ℕ, suc}
 use lib.ListN.{get_or}
 use Rattle.def_tree.specs.Base.{pick}
-use Rattle.def_tree.specs.Combine.{stop, done, and_then, ◌>>=◌}
+use Rattle.def_tree.specs.Combine.{stop, done, and_then}
 use Rattle.def_pass.specs.Tree.{Tree, node, nil, cons, kind, num}
 use Rattle.def_pass.specs.Scope.{VarInfo, find_binding, find_constant, var_inline_prevented}
 use Rattle.def_pass.specs.Walk.{St, Walks, walks, own, after, script_walk, handle, handlers, h_plain, after_ident, by_const, ident_analysis, ident_inlining, inline_value, run, runs, Outcome, result, refused, root_marks, set_changed, set_is_first_run}

@@ -1,5 +1,5 @@
 -- The root's bindings stand in the order they were made: what a walk, a run or the runs add stands behind what was there. Assumes nothing: these are definitions.
-use Rattle.std.specs.Prelude.{◌≡◌, Bool, List, ◌++◌, map, ℕ}
+use Rattle.std.specs.Prelude.{◌≡◌, List, ◌++◌, map, ℕ}
 use Rattle.def_tree.specs.Combine.{Res, stop, done}
 use Rattle.def_pass.specs.Tree.{Tree}
 use Rattle.def_pass.specs.Scope.{Stack}

@@ -1,9 +1,9 @@
 -- prevent_inline makes one pass through each scope: by name and by value on the way. Assumes nothing: these are definitions.
-use Rattle.std.specs.Prelude.{◌≡◌, Bool, false, List, [], ◌∷◌, map, ℕ, eqb}
+use Rattle.std.specs.Prelude.{◌≡◌, false, List, [], ◌∷◌, map, ℕ, eqb}
 use Rattle.def_tree.specs.Base.{change_if}
 use Rattle.def_tree.specs.Combine.{Res, stop, done}
 use Rattle.def_pass.specs.Tree.{Tree}
-use Rattle.def_pass.specs.Scope.{VarInfo, Scope, Stack, prevent, prevent_one, value_is, change_in, has_in}
+use Rattle.def_pass.specs.Scope.{VarInfo, Stack, prevent, prevent_one, value_is, change_in, has_in}
 use Rattle.def_pass.specs.Walk.{St, walks, run}
 
 -- every binding of an identifier is marked

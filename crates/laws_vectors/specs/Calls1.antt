@@ -1,5 +1,5 @@
 -- Sequences 128 to 252 of 475: calls and what they leave, in numbers of 16 bytes. Written by tools/calls.py.
-use Rattle.std.specs.Prelude.{◌≡◌, refl, List, [], ◌∷◌, ℕ}
+use Rattle.std.specs.Prelude.{◌≡◌, refl, List, [], ◌∷◌}
 use Rattle.laws_vectors.specs.Play.{Played, p, wrong}
 
 abbrev table4 : List Played

@@ -1,5 +1,5 @@
 -- Sequences 377 to 412 of 475: calls and what they leave, in numbers of 16 bytes. Written by tools/calls.py.
-use Rattle.std.specs.Prelude.{◌≡◌, refl, List, [], ◌∷◌, ℕ}
+use Rattle.std.specs.Prelude.{◌≡◌, refl, List, [], ◌∷◌}
 use Rattle.laws_vectors.specs.Play.{Played, p, wrong}
 
 abbrev table12 : List Played

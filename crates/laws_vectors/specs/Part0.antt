@@ -1,6 +1,6 @@
 -- Vectors 0 to 187 of 780: files and answers, in numbers of 16 bytes. Written by tools/vectors.py.
-use Rattle.std.specs.Prelude.{◌≡◌, refl, List, [], ◌∷◌, ℕ}
-use Rattle.laws_vectors.specs.Vector.{Vector, v, c, wrong}
+use Rattle.std.specs.Prelude.{◌≡◌, refl, List, [], ◌∷◌}
+use Rattle.laws_vectors.specs.Vector.{Vector, v, wrong}
 
 abbrev table0 : List Vector
 table0 =

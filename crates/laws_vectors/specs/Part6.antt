@@ -1,5 +1,5 @@
 -- Vectors 746 to 779 of 780: files and answers, in numbers of 16 bytes. Written by tools/vectors.py.
-use Rattle.std.specs.Prelude.{◌≡◌, refl, List, [], ◌∷◌, ℕ}
+use Rattle.std.specs.Prelude.{◌≡◌, refl, List, [], ◌∷◌}
 use Rattle.laws_vectors.specs.Vector.{Vector, v, c, wrong}
 
 abbrev table72 : List Vector

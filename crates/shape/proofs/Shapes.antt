@@ -1,16 +1,16 @@
 -- The shape that a walk keeps follows from what it does on trees. Assumes nothing.
-use mathlib.Core.Path.{◌≡◌, refl, sym, ap, ap₂, ◌∙◌, subst}
+use mathlib.Core.Path.{◌≡◌, refl, sym, ap, ap₂, ◌∙◌}
 use mathlib.Core.List.{List, [], ◌∷◌, ◌++◌}
-use Prim.Native.Nat.{ℕ, zero, suc, ◌+◌, ◌≤◌, ◌<◌}
+use Prim.Native.Nat.{ℕ, ◌+◌, ◌≤◌, ◌<◌}
 use native.Mathlib.Omega.{arith}
-use lib.ListN.{length, take, drop, length-take, length-drop, length-append, take-append-drop}
-use lib.Seq.{drop-drop, length-take-le}
-use Rattle.def_tree.specs.Tree.{Tree, Forest, nil, cons, Core, length_f, count, counts, flat, flats, plant, take_f, drop_f}
+use lib.ListN.{length, take, drop, length-append, take-append-drop}
+use lib.Seq.{length-take-le}
+use Rattle.def_tree.specs.Tree.{Tree, Forest, nil, cons, Core, length_f, counts, flat, flats, plant, take_f, drop_f}
 use Rattle.def_tree.specs.Combine as TreeWalks
 use Rattle.def_tree.specs.Combine.{Res, stop, done, M, and_then, ret, Flat, tree_at, forest_at, Walk, Walks, carry, skip, split_f}
-use Rattle.def_tree.proofs.Place.{onto, past, pasts, length-past, length-pasts, onto-past, onto-pasts, take-onto, drop-onto, onto-append, length-onto, at, drop_here, drops-here, tree-here, forest-here, plant-flats, append_f}
-use Rattle.def_tree.proofs.Sims.{Sim, SimF, sim-skip, sim-split, land_t, land_f, Ends}
-use Rattle.def_tree.proofs.Whole.{Whole, whole_drop, length-take_f, length-drop_f, flats-take-drop, unplant, whole-onto, length-append_f}
+use Rattle.def_tree.proofs.Place.{onto, pasts, length-pasts, onto-pasts, take-onto, drop-onto, onto-append, length-onto, drops-here, tree-here, forest-here, plant-flats}
+use Rattle.def_tree.proofs.Sims.{SimF, sim-skip, sim-split, land_f, Ends}
+use Rattle.def_tree.proofs.Whole.{Whole, whole_drop, length-take_f, flats-take-drop, unplant, length-append_f}
 use Rattle.shape.specs.Shape.{Room, Shape}
 
 -- a list as what stands behind its first nodes, the last one first

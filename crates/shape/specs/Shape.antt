@@ -1,7 +1,7 @@
 -- A walk of the tree at i leaves the nodes before it, and those behind it, as they were. Assumes nothing: these are definitions.
-use Rattle.std.specs.Prelude.{◌≡◌, List, ℕ, ◌+◌, ◌≤◌, ◌<◌, length, take, drop}
-use Rattle.def_tree.specs.Tree.{Core, length_f, count, counts, plant}
-use Rattle.def_tree.specs.Combine.{Flat, tree_at, forest_at}
+use Rattle.std.specs.Prelude.{◌≡◌, List, ℕ, ◌+◌, ◌≤◌, length, take, drop}
+use Rattle.def_tree.specs.Tree.{Core, length_f, counts, plant}
+use Rattle.def_tree.specs.Combine.{Flat, forest_at}
 
 -- n trees begin at i
 pub record Room (xs : List Core) (n i : ℕ) : Type 0 where
