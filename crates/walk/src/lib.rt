@@ -33,7 +33,7 @@ use words_nodes::skip;
 use words_state::{set_conds, set_in_test, set_inlining, set_pat_mode, set_var_decl_kind};
 
 // A node as its parent's default walk calls it: its own handler, then the steps of visit_mut_expr; what has neither is passed at once.
-#[cycle(after_arm_arms_arrow_assign_binds_block_body_call_case_catch_conds_decl_declr_fdecl_fexpr_forin_fors_full_func_ident_ifs_init_items_kids_logic_loops_many_name_own_params_parts_stmts_tail_tries_unary_whiles)]
+#[cycle(walks)]
 fn full(w: &mut [u32], p: usize, l: usize, i: usize) -> usize
     requires { Here w.old 1 i p l }
     ensures { Did w.old w.new (next_of result) ((walks_f l).full p i (abs w.old)) }
@@ -58,7 +58,7 @@ fn full(w: &mut [u32], p: usize, l: usize, i: usize) -> usize
 }
 
 // visit_mut_children_with of a list: n trees from i on.
-#[cycle(after_arm_arms_arrow_assign_binds_block_body_call_case_catch_conds_decl_declr_fdecl_fexpr_forin_fors_full_func_ident_ifs_init_items_kids_logic_loops_many_name_own_params_parts_stmts_tail_tries_unary_whiles)]
+#[cycle(walks)]
 fn many(w: &mut [u32], p: usize, d: usize, n: usize, i: usize) -> usize
     requires { Here w.old n i p d }
     ensures { Did w.old w.new (next_of result) (many ((walks_f d).full p) n i (abs w.old)) }
@@ -77,7 +77,7 @@ fn many(w: &mut [u32], p: usize, d: usize, n: usize, i: usize) -> usize
 }
 
 // visit_mut_stmts: plainly in Analysis; in Inlining both ways.
-#[cycle(after_arm_arms_arrow_assign_binds_block_body_call_case_catch_conds_decl_declr_fdecl_fexpr_forin_fors_full_func_ident_ifs_init_items_kids_logic_loops_many_name_own_params_parts_stmts_tail_tries_unary_whiles)]
+#[cycle(walks)]
 fn stmts(w: &mut [u32], p: usize, d: usize, n: usize, i: usize) -> usize
     requires { Here w.old n i p d }
     ensures { Did w.old w.new (next_of result) (visit_mut_stmts_f (walks_f d) p n i (abs w.old)) }
@@ -95,7 +95,7 @@ fn stmts(w: &mut [u32], p: usize, d: usize, n: usize, i: usize) -> usize
 }
 
 // The statements of a script, or of a function's body.
-#[cycle(after_arm_arms_arrow_assign_binds_block_body_call_case_catch_conds_decl_declr_fdecl_fexpr_forin_fors_full_func_ident_ifs_init_items_kids_logic_loops_many_name_own_params_parts_stmts_tail_tries_unary_whiles)]
+#[cycle(walks)]
 fn body(w: &mut [u32], p: usize, d: usize, i: usize) -> usize
     requires { Here w.old 1 i p (d + 1) }
     ensures { Did w.old w.new (next_of result) (script_f (walks_f d) p i (abs w.old)) }
@@ -105,7 +105,7 @@ fn body(w: &mut [u32], p: usize, d: usize, i: usize) -> usize
 }
 
 // visit_mut_children_with.
-#[cycle(after_arm_arms_arrow_assign_binds_block_body_call_case_catch_conds_decl_declr_fdecl_fexpr_forin_fors_full_func_ident_ifs_init_items_kids_logic_loops_many_name_own_params_parts_stmts_tail_tries_unary_whiles)]
+#[cycle(walks)]
 fn kids(w: &mut [u32], p: usize, d: usize, i: usize) -> usize
     requires { Here w.old 1 i p (d + 1) }
     ensures { Did w.old w.new (next_of result) (plain_f (walks_f d) p i (abs w.old)) }
@@ -115,7 +115,7 @@ fn kids(w: &mut [u32], p: usize, d: usize, i: usize) -> usize
 }
 
 // visit_mut_block_stmt.
-#[cycle(after_arm_arms_arrow_assign_binds_block_body_call_case_catch_conds_decl_declr_fdecl_fexpr_forin_fors_full_func_ident_ifs_init_items_kids_logic_loops_many_name_own_params_parts_stmts_tail_tries_unary_whiles)]
+#[cycle(walks)]
 fn block(w: &mut [u32], p: usize, d: usize, i: usize) -> usize
     requires { Here w.old 1 i p (d + 1) }
     ensures { Did w.old w.new (next_of result) (visit_mut_block_stmt_f (walks_f d) p i (abs w.old)) }
@@ -137,7 +137,7 @@ fn block(w: &mut [u32], p: usize, d: usize, i: usize) -> usize
 }
 
 // visit_with_child.
-#[cycle(after_arm_arms_arrow_assign_binds_block_body_call_case_catch_conds_decl_declr_fdecl_fexpr_forin_fors_full_func_ident_ifs_init_items_kids_logic_loops_many_name_own_params_parts_stmts_tail_tries_unary_whiles)]
+#[cycle(walks)]
 fn arm(w: &mut [u32], p: usize, d: usize, kind: u32, i: usize) -> usize
     requires { Here w.old 1 i p d }
     ensures { Did w.old w.new (next_of result) (visit_with_child_f (walks_f d) p (scope_kind_of kind) i (abs w.old)) }
@@ -162,7 +162,7 @@ fn arm(w: &mut [u32], p: usize, d: usize, kind: u32, i: usize) -> usize
 }
 
 // visit_with_child of each of a list.
-#[cycle(after_arm_arms_arrow_assign_binds_block_body_call_case_catch_conds_decl_declr_fdecl_fexpr_forin_fors_full_func_ident_ifs_init_items_kids_logic_loops_many_name_own_params_parts_stmts_tail_tries_unary_whiles)]
+#[cycle(walks)]
 fn arms(w: &mut [u32], p: usize, d: usize, kind: u32, n: usize, i: usize) -> usize
     requires { Here w.old n i p d }
     ensures { Did w.old w.new (next_of result) (many (visit_with_child_f (walks_f d) p (scope_kind_of kind)) n i (abs w.old)) }
@@ -181,7 +181,7 @@ fn arms(w: &mut [u32], p: usize, d: usize, kind: u32, n: usize, i: usize) -> usi
 }
 
 // visit_mut_var_decl.
-#[cycle(after_arm_arms_arrow_assign_binds_block_body_call_case_catch_conds_decl_declr_fdecl_fexpr_forin_fors_full_func_ident_ifs_init_items_kids_logic_loops_many_name_own_params_parts_stmts_tail_tries_unary_whiles)]
+#[cycle(walks)]
 fn decl(w: &mut [u32], p: usize, d: usize, i: usize) -> usize
     requires { Here w.old 1 i p (d + 1) }
     ensures { Did w.old w.new (next_of result) (visit_mut_var_decl_f (walks_f d) p i (abs w.old)) }
@@ -193,7 +193,7 @@ fn decl(w: &mut [u32], p: usize, d: usize, i: usize) -> usize
 }
 
 // A declarator's name is walked last; what stands behind it is left.
-#[cycle(after_arm_arms_arrow_assign_binds_block_body_call_case_catch_conds_decl_declr_fdecl_fexpr_forin_fors_full_func_ident_ifs_init_items_kids_logic_loops_many_name_own_params_parts_stmts_tail_tries_unary_whiles)]
+#[cycle(walks)]
 fn name(w: &mut [u32], p: usize, d: usize, n: usize, i: usize) -> usize
     requires { (Here w.old 1 i p (d + 1)) × (n ≡ (node_of w.old i).arity) }
     ensures { Did w.old w.new (next_of result) (name_last_f (walks_f d) p n (i + 1) (abs w.old)) }
@@ -209,7 +209,7 @@ fn name(w: &mut [u32], p: usize, d: usize, n: usize, i: usize) -> usize
 }
 
 // A declarator in Inlining: its initialiser is walked again, and recorded or not.
-#[cycle(after_arm_arms_arrow_assign_binds_block_body_call_case_catch_conds_decl_declr_fdecl_fexpr_forin_fors_full_func_ident_ifs_init_items_kids_logic_loops_many_name_own_params_parts_stmts_tail_tries_unary_whiles)]
+#[cycle(walks)]
 fn init(w: &mut [u32], p: usize, d: usize, n: usize, i: usize) -> Next
     requires { (Here w.old 1 i p (d + 1)) × (n ≡ (node_of w.old i).arity) × (Bound w.old n (i + 1)) }
     ensures { Did w.old w.new result (declr_end_f (walks_f d) p i (some (tree_at (abs w.old) (i + 1))) true (rest w.old).var_decl_kind n (i + 1) (abs w.old)) }
@@ -236,7 +236,7 @@ fn init(w: &mut [u32], p: usize, d: usize, n: usize, i: usize) -> Next
 }
 
 // visit_mut_var_declarator.
-#[cycle(after_arm_arms_arrow_assign_binds_block_body_call_case_catch_conds_decl_declr_fdecl_fexpr_forin_fors_full_func_ident_ifs_init_items_kids_logic_loops_many_name_own_params_parts_stmts_tail_tries_unary_whiles)]
+#[cycle(walks)]
 fn declr(w: &mut [u32], p: usize, d: usize, i: usize) -> usize
     requires { Here w.old 1 i p (d + 1) }
     ensures { Did w.old w.new (next_of result) (visit_mut_var_declarator_f (walks_f d) p i (abs w.old)) }
@@ -267,7 +267,7 @@ fn declr(w: &mut [u32], p: usize, d: usize, i: usize) -> usize
 }
 
 // visit_mut_function: its parameters and its body.
-#[cycle(after_arm_arms_arrow_assign_binds_block_body_call_case_catch_conds_decl_declr_fdecl_fexpr_forin_fors_full_func_ident_ifs_init_items_kids_logic_loops_many_name_own_params_parts_stmts_tail_tries_unary_whiles)]
+#[cycle(walks)]
 fn params(w: &mut [u32], p: usize, d: usize, n: usize, i: usize) -> usize
     requires { Here w.old n i p d }
     ensures { Did w.old w.new (next_of result) (each_but_f ((walks_f d).full p) ((walks_f d).inner p) n i (abs w.old)) }
@@ -286,7 +286,7 @@ fn params(w: &mut [u32], p: usize, d: usize, n: usize, i: usize) -> usize
 }
 
 // visit_mut_function.
-#[cycle(after_arm_arms_arrow_assign_binds_block_body_call_case_catch_conds_decl_declr_fdecl_fexpr_forin_fors_full_func_ident_ifs_init_items_kids_logic_loops_many_name_own_params_parts_stmts_tail_tries_unary_whiles)]
+#[cycle(walks)]
 fn func(w: &mut [u32], p: usize, d: usize, named: u32, n: usize, i: usize) -> usize
     requires { (Here w.old n i (p + 1) d) × (named ≤ 1) }
     ensures { Did w.old w.new (next_of result) (visit_mut_function_f (walks_f d) p (yes named) n i (abs w.old)) }
@@ -309,7 +309,7 @@ fn func(w: &mut [u32], p: usize, d: usize, named: u32, n: usize, i: usize) -> us
 }
 
 // visit_mut_fn_decl.
-#[cycle(after_arm_arms_arrow_assign_binds_block_body_call_case_catch_conds_decl_declr_fdecl_fexpr_forin_fors_full_func_ident_ifs_init_items_kids_logic_loops_many_name_own_params_parts_stmts_tail_tries_unary_whiles)]
+#[cycle(walks)]
 fn fdecl(w: &mut [u32], p: usize, d: usize, i: usize) -> usize
     requires { Here w.old 1 i p (d + 1) }
     ensures { Did w.old w.new (next_of result) (visit_mut_fn_decl_f (walks_f d) p i (abs w.old)) }
@@ -327,7 +327,7 @@ fn fdecl(w: &mut [u32], p: usize, d: usize, i: usize) -> usize
 }
 
 // visit_mut_fn_expr.
-#[cycle(after_arm_arms_arrow_assign_binds_block_body_call_case_catch_conds_decl_declr_fdecl_fexpr_forin_fors_full_func_ident_ifs_init_items_kids_logic_loops_many_name_own_params_parts_stmts_tail_tries_unary_whiles)]
+#[cycle(walks)]
 fn fexpr(w: &mut [u32], p: usize, d: usize, i: usize) -> usize
     requires { Here w.old 1 i p (d + 1) }
     ensures { Did w.old w.new (next_of result) (visit_mut_fn_expr_f (walks_f d) p i (abs w.old)) }
@@ -349,7 +349,7 @@ fn fexpr(w: &mut [u32], p: usize, d: usize, i: usize) -> usize
 }
 
 // visit_mut_arrow_expr.
-#[cycle(after_arm_arms_arrow_assign_binds_block_body_call_case_catch_conds_decl_declr_fdecl_fexpr_forin_fors_full_func_ident_ifs_init_items_kids_logic_loops_many_name_own_params_parts_stmts_tail_tries_unary_whiles)]
+#[cycle(walks)]
 fn arrow(w: &mut [u32], p: usize, d: usize, i: usize) -> usize
     requires { Here w.old 1 i p (d + 1) }
     ensures { Did w.old w.new (next_of result) (visit_mut_arrow_expr_f (walks_f d) p i (abs w.old)) }
@@ -371,7 +371,7 @@ fn arrow(w: &mut [u32], p: usize, d: usize, i: usize) -> usize
 }
 
 // visit_mut_if_stmt.
-#[cycle(after_arm_arms_arrow_assign_binds_block_body_call_case_catch_conds_decl_declr_fdecl_fexpr_forin_fors_full_func_ident_ifs_init_items_kids_logic_loops_many_name_own_params_parts_stmts_tail_tries_unary_whiles)]
+#[cycle(walks)]
 fn ifs(w: &mut [u32], p: usize, d: usize, i: usize) -> usize
     requires { Here w.old 1 i p (d + 1) }
     ensures { Did w.old w.new (next_of result) (visit_mut_if_stmt_f (walks_f d) p i (abs w.old)) }
@@ -391,7 +391,7 @@ fn ifs(w: &mut [u32], p: usize, d: usize, i: usize) -> usize
 }
 
 // What stands before a loop's body, and the body as a child.
-#[cycle(after_arm_arms_arrow_assign_binds_block_body_call_case_catch_conds_decl_declr_fdecl_fexpr_forin_fors_full_func_ident_ifs_init_items_kids_logic_loops_many_name_own_params_parts_stmts_tail_tries_unary_whiles)]
+#[cycle(walks)]
 fn loops(w: &mut [u32], p: usize, d: usize, n: usize, i: usize) -> usize
     requires { Here w.old n i p d }
     ensures { Did w.old w.new (next_of result) (each_but_f ((walks_f d).full p) (visit_with_child_f (walks_f d) p loop) n i (abs w.old)) }
@@ -407,7 +407,7 @@ fn loops(w: &mut [u32], p: usize, d: usize, n: usize, i: usize) -> usize
 }
 
 // visit_mut_while_stmt and visit_mut_do_while_stmt.
-#[cycle(after_arm_arms_arrow_assign_binds_block_body_call_case_catch_conds_decl_declr_fdecl_fexpr_forin_fors_full_func_ident_ifs_init_items_kids_logic_loops_many_name_own_params_parts_stmts_tail_tries_unary_whiles)]
+#[cycle(walks)]
 fn whiles(w: &mut [u32], p: usize, d: usize, i: usize) -> usize
     requires { Here w.old 1 i p (d + 1) }
     ensures { Did w.old w.new (next_of result) (visit_mut_while_stmt_f (walks_f d) p i (abs w.old)) }
@@ -421,7 +421,7 @@ fn whiles(w: &mut [u32], p: usize, d: usize, i: usize) -> usize
 }
 
 // visit_mut_for_stmt.
-#[cycle(after_arm_arms_arrow_assign_binds_block_body_call_case_catch_conds_decl_declr_fdecl_fexpr_forin_fors_full_func_ident_ifs_init_items_kids_logic_loops_many_name_own_params_parts_stmts_tail_tries_unary_whiles)]
+#[cycle(walks)]
 fn fors(w: &mut [u32], p: usize, d: usize, i: usize) -> usize
     requires { Here w.old 1 i p (d + 1) }
     ensures { Did w.old w.new (next_of result) (visit_mut_for_stmt_f (walks_f d) p i (abs w.old)) }
@@ -443,7 +443,7 @@ fn fors(w: &mut [u32], p: usize, d: usize, i: usize) -> usize
 }
 
 // visit_mut_for_in_stmt and visit_mut_for_of_stmt.
-#[cycle(after_arm_arms_arrow_assign_binds_block_body_call_case_catch_conds_decl_declr_fdecl_fexpr_forin_fors_full_func_ident_ifs_init_items_kids_logic_loops_many_name_own_params_parts_stmts_tail_tries_unary_whiles)]
+#[cycle(walks)]
 fn forin(w: &mut [u32], p: usize, d: usize, i: usize) -> usize
     requires { Here w.old 1 i p (d + 1) }
     ensures { Did w.old w.new (next_of result) (visit_mut_for_in_stmt_f (walks_f d) p i (abs w.old)) }
@@ -469,7 +469,7 @@ fn forin(w: &mut [u32], p: usize, d: usize, i: usize) -> usize
 }
 
 // The parts of a try statement behind its block.
-#[cycle(after_arm_arms_arrow_assign_binds_block_body_call_case_catch_conds_decl_declr_fdecl_fexpr_forin_fors_full_func_ident_ifs_init_items_kids_logic_loops_many_name_own_params_parts_stmts_tail_tries_unary_whiles)]
+#[cycle(walks)]
 fn parts(w: &mut [u32], p: usize, d: usize, n: usize, i: usize) -> usize
     requires { Here w.old n i p d }
     ensures { Did w.old w.new (next_of result) (clauses_f (walks_f d) p n i (abs w.old)) }
@@ -494,7 +494,7 @@ fn parts(w: &mut [u32], p: usize, d: usize, n: usize, i: usize) -> usize
 }
 
 // visit_mut_try_stmt.
-#[cycle(after_arm_arms_arrow_assign_binds_block_body_call_case_catch_conds_decl_declr_fdecl_fexpr_forin_fors_full_func_ident_ifs_init_items_kids_logic_loops_many_name_own_params_parts_stmts_tail_tries_unary_whiles)]
+#[cycle(walks)]
 fn tries(w: &mut [u32], p: usize, d: usize, i: usize) -> usize
     requires { Here w.old 1 i p (d + 1) }
     ensures { Did w.old w.new (next_of result) (visit_mut_try_stmt_f (walks_f d) p i (abs w.old)) }
@@ -512,7 +512,7 @@ fn tries(w: &mut [u32], p: usize, d: usize, i: usize) -> usize
 }
 
 // The parameters of a catch clause.
-#[cycle(after_arm_arms_arrow_assign_binds_block_body_call_case_catch_conds_decl_declr_fdecl_fexpr_forin_fors_full_func_ident_ifs_init_items_kids_logic_loops_many_name_own_params_parts_stmts_tail_tries_unary_whiles)]
+#[cycle(walks)]
 fn binds(w: &mut [u32], p: usize, d: usize, n: usize, i: usize) -> usize
     requires { Here w.old n i p d }
     ensures { Did w.old w.new (next_of result) (many (catch_param_f (walks_f d) p) n i (abs w.old)) }
@@ -534,7 +534,7 @@ fn binds(w: &mut [u32], p: usize, d: usize, n: usize, i: usize) -> usize
 }
 
 // visit_mut_catch_clause.
-#[cycle(after_arm_arms_arrow_assign_binds_block_body_call_case_catch_conds_decl_declr_fdecl_fexpr_forin_fors_full_func_ident_ifs_init_items_kids_logic_loops_many_name_own_params_parts_stmts_tail_tries_unary_whiles)]
+#[cycle(walks)]
 fn catch(w: &mut [u32], p: usize, d: usize, i: usize) -> usize
     requires { Here w.old 1 i p (d + 1) }
     ensures { Did w.old w.new (next_of result) (visit_mut_catch_clause_f (walks_f d) p i (abs w.old)) }
@@ -566,7 +566,7 @@ fn catch(w: &mut [u32], p: usize, d: usize, i: usize) -> usize
 }
 
 // A switch case's test and statements.
-#[cycle(after_arm_arms_arrow_assign_binds_block_body_call_case_catch_conds_decl_declr_fdecl_fexpr_forin_fors_full_func_ident_ifs_init_items_kids_logic_loops_many_name_own_params_parts_stmts_tail_tries_unary_whiles)]
+#[cycle(walks)]
 fn items(w: &mut [u32], p: usize, d: usize, i: usize) -> usize
     requires { Here w.old 1 i p (d + 1) }
     ensures { Did w.old w.new (next_of result) (items_f (walks_f d) p i (abs w.old)) }
@@ -587,7 +587,7 @@ fn items(w: &mut [u32], p: usize, d: usize, i: usize) -> usize
 }
 
 // visit_mut_switch_case.
-#[cycle(after_arm_arms_arrow_assign_binds_block_body_call_case_catch_conds_decl_declr_fdecl_fexpr_forin_fors_full_func_ident_ifs_init_items_kids_logic_loops_many_name_own_params_parts_stmts_tail_tries_unary_whiles)]
+#[cycle(walks)]
 fn case(w: &mut [u32], p: usize, d: usize, i: usize) -> usize
     requires { Here w.old 1 i p (d + 1) }
     ensures { Did w.old w.new (next_of result) (visit_mut_switch_case_f (walks_f d) p i (abs w.old)) }
@@ -633,7 +633,7 @@ fn update(w: &mut [u32], p: usize, d: usize, i: usize) -> usize
 }
 
 // visit_mut_unary_expr: delete writes.
-#[cycle(after_arm_arms_arrow_assign_binds_block_body_call_case_catch_conds_decl_declr_fdecl_fexpr_forin_fors_full_func_ident_ifs_init_items_kids_logic_loops_many_name_own_params_parts_stmts_tail_tries_unary_whiles)]
+#[cycle(walks)]
 fn unary(w: &mut [u32], p: usize, d: usize, i: usize) -> usize
     requires { Here w.old 1 i p (d + 1) }
     ensures { Did w.old w.new (next_of result) (visit_mut_unary_expr_f (walks_f d) p i (abs w.old)) }
@@ -646,7 +646,7 @@ fn unary(w: &mut [u32], p: usize, d: usize, i: usize) -> usize
 }
 
 // visit_mut_call_expr and visit_mut_new_expr.
-#[cycle(after_arm_arms_arrow_assign_binds_block_body_call_case_catch_conds_decl_declr_fdecl_fexpr_forin_fors_full_func_ident_ifs_init_items_kids_logic_loops_many_name_own_params_parts_stmts_tail_tries_unary_whiles)]
+#[cycle(walks)]
 fn call(w: &mut [u32], p: usize, d: usize, called: u32, i: usize) -> usize
     requires { Here w.old 1 i p (d + 1) }
     ensures { Did w.old w.new (next_of result) (visit_mut_call_expr_f (yes called) (walks_f d) p i (abs w.old)) }
@@ -674,7 +674,7 @@ fn call(w: &mut [u32], p: usize, d: usize, called: u32, i: usize) -> usize
 }
 
 // All of a list but its first tree.
-#[cycle(after_arm_arms_arrow_assign_binds_block_body_call_case_catch_conds_decl_declr_fdecl_fexpr_forin_fors_full_func_ident_ifs_init_items_kids_logic_loops_many_name_own_params_parts_stmts_tail_tries_unary_whiles)]
+#[cycle(walks)]
 fn tail(w: &mut [u32], p: usize, d: usize, n: usize, i: usize) -> usize
     requires { Here w.old n i p d }
     ensures { Did w.old w.new (next_of result) (split_f skip (many ((walks_f d).full p)) n i (abs w.old)) }
@@ -687,7 +687,7 @@ fn tail(w: &mut [u32], p: usize, d: usize, n: usize, i: usize) -> usize
 }
 
 // visit_mut_assign_expr.
-#[cycle(after_arm_arms_arrow_assign_binds_block_body_call_case_catch_conds_decl_declr_fdecl_fexpr_forin_fors_full_func_ident_ifs_init_items_kids_logic_loops_many_name_own_params_parts_stmts_tail_tries_unary_whiles)]
+#[cycle(walks)]
 fn assign(w: &mut [u32], p: usize, d: usize, i: usize) -> usize
     requires { Here w.old 1 i p (d + 1) }
     ensures { Did w.old w.new (next_of result) (visit_mut_assign_expr_f (walks_f d) p i (abs w.old)) }
@@ -711,10 +711,10 @@ fn assign(w: &mut [u32], p: usize, d: usize, i: usize) -> usize
 }
 
 // The right sides of && or ||.
-#[cycle(after_arm_arms_arrow_assign_binds_block_body_call_case_catch_conds_decl_declr_fdecl_fexpr_forin_fors_full_func_ident_ifs_init_items_kids_logic_loops_many_name_own_params_parts_stmts_tail_tries_unary_whiles)]
+#[cycle(walks)]
 fn conds(w: &mut [u32], p: usize, d: usize, n: usize, i: usize) -> usize
     requires { Here w.old n i p d }
-    ensures* { λ r. ⌜ Did w.old w.new (next_of r) (many (λ r. in_cond_f ((walks_f d).bare p r)) n i (abs w.old)) ⌝ }
+    ensures { Did w.old w.new (next_of result) (many (λ r. in_cond_f ((walks_f d).bare p r)) n i (abs w.old)) }
 {
     let mut at = i;
     let mut k: usize = 0;
@@ -736,7 +736,7 @@ fn conds(w: &mut [u32], p: usize, d: usize, n: usize, i: usize) -> usize
 }
 
 // A && or || again: its right side.
-#[cycle(after_arm_arms_arrow_assign_binds_block_body_call_case_catch_conds_decl_declr_fdecl_fexpr_forin_fors_full_func_ident_ifs_init_items_kids_logic_loops_many_name_own_params_parts_stmts_tail_tries_unary_whiles)]
+#[cycle(walks)]
 fn logic(w: &mut [u32], p: usize, d: usize, i: usize) -> usize
     requires { Here w.old 1 i p (d + 1) }
     ensures { Did w.old w.new (next_of result) (logical_f (walks_f d) p i (abs w.old)) }
@@ -758,7 +758,7 @@ fn logic(w: &mut [u32], p: usize, d: usize, i: usize) -> usize
 }
 
 // Which handler a kind has.
-#[cycle(after_arm_arms_arrow_assign_binds_block_body_call_case_catch_conds_decl_declr_fdecl_fexpr_forin_fors_full_func_ident_ifs_init_items_kids_logic_loops_many_name_own_params_parts_stmts_tail_tries_unary_whiles)]
+#[cycle(walks)]
 fn own(w: &mut [u32], p: usize, d: usize, i: usize) -> usize
     requires { Here w.old 1 i p (d + 1) }
     ensures { Did w.old w.new (next_of result) (own_f (walks_f d) p i (abs w.old)) }
@@ -790,7 +790,7 @@ fn own(w: &mut [u32], p: usize, d: usize, i: usize) -> usize
 }
 
 // The steps of visit_mut_expr at an identifier: a constant is followed; in Analysis it is read; in Inlining its value takes its place.
-#[cycle(after_arm_arms_arrow_assign_binds_block_body_call_case_catch_conds_decl_declr_fdecl_fexpr_forin_fors_full_func_ident_ifs_init_items_kids_logic_loops_many_name_own_params_parts_stmts_tail_tries_unary_whiles)]
+#[cycle(walks)]
 fn ident(w: &mut [u32], p: usize, d: usize, i: usize) -> usize
     requires { (Here w.old 1 i p (d + 1)) × ((node_of w.old i).kind ≡ 21) }
     ensures { Did w.old w.new (next_of result) (after_ident_f (walks_f d) p i (abs w.old)) }
@@ -821,7 +821,7 @@ fn ident(w: &mut [u32], p: usize, d: usize, i: usize) -> usize
 }
 
 // The steps of visit_mut_expr after the node's own handler, which ended at j.
-#[cycle(after_arm_arms_arrow_assign_binds_block_body_call_case_catch_conds_decl_declr_fdecl_fexpr_forin_fors_full_func_ident_ifs_init_items_kids_logic_loops_many_name_own_params_parts_stmts_tail_tries_unary_whiles)]
+#[cycle(walks)]
 fn after(w: &mut [u32], p: usize, d: usize, i: usize, j: usize) -> usize
     requires { (Here w.old 1 i p (d + 1)) × (j ≡ i + count (tree_from (tree w.old) i)) }
     ensures { Did w.old w.new (next_of result) (after_f (walks_f d) p i (abs w.old)) }

@@ -1,0 +1,113 @@
+-- The measure of each walk: the depth that is left, and where in one node's walk it stands.
+use Rattle.walk.proofs.+walks.Given as goal
+
+abbrev pub decreases-after : goal.decreases-after
+decreases-after l = 8 * l.d + 6
+
+abbrev pub decreases-arm : goal.decreases-arm
+decreases-arm l = 8 * l.d + 1
+
+abbrev pub decreases-arms : goal.decreases-arms
+decreases-arms l = 8 * l.d + 2
+
+abbrev pub decreases-arrow : goal.decreases-arrow
+decreases-arrow l = 8 * l.d + 4
+
+abbrev pub decreases-assign : goal.decreases-assign
+decreases-assign l = 8 * l.d + 4
+
+abbrev pub decreases-binds : goal.decreases-binds
+decreases-binds l = 8 * l.d + 2
+
+abbrev pub decreases-block : goal.decreases-block
+decreases-block l = 8 * l.d + 4
+
+abbrev pub decreases-body : goal.decreases-body
+decreases-body l = 8 * l.d + 3
+
+abbrev pub decreases-call : goal.decreases-call
+decreases-call l = 8 * l.d + 4
+
+abbrev pub decreases-case : goal.decreases-case
+decreases-case l = 8 * l.d + 5
+
+abbrev pub decreases-catch : goal.decreases-catch
+decreases-catch l = 8 * l.d + 4
+
+abbrev pub decreases-conds : goal.decreases-conds
+decreases-conds l = 8 * l.d + 3
+
+abbrev pub decreases-decl : goal.decreases-decl
+decreases-decl l = 8 * l.d + 4
+
+abbrev pub decreases-declr : goal.decreases-declr
+decreases-declr l = 8 * l.d + 4
+
+abbrev pub decreases-fdecl : goal.decreases-fdecl
+decreases-fdecl l = 8 * l.d + 4
+
+abbrev pub decreases-fexpr : goal.decreases-fexpr
+decreases-fexpr l = 8 * l.d + 4
+
+abbrev pub decreases-forin : goal.decreases-forin
+decreases-forin l = 8 * l.d + 3
+
+abbrev pub decreases-fors : goal.decreases-fors
+decreases-fors l = 8 * l.d + 3
+
+abbrev pub decreases-full : goal.decreases-full
+decreases-full l = 8 * l.l
+
+abbrev pub decreases-func : goal.decreases-func
+decreases-func l = 8 * l.d + 3
+
+abbrev pub decreases-ident : goal.decreases-ident
+decreases-ident l = 8 * l.d + 5
+
+abbrev pub decreases-ifs : goal.decreases-ifs
+decreases-ifs l = 8 * l.d + 3
+
+abbrev pub decreases-init : goal.decreases-init
+decreases-init l = 8 * l.d + 2
+
+abbrev pub decreases-items : goal.decreases-items
+decreases-items l = 8 * l.d + 4
+
+abbrev pub decreases-kids : goal.decreases-kids
+decreases-kids l = 8 * l.d + 3
+
+abbrev pub decreases-logic : goal.decreases-logic
+decreases-logic l = 8 * l.d + 4
+
+abbrev pub decreases-loops : goal.decreases-loops
+decreases-loops l = 8 * l.d + 2
+
+abbrev pub decreases-many : goal.decreases-many
+decreases-many l = 8 * l.d + 1
+
+abbrev pub decreases-name : goal.decreases-name
+decreases-name l = 8 * l.d + 1
+
+abbrev pub decreases-own : goal.decreases-own
+decreases-own l = 8 * l.d + 6
+
+abbrev pub decreases-params : goal.decreases-params
+decreases-params l = 8 * l.d + 2
+
+abbrev pub decreases-parts : goal.decreases-parts
+decreases-parts l = 8 * l.d + 2
+
+abbrev pub decreases-stmts : goal.decreases-stmts
+decreases-stmts l = 8 * l.d + 2
+
+abbrev pub decreases-tail : goal.decreases-tail
+decreases-tail l = 8 * l.d + 2
+
+abbrev pub decreases-tries : goal.decreases-tries
+decreases-tries l = 8 * l.d + 3
+
+abbrev pub decreases-unary : goal.decreases-unary
+decreases-unary l = 8 * l.d + 4
+
+abbrev pub decreases-whiles : goal.decreases-whiles
+decreases-whiles l = 8 * l.d + 3
