@@ -1,0 +1,1486 @@
+-- The walks meet their contracts: the answers of each member. Assumes nothing.
+mod After
+mod Arm
+mod Arms
+mod Arrow
+mod Assign
+mod Binds
+mod Block
+mod Body
+mod Call
+mod Case
+mod Catch
+mod Conds
+mod Decl
+mod Declr
+mod Fdecl
+mod Fexpr
+mod Forin
+mod Fors
+mod Full
+mod Func
+mod Ident
+mod Ifs
+mod Init
+mod Items
+mod Kids
+mod Logic
+mod Loops
+mod Many
+mod Name
+mod Own
+mod Params
+mod Parts
+mod Stmts
+mod Tail
+mod Tries
+mod Unary
+mod Whiles
+use Rattle.walk.proofs.+walks.Answers.After as of_after
+use Rattle.walk.proofs.+walks.Answers.Arm as of_arm
+use Rattle.walk.proofs.+walks.Answers.Arms as of_arms
+use Rattle.walk.proofs.+walks.Answers.Arrow as of_arrow
+use Rattle.walk.proofs.+walks.Answers.Assign as of_assign
+use Rattle.walk.proofs.+walks.Answers.Binds as of_binds
+use Rattle.walk.proofs.+walks.Answers.Block as of_block
+use Rattle.walk.proofs.+walks.Answers.Body as of_body
+use Rattle.walk.proofs.+walks.Answers.Call as of_call
+use Rattle.walk.proofs.+walks.Answers.Case as of_case
+use Rattle.walk.proofs.+walks.Answers.Catch as of_catch
+use Rattle.walk.proofs.+walks.Answers.Conds as of_conds
+use Rattle.walk.proofs.+walks.Answers.Decl as of_decl
+use Rattle.walk.proofs.+walks.Answers.Declr as of_declr
+use Rattle.walk.proofs.+walks.Answers.Fdecl as of_fdecl
+use Rattle.walk.proofs.+walks.Answers.Fexpr as of_fexpr
+use Rattle.walk.proofs.+walks.Answers.Forin as of_forin
+use Rattle.walk.proofs.+walks.Answers.Fors as of_fors
+use Rattle.walk.proofs.+walks.Answers.Full as of_full
+use Rattle.walk.proofs.+walks.Answers.Func as of_func
+use Rattle.walk.proofs.+walks.Answers.Ident as of_ident
+use Rattle.walk.proofs.+walks.Answers.Ifs as of_ifs
+use Rattle.walk.proofs.+walks.Answers.Init as of_init
+use Rattle.walk.proofs.+walks.Answers.Items as of_items
+use Rattle.walk.proofs.+walks.Answers.Kids as of_kids
+use Rattle.walk.proofs.+walks.Answers.Logic as of_logic
+use Rattle.walk.proofs.+walks.Answers.Loops as of_loops
+use Rattle.walk.proofs.+walks.Answers.Many as of_many
+use Rattle.walk.proofs.+walks.Answers.Name as of_name
+use Rattle.walk.proofs.+walks.Answers.Own as of_own
+use Rattle.walk.proofs.+walks.Answers.Params as of_params
+use Rattle.walk.proofs.+walks.Answers.Parts as of_parts
+use Rattle.walk.proofs.+walks.Answers.Stmts as of_stmts
+use Rattle.walk.proofs.+walks.Answers.Tail as of_tail
+use Rattle.walk.proofs.+walks.Answers.Tries as of_tries
+use Rattle.walk.proofs.+walks.Answers.Unary as of_unary
+use Rattle.walk.proofs.+walks.Answers.Whiles as of_whiles
+use Rattle.walk.proofs.+walks.Goals as goal
+
+pub after-kind_at-k-requires : goal.after-kind_at-k-requires
+after-kind_at-k-requires = of_after.after-kind_at-k-requires
+
+pub after-ident-requires : goal.after-ident-requires
+after-ident-requires = of_after.after-ident-requires
+
+pub after-returns-then-k-eq21 : goal.after-returns-then-k-eq21
+after-returns-then-k-eq21 = of_after.after-returns-then-k-eq21
+
+pub after-logic-requires : goal.after-logic-requires
+after-logic-requires = of_after.after-logic-requires
+
+pub after-returns-then-k-eq32 : goal.after-returns-then-k-eq32
+after-returns-then-k-eq32 = of_after.after-returns-then-k-eq32
+
+pub after-returns-then-k-ne33 : goal.after-returns-then-k-ne33
+after-returns-then-k-ne33 = of_after.after-returns-then-k-ne33
+
+pub after-form_at-f-requires : goal.after-form_at-f-requires
+after-form_at-f-requires = of_after.after-form_at-f-requires
+
+pub after-returns-then-f-ne0 : goal.after-returns-then-f-ne0
+after-returns-then-f-ne0 = of_after.after-returns-then-f-ne0
+
+pub after-bounds-w-6 : goal.after-bounds-w-6
+after-bounds-w-6 = of_after.after-bounds-w-6
+
+pub after-returns-then-w-eq0 : goal.after-returns-then-w-eq0
+after-returns-then-w-eq0 = of_after.after-returns-then-w-eq0
+
+pub after-overflow_cast-p : goal.after-overflow_cast-p
+after-overflow_cast-p = of_after.after-overflow_cast-p
+
+pub after-after_assign-requires : goal.after-after_assign-requires
+after-after_assign-requires = of_after.after-after_assign-requires
+
+pub after-coded-requires : goal.after-coded-requires
+after-coded-requires = of_after.after-coded-requires
+
+pub after-returns : goal.after-returns
+after-returns = of_after.after-returns
+
+pub arm-bounds-w-6 : goal.arm-bounds-w-6
+arm-bounds-w-6 = of_arm.arm-bounds-w-6
+
+pub arm-bounds-w-8 : goal.arm-bounds-w-8
+arm-bounds-w-8 = of_arm.arm-bounds-w-8
+
+pub arm-bounds-w-9 : goal.arm-bounds-w-9
+arm-bounds-w-9 = of_arm.arm-bounds-w-9
+
+pub arm-bounds-w-10 : goal.arm-bounds-w-10
+arm-bounds-w-10 = of_arm.arm-bounds-w-10
+
+pub arm-enter-e-requires : goal.arm-enter-e-requires
+arm-enter-e-requires = of_arm.arm-enter-e-requires
+
+pub arm-returns-then-e-ne0 : goal.arm-returns-then-e-ne0
+arm-returns-then-e-ne0 = of_arm.arm-returns-then-e-ne0
+
+pub arm-returns-then-d-eq0 : goal.arm-returns-then-d-eq0
+arm-returns-then-d-eq0 = of_arm.arm-returns-then-d-eq0
+
+pub arm-overflow_sub-d : goal.arm-overflow_sub-d
+arm-overflow_sub-d = of_arm.arm-overflow_sub-d
+
+pub arm-own-r-requires : goal.arm-own-r-requires
+arm-own-r-requires = of_arm.arm-own-r-requires
+
+pub arm-returns-in_default : goal.arm-returns-in_default
+arm-returns-in_default = of_arm.arm-returns-in_default
+
+pub arm-leave-requires : goal.arm-leave-requires
+arm-leave-requires = of_arm.arm-leave-requires
+
+pub arm-returns : goal.arm-returns
+arm-returns = of_arm.arm-returns
+
+pub arms-loop-k-init : goal.arms-loop-k-init
+arms-loop-k-init = of_arms.arms-loop-k-init
+
+pub arms-arm-r-requires : goal.arms-arm-r-requires
+arms-arm-r-requires = of_arms.arms-arm-r-requires
+
+pub arms-returns-in_default : goal.arms-returns-in_default
+arms-returns-in_default = of_arms.arms-returns-in_default
+
+pub arms-overflow_add-k : goal.arms-overflow_add-k
+arms-overflow_add-k = of_arms.arms-overflow_add-k
+
+pub arms-loop-k-smaller : goal.arms-loop-k-smaller
+arms-loop-k-smaller = of_arms.arms-loop-k-smaller
+
+pub arms-loop-k-preserved : goal.arms-loop-k-preserved
+arms-loop-k-preserved = of_arms.arms-loop-k-preserved
+
+pub arms-returns : goal.arms-returns
+arms-returns = of_arms.arms-returns
+
+pub arrow-bounds-w-6 : goal.arrow-bounds-w-6
+arrow-bounds-w-6 = of_arrow.arrow-bounds-w-6
+
+pub arrow-bounds-w-8 : goal.arrow-bounds-w-8
+arrow-bounds-w-8 = of_arrow.arrow-bounds-w-8
+
+pub arrow-bounds-w-9 : goal.arrow-bounds-w-9
+arrow-bounds-w-9 = of_arrow.arrow-bounds-w-9
+
+pub arrow-bounds-w-10 : goal.arrow-bounds-w-10
+arrow-bounds-w-10 = of_arrow.arrow-bounds-w-10
+
+pub arrow-enter-e-requires : goal.arrow-enter-e-requires
+arrow-enter-e-requires = of_arrow.arrow-enter-e-requires
+
+pub arrow-returns-then-e-ne0 : goal.arrow-returns-then-e-ne0
+arrow-returns-then-e-ne0 = of_arrow.arrow-returns-then-e-ne0
+
+pub arrow-kids-r-requires : goal.arrow-kids-r-requires
+arrow-kids-r-requires = of_arrow.arrow-kids-r-requires
+
+pub arrow-returns-in_default : goal.arrow-returns-in_default
+arrow-returns-in_default = of_arrow.arrow-returns-in_default
+
+pub arrow-leave-requires : goal.arrow-leave-requires
+arrow-leave-requires = of_arrow.arrow-leave-requires
+
+pub arrow-returns : goal.arrow-returns
+arrow-returns = of_arrow.arrow-returns
+
+pub assign-set_pat_mode-requires : goal.assign-set_pat_mode-requires
+assign-set_pat_mode-requires = of_assign.assign-set_pat_mode-requires
+
+pub assign-form_at-f-requires : goal.assign-form_at-f-requires
+assign-form_at-f-requires = of_assign.assign-form_at-f-requires
+
+pub assign-arity_at-n-requires : goal.assign-arity_at-n-requires
+assign-arity_at-n-requires = of_assign.assign-arity_at-n-requires
+
+pub assign-overflow_add-i : goal.assign-overflow_add-i
+assign-overflow_add-i = of_assign.assign-overflow_add-i
+
+pub assign-assign_first-e-requires : goal.assign-assign_first-e-requires
+assign-assign_first-e-requires = of_assign.assign-assign_first-e-requires
+
+pub assign-returns-then-e-ne0 : goal.assign-returns-then-e-ne0
+assign-returns-then-e-ne0 = of_assign.assign-returns-then-e-ne0
+
+pub assign-overflow_add-p : goal.assign-overflow_add-p
+assign-overflow_add-p = of_assign.assign-overflow_add-p
+
+pub assign-overflow_add-i-2 : goal.assign-overflow_add-i-2
+assign-overflow_add-i-2 = of_assign.assign-overflow_add-i-2
+
+pub assign-tail-r-requires : goal.assign-tail-r-requires
+assign-tail-r-requires = of_assign.assign-tail-r-requires
+
+pub assign-returns-in_default : goal.assign-returns-in_default
+assign-returns-in_default = of_assign.assign-returns-in_default
+
+pub assign-overflow_add-i-3 : goal.assign-overflow_add-i-3
+assign-overflow_add-i-3 = of_assign.assign-overflow_add-i-3
+
+pub assign-assign_last-g-requires : goal.assign-assign_last-g-requires
+assign-assign_last-g-requires = of_assign.assign-assign_last-g-requires
+
+pub assign-returns-then-g-ne0 : goal.assign-returns-then-g-ne0
+assign-returns-then-g-ne0 = of_assign.assign-returns-then-g-ne0
+
+pub assign-returns : goal.assign-returns
+assign-returns = of_assign.assign-returns
+
+pub binds-loop-k-init : goal.binds-loop-k-init
+binds-loop-k-init = of_binds.binds-loop-k-init
+
+pub binds-kind_at-kind-requires : goal.binds-kind_at-kind-requires
+binds-kind_at-kind-requires = of_binds.binds-kind_at-kind-requires
+
+pub binds-num_at-x-requires : goal.binds-num_at-x-requires
+binds-num_at-x-requires = of_binds.binds-num_at-x-requires
+
+pub binds-full-r-requires : goal.binds-full-r-requires
+binds-full-r-requires = of_binds.binds-full-r-requires
+
+pub binds-returns-in_default : goal.binds-returns-in_default
+binds-returns-in_default = of_binds.binds-returns-in_default
+
+pub binds-mark_caught-requires : goal.binds-mark_caught-requires
+binds-mark_caught-requires = of_binds.binds-mark_caught-requires
+
+pub binds-overflow_add-k : goal.binds-overflow_add-k
+binds-overflow_add-k = of_binds.binds-overflow_add-k
+
+pub binds-loop-k-smaller : goal.binds-loop-k-smaller
+binds-loop-k-smaller = of_binds.binds-loop-k-smaller
+
+pub binds-loop-k-preserved : goal.binds-loop-k-preserved
+binds-loop-k-preserved = of_binds.binds-loop-k-preserved
+
+pub binds-returns : goal.binds-returns
+binds-returns = of_binds.binds-returns
+
+pub block-bounds-w-6 : goal.block-bounds-w-6
+block-bounds-w-6 = of_block.block-bounds-w-6
+
+pub block-bounds-w-8 : goal.block-bounds-w-8
+block-bounds-w-8 = of_block.block-bounds-w-8
+
+pub block-bounds-w-9 : goal.block-bounds-w-9
+block-bounds-w-9 = of_block.block-bounds-w-9
+
+pub block-bounds-w-10 : goal.block-bounds-w-10
+block-bounds-w-10 = of_block.block-bounds-w-10
+
+pub block-enter-e-requires : goal.block-enter-e-requires
+block-enter-e-requires = of_block.block-enter-e-requires
+
+pub block-returns-then-e-ne0 : goal.block-returns-then-e-ne0
+block-returns-then-e-ne0 = of_block.block-returns-then-e-ne0
+
+pub block-body-r-requires : goal.block-body-r-requires
+block-body-r-requires = of_block.block-body-r-requires
+
+pub block-returns-in_default : goal.block-returns-in_default
+block-returns-in_default = of_block.block-returns-in_default
+
+pub block-leave-requires : goal.block-leave-requires
+block-leave-requires = of_block.block-leave-requires
+
+pub block-returns : goal.block-returns
+block-returns = of_block.block-returns
+
+pub body-arity_at-n-requires : goal.body-arity_at-n-requires
+body-arity_at-n-requires = of_body.body-arity_at-n-requires
+
+pub body-overflow_add-p : goal.body-overflow_add-p
+body-overflow_add-p = of_body.body-overflow_add-p
+
+pub body-overflow_add-i : goal.body-overflow_add-i
+body-overflow_add-i = of_body.body-overflow_add-i
+
+pub body-stmts-requires : goal.body-stmts-requires
+body-stmts-requires = of_body.body-stmts-requires
+
+pub body-returns : goal.body-returns
+body-returns = of_body.body-returns
+
+pub call-arity_at-n-requires : goal.call-arity_at-n-requires
+call-arity_at-n-requires = of_call.call-arity_at-n-requires
+
+pub call-store_barrier-requires : goal.call-store_barrier-requires
+call-store_barrier-requires = of_call.call-store_barrier-requires
+
+pub call-overflow_add-result : goal.call-overflow_add-result
+call-overflow_add-result = of_call.call-overflow_add-result
+
+pub call-returns-then-n-eq0 : goal.call-returns-then-n-eq0
+call-returns-then-n-eq0 = of_call.call-returns-then-n-eq0
+
+pub call-overflow_add-p : goal.call-overflow_add-p
+call-overflow_add-p = of_call.call-overflow_add-p
+
+pub call-overflow_add-i : goal.call-overflow_add-i
+call-overflow_add-i = of_call.call-overflow_add-i
+
+pub call-full-r-requires : goal.call-full-r-requires
+call-full-r-requires = of_call.call-full-r-requires
+
+pub call-returns-in_default : goal.call-returns-in_default
+call-returns-in_default = of_call.call-returns-in_default
+
+pub call-overflow_add-i-2 : goal.call-overflow_add-i-2
+call-overflow_add-i-2 = of_call.call-overflow_add-i-2
+
+pub call-mark_callee-requires : goal.call-mark_callee-requires
+call-mark_callee-requires = of_call.call-mark_callee-requires
+
+pub call-overflow_sub-n : goal.call-overflow_sub-n
+call-overflow_sub-n = of_call.call-overflow_sub-n
+
+pub call-write_args-e-requires : goal.call-write_args-e-requires
+call-write_args-e-requires = of_call.call-write_args-e-requires
+
+pub call-returns-then-e-ne0 : goal.call-returns-then-e-ne0
+call-returns-then-e-ne0 = of_call.call-returns-then-e-ne0
+
+pub call-overflow_add-p-2 : goal.call-overflow_add-p-2
+call-overflow_add-p-2 = of_call.call-overflow_add-p-2
+
+pub call-overflow_sub-n-2 : goal.call-overflow_sub-n-2
+call-overflow_sub-n-2 = of_call.call-overflow_sub-n-2
+
+pub call-many-s-requires : goal.call-many-s-requires
+call-many-s-requires = of_call.call-many-s-requires
+
+pub call-returns-in_default-next : goal.call-returns-in_default-next
+call-returns-in_default-next = of_call.call-returns-in_default-next
+
+pub call-store_barrier-requires-2 : goal.call-store_barrier-requires-2
+call-store_barrier-requires-2 = of_call.call-store_barrier-requires-2
+
+pub call-returns : goal.call-returns
+call-returns = of_call.call-returns
+
+pub case-bounds-w-6 : goal.case-bounds-w-6
+case-bounds-w-6 = of_case.case-bounds-w-6
+
+pub case-bounds-w-8 : goal.case-bounds-w-8
+case-bounds-w-8 = of_case.case-bounds-w-8
+
+pub case-bounds-w-9 : goal.case-bounds-w-9
+case-bounds-w-9 = of_case.case-bounds-w-9
+
+pub case-bounds-w-10 : goal.case-bounds-w-10
+case-bounds-w-10 = of_case.case-bounds-w-10
+
+pub case-enter-e-requires : goal.case-enter-e-requires
+case-enter-e-requires = of_case.case-enter-e-requires
+
+pub case-returns-then-e-ne0 : goal.case-returns-then-e-ne0
+case-returns-then-e-ne0 = of_case.case-returns-then-e-ne0
+
+pub case-items-r-requires : goal.case-items-r-requires
+case-items-r-requires = of_case.case-items-r-requires
+
+pub case-returns-in_default : goal.case-returns-in_default
+case-returns-in_default = of_case.case-returns-in_default
+
+pub case-leave-requires : goal.case-leave-requires
+case-leave-requires = of_case.case-leave-requires
+
+pub case-returns : goal.case-returns
+case-returns = of_case.case-returns
+
+pub catch-bounds-w-6 : goal.catch-bounds-w-6
+catch-bounds-w-6 = of_catch.catch-bounds-w-6
+
+pub catch-bounds-w-8 : goal.catch-bounds-w-8
+catch-bounds-w-8 = of_catch.catch-bounds-w-8
+
+pub catch-bounds-w-9 : goal.catch-bounds-w-9
+catch-bounds-w-9 = of_catch.catch-bounds-w-9
+
+pub catch-bounds-w-10 : goal.catch-bounds-w-10
+catch-bounds-w-10 = of_catch.catch-bounds-w-10
+
+pub catch-enter-e-requires : goal.catch-enter-e-requires
+catch-enter-e-requires = of_catch.catch-enter-e-requires
+
+pub catch-returns-then-e-ne0 : goal.catch-returns-then-e-ne0
+catch-returns-then-e-ne0 = of_catch.catch-returns-then-e-ne0
+
+pub catch-set_pat_mode-requires : goal.catch-set_pat_mode-requires
+catch-set_pat_mode-requires = of_catch.catch-set_pat_mode-requires
+
+pub catch-arity_at-n-requires : goal.catch-arity_at-n-requires
+catch-arity_at-n-requires = of_catch.catch-arity_at-n-requires
+
+pub catch-leave-requires : goal.catch-leave-requires
+catch-leave-requires = of_catch.catch-leave-requires
+
+pub catch-overflow_add-result : goal.catch-overflow_add-result
+catch-overflow_add-result = of_catch.catch-overflow_add-result
+
+pub catch-returns-then-n-eq0 : goal.catch-returns-then-n-eq0
+catch-returns-then-n-eq0 = of_catch.catch-returns-then-n-eq0
+
+pub catch-overflow_add-p : goal.catch-overflow_add-p
+catch-overflow_add-p = of_catch.catch-overflow_add-p
+
+pub catch-overflow_sub-n : goal.catch-overflow_sub-n
+catch-overflow_sub-n = of_catch.catch-overflow_sub-n
+
+pub catch-overflow_add-i : goal.catch-overflow_add-i
+catch-overflow_add-i = of_catch.catch-overflow_add-i
+
+pub catch-binds-r-requires : goal.catch-binds-r-requires
+catch-binds-r-requires = of_catch.catch-binds-r-requires
+
+pub catch-returns-in_default : goal.catch-returns-in_default
+catch-returns-in_default = of_catch.catch-returns-in_default
+
+pub catch-overflow_add-p-2 : goal.catch-overflow_add-p-2
+catch-overflow_add-p-2 = of_catch.catch-overflow_add-p-2
+
+pub catch-full-s-requires : goal.catch-full-s-requires
+catch-full-s-requires = of_catch.catch-full-s-requires
+
+pub catch-returns-in_default-next : goal.catch-returns-in_default-next
+catch-returns-in_default-next = of_catch.catch-returns-in_default-next
+
+pub catch-leave-requires-2 : goal.catch-leave-requires-2
+catch-leave-requires-2 = of_catch.catch-leave-requires-2
+
+pub catch-returns : goal.catch-returns
+catch-returns = of_catch.catch-returns
+
+pub conds-loop-k-init : goal.conds-loop-k-init
+conds-loop-k-init = of_conds.conds-loop-k-init
+
+pub conds-bounds-w-11 : goal.conds-bounds-w-11
+conds-bounds-w-11 = of_conds.conds-bounds-w-11
+
+pub conds-deeper-e-requires : goal.conds-deeper-e-requires
+conds-deeper-e-requires = of_conds.conds-deeper-e-requires
+
+pub conds-returns-then-e-ne0 : goal.conds-returns-then-e-ne0
+conds-returns-then-e-ne0 = of_conds.conds-returns-then-e-ne0
+
+pub conds-arm-r-requires : goal.conds-arm-r-requires
+conds-arm-r-requires = of_conds.conds-arm-r-requires
+
+pub conds-returns-in_default : goal.conds-returns-in_default
+conds-returns-in_default = of_conds.conds-returns-in_default
+
+pub conds-set_conds-requires : goal.conds-set_conds-requires
+conds-set_conds-requires = of_conds.conds-set_conds-requires
+
+pub conds-overflow_add-k : goal.conds-overflow_add-k
+conds-overflow_add-k = of_conds.conds-overflow_add-k
+
+pub conds-loop-k-smaller : goal.conds-loop-k-smaller
+conds-loop-k-smaller = of_conds.conds-loop-k-smaller
+
+pub conds-loop-k-preserved : goal.conds-loop-k-preserved
+conds-loop-k-preserved = of_conds.conds-loop-k-preserved
+
+pub conds-returns : goal.conds-returns
+conds-returns = of_conds.conds-returns
+
+pub decl-form_at-f-requires : goal.decl-form_at-f-requires
+decl-form_at-f-requires = of_decl.decl-form_at-f-requires
+
+pub decl-set_var_decl_kind-requires : goal.decl-set_var_decl_kind-requires
+decl-set_var_decl_kind-requires = of_decl.decl-set_var_decl_kind-requires
+
+pub decl-kids-requires : goal.decl-kids-requires
+decl-kids-requires = of_decl.decl-kids-requires
+
+pub decl-returns : goal.decl-returns
+decl-returns = of_decl.decl-returns
+
+pub declr-arity_at-n-requires : goal.declr-arity_at-n-requires
+declr-arity_at-n-requires = of_declr.declr-arity_at-n-requires
+
+pub declr-overflow_add-p : goal.declr-overflow_add-p
+declr-overflow_add-p = of_declr.declr-overflow_add-p
+
+pub declr-overflow_add-i : goal.declr-overflow_add-i
+declr-overflow_add-i = of_declr.declr-overflow_add-i
+
+pub declr-tail-r-requires : goal.declr-tail-r-requires
+declr-tail-r-requires = of_declr.declr-tail-r-requires
+
+pub declr-returns-in_default : goal.declr-returns-in_default
+declr-returns-in_default = of_declr.declr-returns-in_default
+
+pub declr-set_pat_mode-requires : goal.declr-set_pat_mode-requires
+declr-set_pat_mode-requires = of_declr.declr-set_pat_mode-requires
+
+pub declr-overflow_add-i-2 : goal.declr-overflow_add-i-2
+declr-overflow_add-i-2 = of_declr.declr-overflow_add-i-2
+
+pub declr-nameless-requires : goal.declr-nameless-requires
+declr-nameless-requires = of_declr.declr-nameless-requires
+
+pub declr-name-requires : goal.declr-name-requires
+declr-name-requires = of_declr.declr-name-requires
+
+pub declr-returns-then-nameless : goal.declr-returns-then-nameless
+declr-returns-then-nameless = of_declr.declr-returns-then-nameless
+
+pub declr-bounds-w-6 : goal.declr-bounds-w-6
+declr-bounds-w-6 = of_declr.declr-bounds-w-6
+
+pub declr-init-requires : goal.declr-init-requires
+declr-init-requires = of_declr.declr-init-requires
+
+pub declr-coded-requires : goal.declr-coded-requires
+declr-coded-requires = of_declr.declr-coded-requires
+
+pub declr-returns-then-w-ne0 : goal.declr-returns-then-w-ne0
+declr-returns-then-w-ne0 = of_declr.declr-returns-then-w-ne0
+
+pub declr-overflow_add-i-3 : goal.declr-overflow_add-i-3
+declr-overflow_add-i-3 = of_declr.declr-overflow_add-i-3
+
+pub declr-ident_at-x-requires : goal.declr-ident_at-x-requires
+declr-ident_at-x-requires = of_declr.declr-ident_at-x-requires
+
+pub declr-overflow_add-i-4 : goal.declr-overflow_add-i-4
+declr-overflow_add-i-4 = of_declr.declr-overflow_add-i-4
+
+pub declr-form_at-f-requires : goal.declr-form_at-f-requires
+declr-form_at-f-requires = of_declr.declr-form_at-f-requires
+
+pub declr-overflow_add-i-5 : goal.declr-overflow_add-i-5
+declr-overflow_add-i-5 = of_declr.declr-overflow_add-i-5
+
+pub declr-over-requires : goal.declr-over-requires
+declr-over-requires = of_declr.declr-over-requires
+
+pub declr-skip-requires : goal.declr-skip-requires
+declr-skip-requires = of_declr.declr-skip-requires
+
+pub declr-returns-then-gone : goal.declr-returns-then-gone
+declr-returns-then-gone = of_declr.declr-returns-then-gone
+
+pub declr-name-requires-in-Answer : goal.declr-name-requires-in-Answer
+declr-name-requires-in-Answer = of_declr.declr-name-requires-in-Answer
+
+pub declr-returns-in-Stopped : goal.declr-returns-in-Stopped
+declr-returns-in-Stopped = of_declr.declr-returns-in-Stopped
+
+pub declr-returns-else-gone : goal.declr-returns-else-gone
+declr-returns-else-gone = of_declr.declr-returns-else-gone
+
+pub fdecl-declare_name-e-requires : goal.fdecl-declare_name-e-requires
+fdecl-declare_name-e-requires = of_fdecl.fdecl-declare_name-e-requires
+
+pub fdecl-returns-then-e-ne0 : goal.fdecl-returns-then-e-ne0
+fdecl-returns-then-e-ne0 = of_fdecl.fdecl-returns-then-e-ne0
+
+pub fdecl-arity_at-n-requires : goal.fdecl-arity_at-n-requires
+fdecl-arity_at-n-requires = of_fdecl.fdecl-arity_at-n-requires
+
+pub fdecl-overflow_add-result : goal.fdecl-overflow_add-result
+fdecl-overflow_add-result = of_fdecl.fdecl-overflow_add-result
+
+pub fdecl-returns-then-n-eq0 : goal.fdecl-returns-then-n-eq0
+fdecl-returns-then-n-eq0 = of_fdecl.fdecl-returns-then-n-eq0
+
+pub fdecl-overflow_add-i : goal.fdecl-overflow_add-i
+fdecl-overflow_add-i = of_fdecl.fdecl-overflow_add-i
+
+pub fdecl-skip-j-requires : goal.fdecl-skip-j-requires
+fdecl-skip-j-requires = of_fdecl.fdecl-skip-j-requires
+
+pub fdecl-overflow_sub-n : goal.fdecl-overflow_sub-n
+fdecl-overflow_sub-n = of_fdecl.fdecl-overflow_sub-n
+
+pub fdecl-func-requires : goal.fdecl-func-requires
+fdecl-func-requires = of_fdecl.fdecl-func-requires
+
+pub fdecl-returns : goal.fdecl-returns
+fdecl-returns = of_fdecl.fdecl-returns
+
+pub fexpr-arity_at-n-requires : goal.fexpr-arity_at-n-requires
+fexpr-arity_at-n-requires = of_fexpr.fexpr-arity_at-n-requires
+
+pub fexpr-form_at-f-requires : goal.fexpr-form_at-f-requires
+fexpr-form_at-f-requires = of_fexpr.fexpr-form_at-f-requires
+
+pub fexpr-overflow_add-i : goal.fexpr-overflow_add-i
+fexpr-overflow_add-i = of_fexpr.fexpr-overflow_add-i
+
+pub fexpr-func-requires : goal.fexpr-func-requires
+fexpr-func-requires = of_fexpr.fexpr-func-requires
+
+pub fexpr-returns-then-f-ne1 : goal.fexpr-returns-then-f-ne1
+fexpr-returns-then-f-ne1 = of_fexpr.fexpr-returns-then-f-ne1
+
+pub fexpr-write_name-e-requires : goal.fexpr-write_name-e-requires
+fexpr-write_name-e-requires = of_fexpr.fexpr-write_name-e-requires
+
+pub fexpr-returns-then-e-ne0 : goal.fexpr-returns-then-e-ne0
+fexpr-returns-then-e-ne0 = of_fexpr.fexpr-returns-then-e-ne0
+
+pub fexpr-overflow_add-result : goal.fexpr-overflow_add-result
+fexpr-overflow_add-result = of_fexpr.fexpr-overflow_add-result
+
+pub fexpr-returns-then-n-eq0 : goal.fexpr-returns-then-n-eq0
+fexpr-returns-then-n-eq0 = of_fexpr.fexpr-returns-then-n-eq0
+
+pub fexpr-overflow_add-i-2 : goal.fexpr-overflow_add-i-2
+fexpr-overflow_add-i-2 = of_fexpr.fexpr-overflow_add-i-2
+
+pub fexpr-skip-j-requires : goal.fexpr-skip-j-requires
+fexpr-skip-j-requires = of_fexpr.fexpr-skip-j-requires
+
+pub fexpr-overflow_sub-n : goal.fexpr-overflow_sub-n
+fexpr-overflow_sub-n = of_fexpr.fexpr-overflow_sub-n
+
+pub fexpr-func-requires-2 : goal.fexpr-func-requires-2
+fexpr-func-requires-2 = of_fexpr.fexpr-func-requires-2
+
+pub fexpr-returns : goal.fexpr-returns
+fexpr-returns = of_fexpr.fexpr-returns
+
+pub forin-set_pat_mode-requires : goal.forin-set_pat_mode-requires
+forin-set_pat_mode-requires = of_forin.forin-set_pat_mode-requires
+
+pub forin-arity_at-n-requires : goal.forin-arity_at-n-requires
+forin-arity_at-n-requires = of_forin.forin-arity_at-n-requires
+
+pub forin-overflow_add-result : goal.forin-overflow_add-result
+forin-overflow_add-result = of_forin.forin-overflow_add-result
+
+pub forin-returns-then-n-eq0 : goal.forin-returns-then-n-eq0
+forin-returns-then-n-eq0 = of_forin.forin-returns-then-n-eq0
+
+pub forin-overflow_add-p : goal.forin-overflow_add-p
+forin-overflow_add-p = of_forin.forin-overflow_add-p
+
+pub forin-overflow_add-i : goal.forin-overflow_add-i
+forin-overflow_add-i = of_forin.forin-overflow_add-i
+
+pub forin-full-r-requires : goal.forin-full-r-requires
+forin-full-r-requires = of_forin.forin-full-r-requires
+
+pub forin-returns-in_default : goal.forin-returns-in_default
+forin-returns-in_default = of_forin.forin-returns-in_default
+
+pub forin-overflow_add-i-2 : goal.forin-overflow_add-i-2
+forin-overflow_add-i-2 = of_forin.forin-overflow_add-i-2
+
+pub forin-write_tree-e-requires : goal.forin-write_tree-e-requires
+forin-write_tree-e-requires = of_forin.forin-write_tree-e-requires
+
+pub forin-returns-then-e-ne0 : goal.forin-returns-then-e-ne0
+forin-returns-then-e-ne0 = of_forin.forin-returns-then-e-ne0
+
+pub forin-overflow_sub-n : goal.forin-overflow_sub-n
+forin-overflow_sub-n = of_forin.forin-overflow_sub-n
+
+pub forin-write_but_last-g-requires : goal.forin-write_but_last-g-requires
+forin-write_but_last-g-requires = of_forin.forin-write_but_last-g-requires
+
+pub forin-returns-then-g-ne0 : goal.forin-returns-then-g-ne0
+forin-returns-then-g-ne0 = of_forin.forin-returns-then-g-ne0
+
+pub forin-overflow_add-p-2 : goal.forin-overflow_add-p-2
+forin-overflow_add-p-2 = of_forin.forin-overflow_add-p-2
+
+pub forin-overflow_sub-n-2 : goal.forin-overflow_sub-n-2
+forin-overflow_sub-n-2 = of_forin.forin-overflow_sub-n-2
+
+pub forin-loops-requires : goal.forin-loops-requires
+forin-loops-requires = of_forin.forin-loops-requires
+
+pub forin-returns : goal.forin-returns
+forin-returns = of_forin.forin-returns
+
+pub fors-write_kids_but_last-e-requires : goal.fors-write_kids_but_last-e-requires
+fors-write_kids_but_last-e-requires = of_fors.fors-write_kids_but_last-e-requires
+
+pub fors-returns-then-e-ne0 : goal.fors-returns-then-e-ne0
+fors-returns-then-e-ne0 = of_fors.fors-returns-then-e-ne0
+
+pub fors-form_at-f-requires : goal.fors-form_at-f-requires
+fors-form_at-f-requires = of_fors.fors-form_at-f-requires
+
+pub fors-arity_at-n-requires : goal.fors-arity_at-n-requires
+fors-arity_at-n-requires = of_fors.fors-arity_at-n-requires
+
+pub fors-overflow_add-p : goal.fors-overflow_add-p
+fors-overflow_add-p = of_fors.fors-overflow_add-p
+
+pub fors-overflow_add-i : goal.fors-overflow_add-i
+fors-overflow_add-i = of_fors.fors-overflow_add-i
+
+pub fors-loops-r-requires : goal.fors-loops-r-requires
+fors-loops-r-requires = of_fors.fors-loops-r-requires
+
+pub fors-returns-in_default : goal.fors-returns-in_default
+fors-returns-in_default = of_fors.fors-returns-in_default
+
+pub fors-store_barrier-requires : goal.fors-store_barrier-requires
+fors-store_barrier-requires = of_fors.fors-store_barrier-requires
+
+pub fors-returns-then-f-eq0 : goal.fors-returns-then-f-eq0
+fors-returns-then-f-eq0 = of_fors.fors-returns-then-f-eq0
+
+pub fors-returns-else-f-eq0 : goal.fors-returns-else-f-eq0
+fors-returns-else-f-eq0 = of_fors.fors-returns-else-f-eq0
+
+pub full-returns-then-l-eq0 : goal.full-returns-then-l-eq0
+full-returns-then-l-eq0 = of_full.full-returns-then-l-eq0
+
+pub full-bare-requires : goal.full-bare-requires
+full-bare-requires = of_full.full-bare-requires
+
+pub full-kind_at-requires : goal.full-kind_at-requires
+full-kind_at-requires = of_full.full-kind_at-requires
+
+pub full-overflow_sub-l : goal.full-overflow_sub-l
+full-overflow_sub-l = of_full.full-overflow_sub-l
+
+pub full-ident-requires : goal.full-ident-requires
+full-ident-requires = of_full.full-ident-requires
+
+pub full-returns-then-kind_at-eq21 : goal.full-returns-then-kind_at-eq21
+full-returns-then-kind_at-eq21 = of_full.full-returns-then-kind_at-eq21
+
+pub full-overflow_add-result : goal.full-overflow_add-result
+full-overflow_add-result = of_full.full-overflow_add-result
+
+pub full-returns-then-bare : goal.full-returns-then-bare
+full-returns-then-bare = of_full.full-returns-then-bare
+
+pub full-overflow_sub-l-2 : goal.full-overflow_sub-l-2
+full-overflow_sub-l-2 = of_full.full-overflow_sub-l-2
+
+pub full-own-r-requires : goal.full-own-r-requires
+full-own-r-requires = of_full.full-own-r-requires
+
+pub full-returns-in_default : goal.full-returns-in_default
+full-returns-in_default = of_full.full-returns-in_default
+
+pub full-settled-requires : goal.full-settled-requires
+full-settled-requires = of_full.full-settled-requires
+
+pub full-returns-then-settled : goal.full-returns-then-settled
+full-returns-then-settled = of_full.full-returns-then-settled
+
+pub full-overflow_sub-l-3 : goal.full-overflow_sub-l-3
+full-overflow_sub-l-3 = of_full.full-overflow_sub-l-3
+
+pub full-after-requires : goal.full-after-requires
+full-after-requires = of_full.full-after-requires
+
+pub full-returns : goal.full-returns
+full-returns = of_full.full-returns
+
+pub func-bounds-w-6 : goal.func-bounds-w-6
+func-bounds-w-6 = of_func.func-bounds-w-6
+
+pub func-bounds-w-8 : goal.func-bounds-w-8
+func-bounds-w-8 = of_func.func-bounds-w-8
+
+pub func-bounds-w-9 : goal.func-bounds-w-9
+func-bounds-w-9 = of_func.func-bounds-w-9
+
+pub func-bounds-w-10 : goal.func-bounds-w-10
+func-bounds-w-10 = of_func.func-bounds-w-10
+
+pub func-overflow_add-named : goal.func-overflow_add-named
+func-overflow_add-named = of_func.func-overflow_add-named
+
+pub func-enter-e-requires : goal.func-enter-e-requires
+func-enter-e-requires = of_func.func-enter-e-requires
+
+pub func-returns-then-e-ne0 : goal.func-returns-then-e-ne0
+func-returns-then-e-ne0 = of_func.func-returns-then-e-ne0
+
+pub func-set_pat_mode-requires : goal.func-set_pat_mode-requires
+func-set_pat_mode-requires = of_func.func-set_pat_mode-requires
+
+pub func-overflow_add-p : goal.func-overflow_add-p
+func-overflow_add-p = of_func.func-overflow_add-p
+
+pub func-params-r-requires : goal.func-params-r-requires
+func-params-r-requires = of_func.func-params-r-requires
+
+pub func-returns-in_default : goal.func-returns-in_default
+func-returns-in_default = of_func.func-returns-in_default
+
+pub func-leave-requires : goal.func-leave-requires
+func-leave-requires = of_func.func-leave-requires
+
+pub func-returns : goal.func-returns
+func-returns = of_func.func-returns
+
+pub ident-constant-m-requires : goal.ident-constant-m-requires
+ident-constant-m-requires = of_ident.ident-constant-m-requires
+
+pub ident-overflow_cast-p : goal.ident-overflow_cast-p
+ident-overflow_cast-p = of_ident.ident-overflow_cast-p
+
+pub ident-inline_constant-r-requires : goal.ident-inline_constant-r-requires
+ident-inline_constant-r-requires = of_ident.ident-inline_constant-r-requires
+
+pub ident-coded-requires : goal.ident-coded-requires
+ident-coded-requires = of_ident.ident-coded-requires
+
+pub ident-returns-in_default : goal.ident-returns-in_default
+ident-returns-in_default = of_ident.ident-returns-in_default
+
+pub ident-full-requires : goal.ident-full-requires
+ident-full-requires = of_ident.ident-full-requires
+
+pub ident-returns-then-m-gt0 : goal.ident-returns-then-m-gt0
+ident-returns-then-m-gt0 = of_ident.ident-returns-then-m-gt0
+
+pub ident-bounds-w-6 : goal.ident-bounds-w-6
+ident-bounds-w-6 = of_ident.ident-bounds-w-6
+
+pub ident-ident_analysis-requires : goal.ident-ident_analysis-requires
+ident-ident_analysis-requires = of_ident.ident-ident_analysis-requires
+
+pub ident-skip-requires : goal.ident-skip-requires
+ident-skip-requires = of_ident.ident-skip-requires
+
+pub ident-returns-then-w-eq0 : goal.ident-returns-then-w-eq0
+ident-returns-then-w-eq0 = of_ident.ident-returns-then-w-eq0
+
+pub ident-fate-requires : goal.ident-fate-requires
+ident-fate-requires = of_ident.ident-fate-requires
+
+pub ident-skip-requires-in-Nothing : goal.ident-skip-requires-in-Nothing
+ident-skip-requires-in-Nothing = of_ident.ident-skip-requires-in-Nothing
+
+pub ident-overflow_cast-p-in-Void : goal.ident-overflow_cast-p-in-Void
+ident-overflow_cast-p-in-Void = of_ident.ident-overflow_cast-p-in-Void
+
+pub ident-inline_undefined-requires : goal.ident-inline_undefined-requires
+ident-inline_undefined-requires = of_ident.ident-inline_undefined-requires
+
+pub ident-coded-requires-in-Void : goal.ident-coded-requires-in-Void
+ident-coded-requires-in-Void = of_ident.ident-coded-requires-in-Void
+
+pub ident-overflow_cast-p-in-Value : goal.ident-overflow_cast-p-in-Value
+ident-overflow_cast-p-in-Value = of_ident.ident-overflow_cast-p-in-Value
+
+pub ident-inline_value-r-requires : goal.ident-inline_value-r-requires
+ident-inline_value-r-requires = of_ident.ident-inline_value-r-requires
+
+pub ident-coded-requires-in_default-r : goal.ident-coded-requires-in_default-r
+ident-coded-requires-in_default-r = of_ident.ident-coded-requires-in_default-r
+
+pub ident-returns-in_default-r : goal.ident-returns-in_default-r
+ident-returns-in_default-r = of_ident.ident-returns-in_default-r
+
+pub ident-logic-requires : goal.ident-logic-requires
+ident-logic-requires = of_ident.ident-logic-requires
+
+pub ident-returns-in-Nothing : goal.ident-returns-in-Nothing
+ident-returns-in-Nothing = of_ident.ident-returns-in-Nothing
+
+pub ident-returns-in-Void : goal.ident-returns-in-Void
+ident-returns-in-Void = of_ident.ident-returns-in-Void
+
+pub ident-returns-in-At-r : goal.ident-returns-in-At-r
+ident-returns-in-At-r = of_ident.ident-returns-in-At-r
+
+pub ifs-arity_at-n-requires : goal.ifs-arity_at-n-requires
+ifs-arity_at-n-requires = of_ifs.ifs-arity_at-n-requires
+
+pub ifs-overflow_add-result : goal.ifs-overflow_add-result
+ifs-overflow_add-result = of_ifs.ifs-overflow_add-result
+
+pub ifs-returns-then-n-eq0 : goal.ifs-returns-then-n-eq0
+ifs-returns-then-n-eq0 = of_ifs.ifs-returns-then-n-eq0
+
+pub ifs-bounds-w-10 : goal.ifs-bounds-w-10
+ifs-bounds-w-10 = of_ifs.ifs-bounds-w-10
+
+pub ifs-set_in_test-requires : goal.ifs-set_in_test-requires
+ifs-set_in_test-requires = of_ifs.ifs-set_in_test-requires
+
+pub ifs-overflow_add-p : goal.ifs-overflow_add-p
+ifs-overflow_add-p = of_ifs.ifs-overflow_add-p
+
+pub ifs-overflow_add-i : goal.ifs-overflow_add-i
+ifs-overflow_add-i = of_ifs.ifs-overflow_add-i
+
+pub ifs-full-r-requires : goal.ifs-full-r-requires
+ifs-full-r-requires = of_ifs.ifs-full-r-requires
+
+pub ifs-returns-in_default : goal.ifs-returns-in_default
+ifs-returns-in_default = of_ifs.ifs-returns-in_default
+
+pub ifs-set_in_test-requires-2 : goal.ifs-set_in_test-requires-2
+ifs-set_in_test-requires-2 = of_ifs.ifs-set_in_test-requires-2
+
+pub ifs-overflow_add-p-2 : goal.ifs-overflow_add-p-2
+ifs-overflow_add-p-2 = of_ifs.ifs-overflow_add-p-2
+
+pub ifs-overflow_sub-n : goal.ifs-overflow_sub-n
+ifs-overflow_sub-n = of_ifs.ifs-overflow_sub-n
+
+pub ifs-arms-requires : goal.ifs-arms-requires
+ifs-arms-requires = of_ifs.ifs-arms-requires
+
+pub ifs-returns : goal.ifs-returns
+ifs-returns = of_ifs.ifs-returns
+
+pub init-bounds-w-8 : goal.init-bounds-w-8
+init-bounds-w-8 = of_init.init-bounds-w-8
+
+pub init-name-requires : goal.init-name-requires
+init-name-requires = of_init.init-name-requires
+
+pub init-returns-then-kind-ge3 : goal.init-returns-then-kind-ge3
+init-returns-then-kind-ge3 = of_init.init-returns-then-kind-ge3
+
+pub init-overflow_add-i : goal.init-overflow_add-i
+init-overflow_add-i = of_init.init-overflow_add-i
+
+pub init-ident_at-x-requires : goal.init-ident_at-x-requires
+init-ident_at-x-requires = of_init.init-ident_at-x-requires
+
+pub init-overflow_add-i-2 : goal.init-overflow_add-i-2
+init-overflow_add-i-2 = of_init.init-overflow_add-i-2
+
+pub init-form_at-f-requires : goal.init-form_at-f-requires
+init-form_at-f-requires = of_init.init-form_at-f-requires
+
+pub init-overflow_add-i-3 : goal.init-overflow_add-i-3
+init-overflow_add-i-3 = of_init.init-overflow_add-i-3
+
+pub init-skip-j-requires : goal.init-skip-j-requires
+init-skip-j-requires = of_init.init-skip-j-requires
+
+pub init-overflow_sub-n : goal.init-overflow_sub-n
+init-overflow_sub-n = of_init.init-overflow_sub-n
+
+pub init-stays-requires : goal.init-stays-requires
+init-stays-requires = of_init.init-stays-requires
+
+pub init-skip-requires : goal.init-skip-requires
+init-skip-requires = of_init.init-skip-requires
+
+pub init-returns-then-stays : goal.init-returns-then-stays
+init-returns-then-stays = of_init.init-returns-then-stays
+
+pub init-declr_end-requires : goal.init-declr_end-requires
+init-declr_end-requires = of_init.init-declr_end-requires
+
+pub init-returns-then-n-eq1 : goal.init-returns-then-n-eq1
+init-returns-then-n-eq1 = of_init.init-returns-then-n-eq1
+
+pub init-overflow_add-p : goal.init-overflow_add-p
+init-overflow_add-p = of_init.init-overflow_add-p
+
+pub init-full-requires : goal.init-full-requires
+init-full-requires = of_init.init-full-requires
+
+pub init-returns-in_default : goal.init-returns-in_default
+init-returns-in_default = of_init.init-returns-in_default
+
+pub init-skip-end-requires : goal.init-skip-end-requires
+init-skip-end-requires = of_init.init-skip-end-requires
+
+pub init-overflow_sub-n-2 : goal.init-overflow_sub-n-2
+init-overflow_sub-n-2 = of_init.init-overflow_sub-n-2
+
+pub init-declr_end-requires-2 : goal.init-declr_end-requires-2
+init-declr_end-requires-2 = of_init.init-declr_end-requires-2
+
+pub init-returns : goal.init-returns
+init-returns = of_init.init-returns
+
+pub items-form_at-f-requires : goal.items-form_at-f-requires
+items-form_at-f-requires = of_items.items-form_at-f-requires
+
+pub items-body-requires : goal.items-body-requires
+items-body-requires = of_items.items-body-requires
+
+pub items-returns-then-f-ne1 : goal.items-returns-then-f-ne1
+items-returns-then-f-ne1 = of_items.items-returns-then-f-ne1
+
+pub items-arity_at-n-requires : goal.items-arity_at-n-requires
+items-arity_at-n-requires = of_items.items-arity_at-n-requires
+
+pub items-overflow_add-result : goal.items-overflow_add-result
+items-overflow_add-result = of_items.items-overflow_add-result
+
+pub items-returns-then-n-eq0 : goal.items-returns-then-n-eq0
+items-returns-then-n-eq0 = of_items.items-returns-then-n-eq0
+
+pub items-overflow_add-p : goal.items-overflow_add-p
+items-overflow_add-p = of_items.items-overflow_add-p
+
+pub items-overflow_add-i : goal.items-overflow_add-i
+items-overflow_add-i = of_items.items-overflow_add-i
+
+pub items-full-r-requires : goal.items-full-r-requires
+items-full-r-requires = of_items.items-full-r-requires
+
+pub items-returns-in_default : goal.items-returns-in_default
+items-returns-in_default = of_items.items-returns-in_default
+
+pub items-overflow_add-p-2 : goal.items-overflow_add-p-2
+items-overflow_add-p-2 = of_items.items-overflow_add-p-2
+
+pub items-overflow_sub-n : goal.items-overflow_sub-n
+items-overflow_sub-n = of_items.items-overflow_sub-n
+
+pub items-stmts-requires : goal.items-stmts-requires
+items-stmts-requires = of_items.items-stmts-requires
+
+pub items-returns : goal.items-returns
+items-returns = of_items.items-returns
+
+pub kids-arity_at-n-requires : goal.kids-arity_at-n-requires
+kids-arity_at-n-requires = of_kids.kids-arity_at-n-requires
+
+pub kids-overflow_add-p : goal.kids-overflow_add-p
+kids-overflow_add-p = of_kids.kids-overflow_add-p
+
+pub kids-overflow_add-i : goal.kids-overflow_add-i
+kids-overflow_add-i = of_kids.kids-overflow_add-i
+
+pub kids-many-requires : goal.kids-many-requires
+kids-many-requires = of_kids.kids-many-requires
+
+pub kids-returns : goal.kids-returns
+kids-returns = of_kids.kids-returns
+
+pub logic-kind_at-k-requires : goal.logic-kind_at-k-requires
+logic-kind_at-k-requires = of_logic.logic-kind_at-k-requires
+
+pub logic-skip-requires : goal.logic-skip-requires
+logic-skip-requires = of_logic.logic-skip-requires
+
+pub logic-returns-then-k-ne32 : goal.logic-returns-then-k-ne32
+logic-returns-then-k-ne32 = of_logic.logic-returns-then-k-ne32
+
+pub logic-form_at-f-requires : goal.logic-form_at-f-requires
+logic-form_at-f-requires = of_logic.logic-form_at-f-requires
+
+pub logic-skip-requires-then-f-ge2 : goal.logic-skip-requires-then-f-ge2
+logic-skip-requires-then-f-ge2 = of_logic.logic-skip-requires-then-f-ge2
+
+pub logic-returns-then-f-ge2 : goal.logic-returns-then-f-ge2
+logic-returns-then-f-ge2 = of_logic.logic-returns-then-f-ge2
+
+pub logic-arity_at-n-requires : goal.logic-arity_at-n-requires
+logic-arity_at-n-requires = of_logic.logic-arity_at-n-requires
+
+pub logic-overflow_add-result : goal.logic-overflow_add-result
+logic-overflow_add-result = of_logic.logic-overflow_add-result
+
+pub logic-returns-then-n-eq0 : goal.logic-returns-then-n-eq0
+logic-returns-then-n-eq0 = of_logic.logic-returns-then-n-eq0
+
+pub logic-overflow_add-i : goal.logic-overflow_add-i
+logic-overflow_add-i = of_logic.logic-overflow_add-i
+
+pub logic-skip-j-requires : goal.logic-skip-j-requires
+logic-skip-j-requires = of_logic.logic-skip-j-requires
+
+pub logic-overflow_add-p : goal.logic-overflow_add-p
+logic-overflow_add-p = of_logic.logic-overflow_add-p
+
+pub logic-overflow_sub-n : goal.logic-overflow_sub-n
+logic-overflow_sub-n = of_logic.logic-overflow_sub-n
+
+pub logic-conds-requires : goal.logic-conds-requires
+logic-conds-requires = of_logic.logic-conds-requires
+
+pub logic-returns : goal.logic-returns
+logic-returns = of_logic.logic-returns
+
+pub loops-returns-then-n-eq0 : goal.loops-returns-then-n-eq0
+loops-returns-then-n-eq0 = of_loops.loops-returns-then-n-eq0
+
+pub loops-overflow_sub-n : goal.loops-overflow_sub-n
+loops-overflow_sub-n = of_loops.loops-overflow_sub-n
+
+pub loops-many-r-requires : goal.loops-many-r-requires
+loops-many-r-requires = of_loops.loops-many-r-requires
+
+pub loops-returns-in_default : goal.loops-returns-in_default
+loops-returns-in_default = of_loops.loops-returns-in_default
+
+pub loops-arm-requires : goal.loops-arm-requires
+loops-arm-requires = of_loops.loops-arm-requires
+
+pub loops-returns : goal.loops-returns
+loops-returns = of_loops.loops-returns
+
+pub many-loop-k-init : goal.many-loop-k-init
+many-loop-k-init = of_many.many-loop-k-init
+
+pub many-full-r-requires : goal.many-full-r-requires
+many-full-r-requires = of_many.many-full-r-requires
+
+pub many-returns-in_default : goal.many-returns-in_default
+many-returns-in_default = of_many.many-returns-in_default
+
+pub many-overflow_add-k : goal.many-overflow_add-k
+many-overflow_add-k = of_many.many-overflow_add-k
+
+pub many-loop-k-smaller : goal.many-loop-k-smaller
+many-loop-k-smaller = of_many.many-loop-k-smaller
+
+pub many-loop-k-preserved : goal.many-loop-k-preserved
+many-loop-k-preserved = of_many.many-loop-k-preserved
+
+pub many-returns : goal.many-returns
+many-returns = of_many.many-returns
+
+pub name-overflow_add-result : goal.name-overflow_add-result
+name-overflow_add-result = of_name.name-overflow_add-result
+
+pub name-returns-then-n-eq0 : goal.name-returns-then-n-eq0
+name-returns-then-n-eq0 = of_name.name-returns-then-n-eq0
+
+pub name-overflow_add-p : goal.name-overflow_add-p
+name-overflow_add-p = of_name.name-overflow_add-p
+
+pub name-overflow_add-i : goal.name-overflow_add-i
+name-overflow_add-i = of_name.name-overflow_add-i
+
+pub name-full-r-requires : goal.name-full-r-requires
+name-full-r-requires = of_name.name-full-r-requires
+
+pub name-returns-in_default : goal.name-returns-in_default
+name-returns-in_default = of_name.name-returns-in_default
+
+pub name-skip-requires : goal.name-skip-requires
+name-skip-requires = of_name.name-skip-requires
+
+pub name-returns : goal.name-returns
+name-returns = of_name.name-returns
+
+pub own-kind_at-k-requires : goal.own-kind_at-k-requires
+own-kind_at-k-requires = of_own.own-kind_at-k-requires
+
+pub own-body-requires : goal.own-body-requires
+own-body-requires = of_own.own-body-requires
+
+pub own-block-requires : goal.own-block-requires
+own-block-requires = of_own.own-block-requires
+
+pub own-decl-requires : goal.own-decl-requires
+own-decl-requires = of_own.own-decl-requires
+
+pub own-declr-requires : goal.own-declr-requires
+own-declr-requires = of_own.own-declr-requires
+
+pub own-fdecl-requires : goal.own-fdecl-requires
+own-fdecl-requires = of_own.own-fdecl-requires
+
+pub own-ifs-requires : goal.own-ifs-requires
+own-ifs-requires = of_own.own-ifs-requires
+
+pub own-fors-requires : goal.own-fors-requires
+own-fors-requires = of_own.own-fors-requires
+
+pub own-tries-requires : goal.own-tries-requires
+own-tries-requires = of_own.own-tries-requires
+
+pub own-catch-requires : goal.own-catch-requires
+own-catch-requires = of_own.own-catch-requires
+
+pub own-case-requires : goal.own-case-requires
+own-case-requires = of_own.own-case-requires
+
+pub own-pats-requires : goal.own-pats-requires
+own-pats-requires = of_own.own-pats-requires
+
+pub own-unary-requires : goal.own-unary-requires
+own-unary-requires = of_own.own-unary-requires
+
+pub own-update-requires : goal.own-update-requires
+own-update-requires = of_own.own-update-requires
+
+pub own-assign-requires : goal.own-assign-requires
+own-assign-requires = of_own.own-assign-requires
+
+pub own-call-requires : goal.own-call-requires
+own-call-requires = of_own.own-call-requires
+
+pub own-call-requires-in-36 : goal.own-call-requires-in-36
+own-call-requires-in-36 = of_own.own-call-requires-in-36
+
+pub own-fexpr-requires : goal.own-fexpr-requires
+own-fexpr-requires = of_own.own-fexpr-requires
+
+pub own-arrow-requires : goal.own-arrow-requires
+own-arrow-requires = of_own.own-arrow-requires
+
+pub own-whiles-requires : goal.own-whiles-requires
+own-whiles-requires = of_own.own-whiles-requires
+
+pub own-forin-requires : goal.own-forin-requires
+own-forin-requires = of_own.own-forin-requires
+
+pub own-kids-requires : goal.own-kids-requires
+own-kids-requires = of_own.own-kids-requires
+
+pub own-returns-in-1 : goal.own-returns-in-1
+own-returns-in-1 = of_own.own-returns-in-1
+
+pub own-returns-in-2 : goal.own-returns-in-2
+own-returns-in-2 = of_own.own-returns-in-2
+
+pub own-returns-in-5 : goal.own-returns-in-5
+own-returns-in-5 = of_own.own-returns-in-5
+
+pub own-returns-in-6 : goal.own-returns-in-6
+own-returns-in-6 = of_own.own-returns-in-6
+
+pub own-returns-in-7 : goal.own-returns-in-7
+own-returns-in-7 = of_own.own-returns-in-7
+
+pub own-returns-in-9 : goal.own-returns-in-9
+own-returns-in-9 = of_own.own-returns-in-9
+
+pub own-returns-in-12 : goal.own-returns-in-12
+own-returns-in-12 = of_own.own-returns-in-12
+
+pub own-returns-in-16 : goal.own-returns-in-16
+own-returns-in-16 = of_own.own-returns-in-16
+
+pub own-returns-in-17 : goal.own-returns-in-17
+own-returns-in-17 = of_own.own-returns-in-17
+
+pub own-returns-in-19 : goal.own-returns-in-19
+own-returns-in-19 = of_own.own-returns-in-19
+
+pub own-returns-in-20 : goal.own-returns-in-20
+own-returns-in-20 = of_own.own-returns-in-20
+
+pub own-returns-in-30 : goal.own-returns-in-30
+own-returns-in-30 = of_own.own-returns-in-30
+
+pub own-returns-in-31 : goal.own-returns-in-31
+own-returns-in-31 = of_own.own-returns-in-31
+
+pub own-returns-in-33 : goal.own-returns-in-33
+own-returns-in-33 = of_own.own-returns-in-33
+
+pub own-returns-in-35 : goal.own-returns-in-35
+own-returns-in-35 = of_own.own-returns-in-35
+
+pub own-returns-in-36 : goal.own-returns-in-36
+own-returns-in-36 = of_own.own-returns-in-36
+
+pub own-returns-in-39 : goal.own-returns-in-39
+own-returns-in-39 = of_own.own-returns-in-39
+
+pub own-returns-in-40 : goal.own-returns-in-40
+own-returns-in-40 = of_own.own-returns-in-40
+
+pub own-returns-in-10 : goal.own-returns-in-10
+own-returns-in-10 = of_own.own-returns-in-10
+
+pub own-returns-in-13 : goal.own-returns-in-13
+own-returns-in-13 = of_own.own-returns-in-13
+
+pub own-returns-in_default : goal.own-returns-in_default
+own-returns-in_default = of_own.own-returns-in_default
+
+pub params-returns-then-n-eq0 : goal.params-returns-then-n-eq0
+params-returns-then-n-eq0 = of_params.params-returns-then-n-eq0
+
+pub params-overflow_sub-n : goal.params-overflow_sub-n
+params-overflow_sub-n = of_params.params-overflow_sub-n
+
+pub params-many-r-requires : goal.params-many-r-requires
+params-many-r-requires = of_params.params-many-r-requires
+
+pub params-returns-in_default : goal.params-returns-in_default
+params-returns-in_default = of_params.params-returns-in_default
+
+pub params-returns-then-d-eq0 : goal.params-returns-then-d-eq0
+params-returns-then-d-eq0 = of_params.params-returns-then-d-eq0
+
+pub params-overflow_sub-d : goal.params-overflow_sub-d
+params-overflow_sub-d = of_params.params-overflow_sub-d
+
+pub params-body-requires : goal.params-body-requires
+params-body-requires = of_params.params-body-requires
+
+pub params-returns : goal.params-returns
+params-returns = of_params.params-returns
+
+pub parts-loop-k-init : goal.parts-loop-k-init
+parts-loop-k-init = of_parts.parts-loop-k-init
+
+pub parts-kind_at-kind-requires : goal.parts-kind_at-kind-requires
+parts-kind_at-kind-requires = of_parts.parts-kind_at-kind-requires
+
+pub parts-skip-at-requires : goal.parts-skip-at-requires
+parts-skip-at-requires = of_parts.parts-skip-at-requires
+
+pub parts-overflow_add-k : goal.parts-overflow_add-k
+parts-overflow_add-k = of_parts.parts-overflow_add-k
+
+pub parts-loop-k-smaller-then-kind-ne17 : goal.parts-loop-k-smaller-then-kind-ne17
+parts-loop-k-smaller-then-kind-ne17 = of_parts.parts-loop-k-smaller-then-kind-ne17
+
+pub parts-loop-k-preserved-then-kind-ne17 : goal.parts-loop-k-preserved-then-kind-ne17
+parts-loop-k-preserved-then-kind-ne17 = of_parts.parts-loop-k-preserved-then-kind-ne17
+
+pub parts-full-r-requires : goal.parts-full-r-requires
+parts-full-r-requires = of_parts.parts-full-r-requires
+
+pub parts-returns-in_default : goal.parts-returns-in_default
+parts-returns-in_default = of_parts.parts-returns-in_default
+
+pub parts-overflow_add-k-in-loop-k : goal.parts-overflow_add-k-in-loop-k
+parts-overflow_add-k-in-loop-k = of_parts.parts-overflow_add-k-in-loop-k
+
+pub parts-loop-k-smaller : goal.parts-loop-k-smaller
+parts-loop-k-smaller = of_parts.parts-loop-k-smaller
+
+pub parts-loop-k-preserved : goal.parts-loop-k-preserved
+parts-loop-k-preserved = of_parts.parts-loop-k-preserved
+
+pub parts-returns : goal.parts-returns
+parts-returns = of_parts.parts-returns
+
+pub stmts-bounds-w-6 : goal.stmts-bounds-w-6
+stmts-bounds-w-6 = of_stmts.stmts-bounds-w-6
+
+pub stmts-many-requires : goal.stmts-many-requires
+stmts-many-requires = of_stmts.stmts-many-requires
+
+pub stmts-returns-then-w-eq0 : goal.stmts-returns-then-w-eq0
+stmts-returns-then-w-eq0 = of_stmts.stmts-returns-then-w-eq0
+
+pub stmts-set_inlining-requires : goal.stmts-set_inlining-requires
+stmts-set_inlining-requires = of_stmts.stmts-set_inlining-requires
+
+pub stmts-many-r-requires : goal.stmts-many-r-requires
+stmts-many-r-requires = of_stmts.stmts-many-r-requires
+
+pub stmts-returns-in_default : goal.stmts-returns-in_default
+stmts-returns-in_default = of_stmts.stmts-returns-in_default
+
+pub stmts-set_inlining-requires-2 : goal.stmts-set_inlining-requires-2
+stmts-set_inlining-requires-2 = of_stmts.stmts-set_inlining-requires-2
+
+pub stmts-many-requires-2 : goal.stmts-many-requires-2
+stmts-many-requires-2 = of_stmts.stmts-many-requires-2
+
+pub stmts-returns : goal.stmts-returns
+stmts-returns = of_stmts.stmts-returns
+
+pub tail-returns-then-n-eq0 : goal.tail-returns-then-n-eq0
+tail-returns-then-n-eq0 = of_tail.tail-returns-then-n-eq0
+
+pub tail-skip-j-requires : goal.tail-skip-j-requires
+tail-skip-j-requires = of_tail.tail-skip-j-requires
+
+pub tail-overflow_sub-n : goal.tail-overflow_sub-n
+tail-overflow_sub-n = of_tail.tail-overflow_sub-n
+
+pub tail-many-requires : goal.tail-many-requires
+tail-many-requires = of_tail.tail-many-requires
+
+pub tail-returns : goal.tail-returns
+tail-returns = of_tail.tail-returns
+
+pub tries-arity_at-n-requires : goal.tries-arity_at-n-requires
+tries-arity_at-n-requires = of_tries.tries-arity_at-n-requires
+
+pub tries-overflow_add-result : goal.tries-overflow_add-result
+tries-overflow_add-result = of_tries.tries-overflow_add-result
+
+pub tries-returns-then-n-eq0 : goal.tries-returns-then-n-eq0
+tries-returns-then-n-eq0 = of_tries.tries-returns-then-n-eq0
+
+pub tries-overflow_add-i : goal.tries-overflow_add-i
+tries-overflow_add-i = of_tries.tries-overflow_add-i
+
+pub tries-write_tree-e-requires : goal.tries-write_tree-e-requires
+tries-write_tree-e-requires = of_tries.tries-write_tree-e-requires
+
+pub tries-returns-then-e-ne0 : goal.tries-returns-then-e-ne0
+tries-returns-then-e-ne0 = of_tries.tries-returns-then-e-ne0
+
+pub tries-overflow_add-i-2 : goal.tries-overflow_add-i-2
+tries-overflow_add-i-2 = of_tries.tries-overflow_add-i-2
+
+pub tries-skip-j-requires : goal.tries-skip-j-requires
+tries-skip-j-requires = of_tries.tries-skip-j-requires
+
+pub tries-overflow_add-p : goal.tries-overflow_add-p
+tries-overflow_add-p = of_tries.tries-overflow_add-p
+
+pub tries-overflow_sub-n : goal.tries-overflow_sub-n
+tries-overflow_sub-n = of_tries.tries-overflow_sub-n
+
+pub tries-parts-requires : goal.tries-parts-requires
+tries-parts-requires = of_tries.tries-parts-requires
+
+pub tries-returns : goal.tries-returns
+tries-returns = of_tries.tries-returns
+
+pub unary-form_at-f-requires : goal.unary-form_at-f-requires
+unary-form_at-f-requires = of_unary.unary-form_at-f-requires
+
+pub unary-kids-requires : goal.unary-kids-requires
+unary-kids-requires = of_unary.unary-kids-requires
+
+pub unary-returns-then-f-ne6 : goal.unary-returns-then-f-ne6
+unary-returns-then-f-ne6 = of_unary.unary-returns-then-f-ne6
+
+pub unary-update-requires : goal.unary-update-requires
+unary-update-requires = of_unary.unary-update-requires
+
+pub unary-returns : goal.unary-returns
+unary-returns = of_unary.unary-returns
+
+pub whiles-write_kids_but_last-e-requires : goal.whiles-write_kids_but_last-e-requires
+whiles-write_kids_but_last-e-requires = of_whiles.whiles-write_kids_but_last-e-requires
+
+pub whiles-returns-then-e-ne0 : goal.whiles-returns-then-e-ne0
+whiles-returns-then-e-ne0 = of_whiles.whiles-returns-then-e-ne0
+
+pub whiles-arity_at-n-requires : goal.whiles-arity_at-n-requires
+whiles-arity_at-n-requires = of_whiles.whiles-arity_at-n-requires
+
+pub whiles-overflow_add-p : goal.whiles-overflow_add-p
+whiles-overflow_add-p = of_whiles.whiles-overflow_add-p
+
+pub whiles-overflow_add-i : goal.whiles-overflow_add-i
+whiles-overflow_add-i = of_whiles.whiles-overflow_add-i
+
+pub whiles-loops-requires : goal.whiles-loops-requires
+whiles-loops-requires = of_whiles.whiles-loops-requires
+
+pub whiles-returns : goal.whiles-returns
+whiles-returns = of_whiles.whiles-returns

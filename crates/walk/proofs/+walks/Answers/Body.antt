@@ -1,0 +1,23 @@
+-- The goals of body. Assumes nothing.
+use Prim.Native.Nat.{◌-◌}
+use native.Mathlib.Omega.{arith}
+use Rattle.laws_flat.specs.WalkF.{walks_f, visit_mut_stmts_f, script_f}
+use Rattle.walk_laws.proofs.Heres as heres
+use Rattle.walk_laws.proofs.Ways as ways
+use Rattle.walk.proofs.+walks.Goals as goal
+
+pub body-arity_at-n-requires : goal.body-arity_at-n-requires
+body-arity_at-n-requires t c = heres.at-node c.requires
+
+pub body-overflow_add-p : goal.body-overflow_add-p
+body-overflow_add-p t c = omega (arith, c.requires.depth, (heres.at-node c.requires).1)
+
+pub body-overflow_add-i : goal.body-overflow_add-i
+body-overflow_add-i t c = omega (arith, c.requires.depth, (heres.at-node c.requires).1)
+
+pub body-stmts-requires : goal.body-stmts-requires
+body-stmts-requires t c = (omega (arith, c.decreases), (heres.here-kids c.requires c.arity_at-n.ensures))
+
+pub body-returns : goal.body-returns
+unfolding script_f
+body-returns t c = ways.on-kids (visit_mut_stmts_f (walks_f c.args.d)) c.requires c.arity_at-n.ensures c.stmts.ensures

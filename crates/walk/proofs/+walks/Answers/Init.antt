@@ -1,0 +1,79 @@
+-- The goals of init. Assumes nothing.
+use Prim.Native.Nat.{suc, ◌+◌, ◌-◌}
+use mathlib.Core.Path.{refl, sym, ◌∙◌}
+use native.Mathlib.Omega.{arith}
+use Rattle.def_tree.specs.Combine.{skip, tree_at}
+use Rattle.def_tree.proofs.Sims.{sim-skip}
+use Rattle.words_state.specs.State.{abs, rest}
+use Rattle.laws_flat.specs.WalkF.{walks_f}
+use Rattle.laws_flat.proofs.Sim.{sims, sim-name}
+use Rattle.walk_laws.proofs.Heres as heres
+use Rattle.walk_laws.proofs.Ways as ways
+use Rattle.walk_laws.proofs.Declrs as declrs
+use Rattle.walk.proofs.+walks.Goals as goal
+
+pub init-bounds-w-8 : goal.init-bounds-w-8
+init-bounds-w-8 t c = omega (arith, c.requires.0.planted.good.long)
+
+pub init-name-requires : goal.init-name-requires
+init-name-requires t c = (omega (arith, c.decreases), (c.requires.0, c.requires.1))
+
+pub init-returns-then-kind-ge3 : goal.init-returns-then-kind-ge3
+init-returns-then-kind-ge3 t c = ways.did-as (sym c.next.ensures.0) (declrs.end-const (walks_f c.args.d) c.args.p (sim-name (sims c.args.d) c.args.p) c.requires.0 c.requires.1 (tree_at (abs c.args.w.now) (c.args.i + 1)) (rest c.args.w.now).var_decl_kind (declrs.kind-const c.args.w.now c.if-kind-ge3.true) c.name.ensures)
+
+pub init-overflow_add-i : goal.init-overflow_add-i
+init-overflow_add-i t c = omega (arith, c.requires.0.depth, (heres.at-node c.requires.0).1)
+
+pub init-ident_at-x-requires : goal.init-ident_at-x-requires
+init-ident_at-x-requires t c = declrs.at_name (heres.here-kids c.requires.0 c.requires.1) c.requires.2
+
+pub init-overflow_add-i-2 : goal.init-overflow_add-i-2
+init-overflow_add-i-2 t c = omega (arith, c.requires.0.depth, (heres.at-node c.requires.0).1)
+
+pub init-form_at-f-requires : goal.init-form_at-f-requires
+init-form_at-f-requires t c = heres.at-node (heres.here-one (λ z. omega (arith, z, c.requires.2.some)) (heres.here-kids c.requires.0 c.requires.1))
+
+pub init-overflow_add-i-3 : goal.init-overflow_add-i-3
+init-overflow_add-i-3 t c = omega (arith, c.requires.0.depth, (heres.at-node c.requires.0).1)
+
+pub init-skip-j-requires : goal.init-skip-j-requires
+init-skip-j-requires t c = declrs.at_bound (heres.here-kids c.requires.0 c.requires.1) c.requires.2
+
+pub init-overflow_sub-n : goal.init-overflow_sub-n
+init-overflow_sub-n t c = omega (arith, c.requires.2.some)
+
+pub init-stays-requires : goal.init-stays-requires
+init-stays-requires t c = heres.at-trees (heres.here-next sim-skip (heres.here-kids c.requires.0 c.requires.1) refl (λ z. omega (arith, z, c.requires.2.some)) (ways.did-skip (c.args.i + 1) c.requires.0.planted c.skip-j.ensures.0))
+
+pub init-skip-requires : goal.init-skip-requires
+init-skip-requires t c = heres.at-skip c.requires.0
+
+pub init-returns-then-stays : goal.init-returns-then-stays
+init-returns-then-stays t c = declrs.init-stays (walks_f c.args.d) c.args.p ((sims c.args.d).full (suc c.args.p)) c.requires.0 c.requires.1 c.requires.2 c.skip-j.ensures.0 (rest c.args.w.now).var_decl_kind (declrs.kind-other c.args.w.now (omega (arith, c.if-kind-ge3.false))) c.form_at-f.result c.form_at-f.ensures c.ident_at-x.result c.ident_at-x.ensures c.stays.ensures c.if-stays.true c.skip.ensures.0
+
+pub init-declr_end-requires : goal.init-declr_end-requires
+init-declr_end-requires t c = (c.requires.0.planted, declrs.spot-none (walks_f c.args.d) c.args.p ((sims c.args.d).full (suc c.args.p)) c.requires.0 c.requires.1 c.requires.2 c.skip-j.ensures.0 c.if-n-eq1.true)
+
+pub init-returns-then-n-eq1 : goal.init-returns-then-n-eq1
+init-returns-then-n-eq1 t c = declrs.init-none (walks_f c.args.d) c.args.p ((sims c.args.d).full (suc c.args.p)) c.requires.0 c.requires.1 c.requires.2 c.skip-j.ensures.0 (rest c.args.w.now).var_decl_kind (declrs.kind-other c.args.w.now (omega (arith, c.if-kind-ge3.false))) c.form_at-f.result c.form_at-f.ensures c.ident_at-x.result c.ident_at-x.ensures c.stays.ensures c.if-stays.false c.if-n-eq1.true (declrs.after-kind c.args.w.now c.args.i c.form_at-f.result c.ident_at-x.result 0 c.skip-j.result c.skip-j.result c.declr_end.ensures)
+
+pub init-overflow_add-p : goal.init-overflow_add-p
+init-overflow_add-p t c = omega (arith, c.requires.0.depth, (heres.at-node c.requires.0).1)
+
+pub init-full-requires : goal.init-full-requires
+init-full-requires t c = (omega (arith, c.decreases), (heres.here-one (λ z. omega (arith, z, c.if-n-eq1.false, c.requires.2.some)) (heres.here-next sim-skip (heres.here-kids c.requires.0 c.requires.1) refl (λ z. omega (arith, z, c.requires.2.some)) (ways.did-skip (c.args.i + 1) c.requires.0.planted c.skip-j.ensures.0))))
+
+pub init-returns-in_default : goal.init-returns-in_default
+init-returns-in_default t c = ways.did-as (sym c.next-r.ensures.0) (declrs.init-stop (walks_f c.args.d) c.args.p ((sims c.args.d).full (suc c.args.p)) c.requires.0 c.requires.1 c.requires.2 c.skip-j.ensures.0 (rest c.args.w.now).var_decl_kind (declrs.kind-other c.args.w.now (omega (arith, c.if-kind-ge3.false))) c.form_at-f.result c.form_at-f.ensures c.ident_at-x.result c.ident_at-x.ensures c.stays.ensures c.if-stays.false c.if-n-eq1.false (sym c.next-r.ensures.0 ∙ c.in_default.is) c.full.ensures)
+
+pub init-skip-end-requires : goal.init-skip-end-requires
+init-skip-end-requires t c = heres.here-below c.args.i (omega (arith, c.skip-j.ensures.1)) (heres.here-still ((sims c.args.d).full (c.args.p + 1)) (heres.here-one (λ z. omega (arith, z, c.if-n-eq1.false, c.requires.2.some)) (heres.here-next sim-skip (heres.here-kids c.requires.0 c.requires.1) refl (λ z. omega (arith, z, c.requires.2.some)) (ways.did-skip (c.args.i + 1) c.requires.0.planted c.skip-j.ensures.0))) (sym c.next-r.ensures.0 ∙ c.in-At.is) refl c.full.ensures)
+
+pub init-overflow_sub-n-2 : goal.init-overflow_sub-n-2
+init-overflow_sub-n-2 t c = omega (arith, c.requires.2.some)
+
+pub init-declr_end-requires-2 : goal.init-declr_end-requires-2
+init-declr_end-requires-2 t c = (c.full.ensures.ok.planted, declrs.spot (walks_f c.args.d) c.args.p ((sims c.args.d).full (suc c.args.p)) c.requires.0 c.requires.1 c.requires.2 c.skip-j.ensures.0 (declrs.walked (walks_f c.args.d) c.args.p ((sims c.args.d).full (suc c.args.p)) c.requires.0 c.requires.1 c.requires.2 c.skip-j.ensures.0 c.if-n-eq1.false (sym c.next-r.ensures.0 ∙ c.in-At.is) c.full.ensures c.skip-end.ensures.0) (λ z. c.skip-end.ensures.0))
+
+pub init-returns : goal.init-returns
+init-returns t c = declrs.init-then (walks_f c.args.d) c.args.p ((sims c.args.d).full (suc c.args.p)) c.requires.0 c.requires.1 c.requires.2 c.skip-j.ensures.0 (rest c.args.w.now).var_decl_kind (declrs.kind-other c.args.w.now (omega (arith, c.if-kind-ge3.false))) c.form_at-f.result c.form_at-f.ensures c.ident_at-x.result c.ident_at-x.ensures c.stays.ensures c.if-stays.false (declrs.walked (walks_f c.args.d) c.args.p ((sims c.args.d).full (suc c.args.p)) c.requires.0 c.requires.1 c.requires.2 c.skip-j.ensures.0 c.if-n-eq1.false (sym c.next-r.ensures.0 ∙ c.in-At.is) c.full.ensures c.skip-end.ensures.0) (declrs.after-kind c.args.w.now c.args.i c.form_at-f.result c.ident_at-x.result (c.args.n - 1) c.skip-j.result c.skip-end.result c.declr_end-2.ensures)

@@ -1,0 +1,162 @@
+-- The goals of own. Assumes nothing.
+use Prim.Native.Nat.{ℕ, ◌-◌}
+use mathlib.Core.Path.{refl, ap}
+use mathlib.Core.Logic.{⊎_elim, inl, inr}
+use native.Mathlib.Omega.{arith}
+use lib.ListN.{get_or}
+use Rattle.def_pass.specs.Tree.{kids}
+use Rattle.def_pass.specs.Walk.{handlers, h_plain, h_script, h_block, h_decl, h_declr, h_fun, h_if, h_while, h_for, h_for_in, h_try, h_catch, h_case, h_pat, h_unary, h_update, h_assign, h_call, h_new, h_fun_expr, h_arrow}
+use Rattle.laws_flat.specs.WalkF.{walks_f, handle_f}
+use Rattle.walk_laws.proofs.Heres as heres
+use Rattle.walk_laws.proofs.Ways as ways
+use Rattle.walk.proofs.+walks.Goals as goal
+
+pub own-kind_at-k-requires : goal.own-kind_at-k-requires
+own-kind_at-k-requires t c = heres.at-node c.requires
+
+pub own-body-requires : goal.own-body-requires
+own-body-requires t c = (omega (arith, c.decreases), c.requires)
+
+pub own-block-requires : goal.own-block-requires
+own-block-requires t c = (omega (arith, c.decreases), c.requires)
+
+pub own-decl-requires : goal.own-decl-requires
+own-decl-requires t c = (omega (arith, c.decreases), c.requires)
+
+pub own-declr-requires : goal.own-declr-requires
+own-declr-requires t c = (omega (arith, c.decreases), c.requires)
+
+pub own-fdecl-requires : goal.own-fdecl-requires
+own-fdecl-requires t c = (omega (arith, c.decreases), c.requires)
+
+pub own-ifs-requires : goal.own-ifs-requires
+own-ifs-requires t c = (omega (arith, c.decreases), c.requires)
+
+pub own-fors-requires : goal.own-fors-requires
+own-fors-requires t c = (omega (arith, c.decreases), c.requires)
+
+pub own-tries-requires : goal.own-tries-requires
+own-tries-requires t c = (omega (arith, c.decreases), c.requires)
+
+pub own-catch-requires : goal.own-catch-requires
+own-catch-requires t c = (omega (arith, c.decreases), c.requires)
+
+pub own-case-requires : goal.own-case-requires
+own-case-requires t c = (omega (arith, c.decreases), c.requires)
+
+pub own-pats-requires : goal.own-pats-requires
+own-pats-requires t c = c.requires
+
+pub own-unary-requires : goal.own-unary-requires
+own-unary-requires t c = (omega (arith, c.decreases), c.requires)
+
+pub own-update-requires : goal.own-update-requires
+own-update-requires t c = c.requires
+
+pub own-assign-requires : goal.own-assign-requires
+own-assign-requires t c = (omega (arith, c.decreases), c.requires)
+
+pub own-call-requires : goal.own-call-requires
+own-call-requires t c = (omega (arith, c.decreases), c.requires)
+
+pub own-call-requires-in-36 : goal.own-call-requires-in-36
+own-call-requires-in-36 t c = (omega (arith, c.decreases), c.requires)
+
+pub own-fexpr-requires : goal.own-fexpr-requires
+own-fexpr-requires t c = (omega (arith, c.decreases), c.requires)
+
+pub own-arrow-requires : goal.own-arrow-requires
+own-arrow-requires t c = (omega (arith, c.decreases), c.requires)
+
+pub own-whiles-requires : goal.own-whiles-requires
+own-whiles-requires t c = (omega (arith, c.decreases), c.requires)
+
+pub own-forin-requires : goal.own-forin-requires
+own-forin-requires t c = (omega (arith, c.decreases), c.requires)
+
+pub own-kids-requires : goal.own-kids-requires
+own-kids-requires t c = (omega (arith, c.decreases), c.requires)
+
+pub own-returns-in-1 : goal.own-returns-in-1
+unfolding handle_f
+own-returns-in-1 t c = ways.own-by (walks_f c.args.d) h_script c.requires c.kind_at-k.ensures (ap (λ (m : ℕ). get_or handlers m h_plain) c.in-1.is) c.body.ensures
+
+pub own-returns-in-2 : goal.own-returns-in-2
+unfolding handle_f
+own-returns-in-2 t c = ways.own-by (walks_f c.args.d) h_block c.requires c.kind_at-k.ensures (ap (λ (m : ℕ). get_or handlers m h_plain) c.in-2.is) c.block.ensures
+
+pub own-returns-in-5 : goal.own-returns-in-5
+unfolding handle_f
+own-returns-in-5 t c = ways.own-by (walks_f c.args.d) h_decl c.requires c.kind_at-k.ensures (ap (λ (m : ℕ). get_or handlers m h_plain) c.in-5.is) c.decl.ensures
+
+pub own-returns-in-6 : goal.own-returns-in-6
+unfolding handle_f
+own-returns-in-6 t c = ways.own-by (walks_f c.args.d) h_declr c.requires c.kind_at-k.ensures (ap (λ (m : ℕ). get_or handlers m h_plain) c.in-6.is) c.declr.ensures
+
+pub own-returns-in-7 : goal.own-returns-in-7
+unfolding handle_f
+own-returns-in-7 t c = ways.own-by (walks_f c.args.d) h_fun c.requires c.kind_at-k.ensures (ap (λ (m : ℕ). get_or handlers m h_plain) c.in-7.is) c.fdecl.ensures
+
+pub own-returns-in-9 : goal.own-returns-in-9
+unfolding handle_f
+own-returns-in-9 t c = ways.own-by (walks_f c.args.d) h_if c.requires c.kind_at-k.ensures (ap (λ (m : ℕ). get_or handlers m h_plain) c.in-9.is) c.ifs.ensures
+
+pub own-returns-in-12 : goal.own-returns-in-12
+unfolding handle_f
+own-returns-in-12 t c = ways.own-by (walks_f c.args.d) h_for c.requires c.kind_at-k.ensures (ap (λ (m : ℕ). get_or handlers m h_plain) c.in-12.is) c.fors.ensures
+
+pub own-returns-in-16 : goal.own-returns-in-16
+unfolding handle_f
+own-returns-in-16 t c = ways.own-by (walks_f c.args.d) h_try c.requires c.kind_at-k.ensures (ap (λ (m : ℕ). get_or handlers m h_plain) c.in-16.is) c.tries.ensures
+
+pub own-returns-in-17 : goal.own-returns-in-17
+unfolding handle_f
+own-returns-in-17 t c = ways.own-by (walks_f c.args.d) h_catch c.requires c.kind_at-k.ensures (ap (λ (m : ℕ). get_or handlers m h_plain) c.in-17.is) c.catch.ensures
+
+pub own-returns-in-19 : goal.own-returns-in-19
+unfolding handle_f
+own-returns-in-19 t c = ways.own-by (walks_f c.args.d) h_case c.requires c.kind_at-k.ensures (ap (λ (m : ℕ). get_or handlers m h_plain) c.in-19.is) c.case.ensures
+
+pub own-returns-in-20 : goal.own-returns-in-20
+unfolding handle_f
+own-returns-in-20 t c = ways.own-by (walks_f c.args.d) h_pat c.requires c.kind_at-k.ensures (ap (λ (m : ℕ). get_or handlers m h_plain) c.in-20.is) c.pats.ensures
+
+pub own-returns-in-30 : goal.own-returns-in-30
+unfolding handle_f
+own-returns-in-30 t c = ways.own-by (walks_f c.args.d) h_unary c.requires c.kind_at-k.ensures (ap (λ (m : ℕ). get_or handlers m h_plain) c.in-30.is) c.unary.ensures
+
+pub own-returns-in-31 : goal.own-returns-in-31
+unfolding handle_f
+own-returns-in-31 t c = ways.own-by (walks_f c.args.d) h_update c.requires c.kind_at-k.ensures (ap (λ (m : ℕ). get_or handlers m h_plain) c.in-31.is) c.update.ensures
+
+pub own-returns-in-33 : goal.own-returns-in-33
+unfolding handle_f
+own-returns-in-33 t c = ways.own-by (walks_f c.args.d) h_assign c.requires c.kind_at-k.ensures (ap (λ (m : ℕ). get_or handlers m h_plain) c.in-33.is) c.assign.ensures
+
+pub own-returns-in-35 : goal.own-returns-in-35
+unfolding handle_f
+own-returns-in-35 t c = ways.own-by (walks_f c.args.d) h_call c.requires c.kind_at-k.ensures (ap (λ (m : ℕ). get_or handlers m h_plain) c.in-35.is) c.call.ensures
+
+pub own-returns-in-36 : goal.own-returns-in-36
+unfolding handle_f
+own-returns-in-36 t c = ways.own-by (walks_f c.args.d) h_new c.requires c.kind_at-k.ensures (ap (λ (m : ℕ). get_or handlers m h_plain) c.in-36.is) c.call-in-36.ensures
+
+pub own-returns-in-39 : goal.own-returns-in-39
+unfolding handle_f
+own-returns-in-39 t c = ways.own-by (walks_f c.args.d) h_fun_expr c.requires c.kind_at-k.ensures (ap (λ (m : ℕ). get_or handlers m h_plain) c.in-39.is) c.fexpr.ensures
+
+pub own-returns-in-40 : goal.own-returns-in-40
+unfolding handle_f
+own-returns-in-40 t c = ways.own-by (walks_f c.args.d) h_arrow c.requires c.kind_at-k.ensures (ap (λ (m : ℕ). get_or handlers m h_plain) c.in-40.is) c.arrow.ensures
+
+pub own-returns-in-10 : goal.own-returns-in-10
+unfolding handle_f
+own-returns-in-10 t c = ways.own-by (walks_f c.args.d) h_while c.requires c.kind_at-k.ensures (ways.kind-while c.kind_at-k.result c.in-10.in_default-own.rest.0.0.0.0.0.0.0.0.0.0.0.0.1 c.in-10.if-k-lt9-own.false c.in-10.if-k-lt12-own.true) c.whiles.ensures
+
+pub own-returns-in-13 : goal.own-returns-in-13
+unfolding handle_f
+own-returns-in-13 t c = ways.own-by (walks_f c.args.d) h_for_in c.requires c.kind_at-k.ensures (ways.kind-for-in c.kind_at-k.result c.in-13.in_default-own.rest.0.0.0.0.0.0.0.0.0.0.0.1 c.in-13.if-k-lt12-own.false c.in-13.if-k-lt15-own.true) c.forin.ensures
+
+pub own-returns-in_default : goal.own-returns-in_default
+unfolding handle_f
+own-returns-in_default t c = ways.own-by (walks_f c.args.d) h_plain c.requires c.kind_at-k.ensures (⊎_elim (λ s. ways.kind-plain c.kind_at-k.result (inl refl, (inr c.in_default-1.rest.0.0.0.0.0.0.0.0.0.0.0.0.0.0.0.0.0.1, (inr c.in_default-1.rest.0.0.0.0.0.0.0.0.0.0.0.0.0.0.0.0.1, (inl refl, (inl refl, (inr c.in_default-1.rest.0.0.0.0.0.0.0.0.0.0.0.0.0.0.0.1, (inr c.in_default-1.rest.0.0.0.0.0.0.0.0.0.0.0.0.0.0.1, (inr c.in_default-1.rest.0.0.0.0.0.0.0.0.0.0.0.0.0.1, (inl refl, (inr c.in_default-1.rest.0.0.0.0.0.0.0.0.0.0.0.0.1, (inr (λ e. omega (arith, e, s.if-k-lt9-1.true)), (inr (λ e. omega (arith, e, s.if-k-lt9-1.true)), (inr c.in_default-1.rest.0.0.0.0.0.0.0.0.0.0.0.1, (inr (λ e. omega (arith, e, s.if-k-lt9-1.true)), (inr (λ e. omega (arith, e, s.if-k-lt9-1.true)), (inl refl, (inr c.in_default-1.rest.0.0.0.0.0.0.0.0.0.0.1, (inr c.in_default-1.rest.0.0.0.0.0.0.0.0.0.1, (inl refl, (inr c.in_default-1.rest.0.0.0.0.0.0.0.0.1, (inr c.in_default-1.rest.0.0.0.0.0.0.0.1, (inl refl, (inl refl, (inl refl, (inl refl, (inl refl, (inl refl, (inl refl, (inl refl, (inl refl, (inr c.in_default-1.rest.0.0.0.0.0.0.1, (inr c.in_default-1.rest.0.0.0.0.0.1, (inl refl, (inr c.in_default-1.rest.0.0.0.0.1, (inl refl, (inr c.in_default-1.rest.0.0.0.1, (inr c.in_default-1.rest.0.0.1, (inl refl, (inl refl, (inr c.in_default-1.rest.0.1, (inr c.in_default-1.rest.1, (inl refl, (inl refl, (inl refl, (inl refl, tt)))))))))))))))))))))))))))))))))))))))))))))) (λ s. ways.kind-plain c.kind_at-k.result (inl refl, (inr c.in_default-1.rest.0.0.0.0.0.0.0.0.0.0.0.0.0.0.0.0.0.1, (inr c.in_default-1.rest.0.0.0.0.0.0.0.0.0.0.0.0.0.0.0.0.1, (inl refl, (inl refl, (inr c.in_default-1.rest.0.0.0.0.0.0.0.0.0.0.0.0.0.0.0.1, (inr c.in_default-1.rest.0.0.0.0.0.0.0.0.0.0.0.0.0.0.1, (inr c.in_default-1.rest.0.0.0.0.0.0.0.0.0.0.0.0.0.1, (inl refl, (inr c.in_default-1.rest.0.0.0.0.0.0.0.0.0.0.0.0.1, (inr (λ e. omega (arith, e, s.if-k-lt15-1.false)), (inr (λ e. omega (arith, e, s.if-k-lt15-1.false)), (inr c.in_default-1.rest.0.0.0.0.0.0.0.0.0.0.0.1, (inr (λ e. omega (arith, e, s.if-k-lt15-1.false)), (inr (λ e. omega (arith, e, s.if-k-lt15-1.false)), (inl refl, (inr c.in_default-1.rest.0.0.0.0.0.0.0.0.0.0.1, (inr c.in_default-1.rest.0.0.0.0.0.0.0.0.0.1, (inl refl, (inr c.in_default-1.rest.0.0.0.0.0.0.0.0.1, (inr c.in_default-1.rest.0.0.0.0.0.0.0.1, (inl refl, (inl refl, (inl refl, (inl refl, (inl refl, (inl refl, (inl refl, (inl refl, (inl refl, (inr c.in_default-1.rest.0.0.0.0.0.0.1, (inr c.in_default-1.rest.0.0.0.0.0.1, (inl refl, (inr c.in_default-1.rest.0.0.0.0.1, (inl refl, (inr c.in_default-1.rest.0.0.0.1, (inr c.in_default-1.rest.0.0.1, (inl refl, (inl refl, (inr c.in_default-1.rest.0.1, (inr c.in_default-1.rest.1, (inl refl, (inl refl, (inl refl, (inl refl, tt)))))))))))))))))))))))))))))))))))))))))))))) c.in_default.branch-raw) c.kids.ensures

@@ -1,0 +1,54 @@
+-- The goals of tries. Assumes nothing.
+use Prim.Native.Nat.{◌+◌, ◌-◌}
+use mathlib.Core.Path.{refl, sym}
+use mathlib.Core.Bool.{true, false}
+use native.Mathlib.Omega.{arith}
+use Rattle.def_tree.specs.Combine.{◌>>◌, act, skip, split_f}
+use Rattle.def_tree.proofs.Sims.{sim-skip}
+use Rattle.def_pass.specs.Walk.{write_tree}
+use Rattle.laws_flat.specs.WalkF.{walks_f, visit_mut_try_stmt_f}
+use Rattle.walk_laws.specs.Did.{clauses_f}
+use Rattle.walk_laws.proofs.Codes as codes
+use Rattle.walk_laws.proofs.Laws as laws
+use Rattle.walk_laws.proofs.Heres as heres
+use Rattle.walk_laws.proofs.Ways as ways
+use Rattle.walk.proofs.+walks.Goals as goal
+
+pub tries-arity_at-n-requires : goal.tries-arity_at-n-requires
+tries-arity_at-n-requires t c = heres.at-node c.requires
+
+pub tries-overflow_add-result : goal.tries-overflow_add-result
+tries-overflow_add-result t c = omega (arith, c.requires.depth, (heres.at-node c.requires).1)
+
+pub tries-returns-then-n-eq0 : goal.tries-returns-then-n-eq0
+unfolding visit_mut_try_stmt_f
+tries-returns-then-n-eq0 t c = codes.did_at (codes.low-next c.requires) (ways.on-kids (λ q. split_f (λ i₁. act (write_tree true) i₁ >> skip i₁) (λ n i₁. clauses_f (walks_f c.args.d) q n i₁)) c.requires c.arity_at-n.ensures (ways.split-none (λ i₁. act (write_tree true) i₁ >> skip i₁) (λ n i₁. clauses_f (walks_f c.args.d) (c.args.p + 1) n i₁) c.arity_at-n.result (c.args.i + 1) c.if-n-eq0.true c.requires.planted))
+
+pub tries-overflow_add-i : goal.tries-overflow_add-i
+tries-overflow_add-i t c = omega (arith, c.requires.depth, (heres.at-node c.requires).1)
+
+pub tries-write_tree-e-requires : goal.tries-write_tree-e-requires
+tries-write_tree-e-requires t c = heres.at-skip (heres.here-one c.if-n-eq0.false (heres.here-kids c.requires c.arity_at-n.ensures))
+
+pub tries-returns-then-e-ne0 : goal.tries-returns-then-e-ne0
+unfolding visit_mut_try_stmt_f
+tries-returns-then-e-ne0 t c = ways.did-as (sym c.refused.ensures) (ways.on-kids (λ q. split_f (λ i₁. act (write_tree true) i₁ >> skip i₁) (λ n i₁. clauses_f (walks_f c.args.d) q n i₁)) c.requires c.arity_at-n.ensures (ways.split-stop (λ i₁. act (write_tree true) i₁ >> skip i₁) (λ n i₁. clauses_f (walks_f c.args.d) (c.args.p + 1) n i₁) c.arity_at-n.result (c.args.i + 1) c.if-n-eq0.false refl (laws.act-stop _ c.if-e-ne0.true c.write_tree-e.ensures)))
+
+pub tries-overflow_add-i-2 : goal.tries-overflow_add-i-2
+tries-overflow_add-i-2 t c = omega (arith, c.requires.depth, (heres.at-node c.requires).1)
+
+pub tries-skip-j-requires : goal.tries-skip-j-requires
+tries-skip-j-requires t c = heres.at-skip (heres.here-one c.if-n-eq0.false (heres.here-tree (write_tree true) (c.args.i + 1) c.if-e-ne0.false c.write_tree-e.ensures (heres.here-kids c.requires c.arity_at-n.ensures)))
+
+pub tries-overflow_add-p : goal.tries-overflow_add-p
+tries-overflow_add-p t c = omega (arith, c.requires.depth, (heres.at-node c.requires).1)
+
+pub tries-overflow_sub-n : goal.tries-overflow_sub-n
+tries-overflow_sub-n t c = omega (arith, c.if-n-eq0.false)
+
+pub tries-parts-requires : goal.tries-parts-requires
+tries-parts-requires t c = (omega (arith, c.decreases), heres.here-next sim-skip (heres.here-tree (write_tree true) (c.args.i + 1) c.if-e-ne0.false c.write_tree-e.ensures (heres.here-kids c.requires c.arity_at-n.ensures)) refl c.if-n-eq0.false (ways.did-skip (c.args.i + 1) (heres.here-tree (write_tree true) (c.args.i + 1) c.if-e-ne0.false c.write_tree-e.ensures (heres.here-kids c.requires c.arity_at-n.ensures)).planted c.skip-j.ensures.0))
+
+pub tries-returns : goal.tries-returns
+unfolding visit_mut_try_stmt_f
+tries-returns t c = ways.on-kids (λ q. split_f (λ i₁. act (write_tree true) i₁ >> skip i₁) (λ n i₁. clauses_f (walks_f c.args.d) q n i₁)) c.requires c.arity_at-n.ensures (ways.split-then (λ i₁. act (write_tree true) i₁ >> skip i₁) (λ n i₁. clauses_f (walks_f c.args.d) (c.args.p + 1) n i₁) c.arity_at-n.result (c.args.i + 1) c.if-n-eq0.false refl (laws.act-then _ c.if-e-ne0.false c.write_tree-e.ensures (ways.did-skip (c.args.i + 1) (heres.here-tree (write_tree true) (c.args.i + 1) c.if-e-ne0.false c.write_tree-e.ensures (heres.here-kids c.requires c.arity_at-n.ensures)).planted c.skip-j.ensures.0)) c.parts.ensures)
