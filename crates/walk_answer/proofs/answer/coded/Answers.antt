@@ -5,7 +5,7 @@ use borrow.Author.Rules.{rules}
 use Rattle.walk_answer.proofs.answer.coded.Goals as goal
 
 pub returns-in-At : goal.returns-in-At
-returns-in-At c = codes.of_at c.n-1.given.1 c.requires
+returns-in-At c = codes.of_at c.in-At.is c.requires
 
 pub returns-in-Refused : goal.returns-in-Refused
-returns-in-Refused c = c.refused.ensures ∙ sym c.n-in-Refused-1.given.1
+returns-in-Refused c = c.refused.ensures ∙ sym c.in-Refused.is
