@@ -16,8 +16,8 @@ open_scope-requires c = (starts.planted (starts.marked-loaded c.requires c.mark_
 
 pub flag_twice-requires : goal.flag_twice-requires
 flag_twice-requires c =
-    let o = starts.from-marked c.requires c.mark_targets.ensures (starts.opened (starts.marked-loaded c.requires c.mark_targets.ensures) c.set_fields.ensures c.new-root.result.kind c.open_scope.result (ap kind_of c.new-root.ensures) c.open_scope.auto.0 c.open_scope.ensures (starts.marked-is c.requires c.mark_targets.ensures)) in
+    let o = starts.from-marked c.requires c.mark_targets.ensures (starts.opened (starts.marked-loaded c.requires c.mark_targets.ensures) c.set_fields.ensures c.new-root.result.kind c.open_scope.result (ap kind_of c.new-root.ensures) c.open_scope.auto.w c.open_scope.ensures (starts.marked-is c.requires c.mark_targets.ensures)) in
     (o.planted, starts.opened-plain o c.requires)
 
 pub returns : goal.returns
-returns c = starts.started (starts.from-marked c.requires c.mark_targets.ensures (starts.opened (starts.marked-loaded c.requires c.mark_targets.ensures) c.set_fields.ensures c.new-root.result.kind c.open_scope.result (ap kind_of c.new-root.ensures) c.open_scope.auto.0 c.open_scope.ensures (starts.marked-is c.requires c.mark_targets.ensures))) c.flag_twice.ensures
+returns c = starts.started (starts.from-marked c.requires c.mark_targets.ensures (starts.opened (starts.marked-loaded c.requires c.mark_targets.ensures) c.set_fields.ensures c.new-root.result.kind c.open_scope.result (ap kind_of c.new-root.ensures) c.open_scope.auto.w c.open_scope.ensures (starts.marked-is c.requires c.mark_targets.ensures))) c.flag_twice.ensures
