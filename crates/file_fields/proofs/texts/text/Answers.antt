@@ -9,14 +9,6 @@ use Rattle.file_fields.proofs.texts.text.Goals as goal
 pub slice_bounds-result-count : goal.slice_bounds-result-count
 slice_bounds-result-count c = (whole_part _ _ _ c.if-whole.true).0
 
--- TODO
--- part-result-start : tie.Need-slice-bounds-result-start
--- part-result-start c = (whole_part _ _ _ c.if1.true).0
-
--- TODO
--- part-result-end : tie.Need-slice-bounds-result-end
--- part-result-end c = (whole_part _ _ _ c.if1.true).1
-
 pub returns-then-whole : goal.returns-then-whole
 unfolding text_in
 returns-then-whole c =
