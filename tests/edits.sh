@@ -1,4 +1,4 @@
 #!/usr/bin/env bash
-# The edits each_function*.edit change one line in each of several functions, and each_law*.edit several statements, so that one check tries all of
-# them. What the prover said of them, as rt left it under target/must-fail, must refuse each of these functions and laws by a fact of its own.
-cd "$(dirname "$0")/.." && exec python3 tests/edits.py
+# The edits each_function*.edit change one line in each of several functions, and each_law*.edit several statements, so that few checks try all of
+# them. rt ci demands that each edit is refused; here each of these functions and laws must be refused by a fact of its own.
+cd "$(dirname "$0")/.." && exec python3 tests/edits.py "$@"
