@@ -27,7 +27,7 @@ SEQUENCES = 400
 TABLE, PART = 700, 4
 
 HEAD = """-- Sequences {first} to {last} of {count}: calls and what they leave, in numbers of 16 bytes. Written by tools/calls.py.
-use Rattle.std.specs.Prelude.{{◌≡◌, refl, List, [], ◌∷◌, ℕ}}
+use Rattle.std.specs.Prelude.{{◌≡◌, refl, List, [], ◌∷◌}}
 use Rattle.laws_vectors.specs.Play.{{Played, p, wrong}}
 """
 

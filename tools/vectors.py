@@ -16,8 +16,8 @@ TABLE = 4000
 PART = 12
 
 HEAD = """-- Vectors {first} to {last} of {count}: files and answers, in numbers of 16 bytes. Written by tools/vectors.py.
-use Rattle.std.specs.Prelude.{{◌≡◌, refl, List, [], ◌∷◌, ℕ}}
-use Rattle.laws_vectors.specs.Vector.{{Vector, v, c, wrong}}
+use Rattle.std.specs.Prelude.{{◌≡◌, refl, List, [], ◌∷◌}}
+use Rattle.laws_vectors.specs.Vector.{{Vector, {kinds}, wrong}}
 """
 
 
@@ -110,7 +110,8 @@ def main(folder, texts):
         size = sum(len(g) for g in part)
         names.append("Part%d" % (i // PART))
         with open(os.path.join(folder, names[-1] + ".antt"), "w", encoding="utf-8") as f:
-            f.write(HEAD.format(first=first, last=first + size - 1, count=len(vectors)))
+            kinds = ", ".join(k for k in "vc" if any(term[0] == k for group in part for term in group))
+            f.write(HEAD.format(first=first, last=first + size - 1, count=len(vectors), kinds=kinds))
             for j, group in enumerate(part):
                 f.write("\nabbrev table%d : List Vector\ntable%d =\n    " % (i + j, i + j))
                 f.write("\n    ∷ ".join(group + ["[]"]) + "\n")

@@ -7,7 +7,7 @@ use Prim.Native.Nat.{ℕ, suc, ◌+◌, max}
 use lib.Dec.{T, eqb, ltb, eqb→eq}
 use lib.ListN.{length}
 use Rattle.def_tree.specs.Base.{pick}
-use Rattle.def_pass.specs.Tree.{Tree, Forest, node, nil, cons, kind, form, num, kids, count, counts, count_o, height, heights, has_this, has_this_f, ident_list, ident_list_f, head_t, tail_f, void_zero}
+use Rattle.def_pass.specs.Tree.{Tree, Forest, node, nil, cons, kind, form, num, kids, count, counts, count_o, height, heights, has_this, has_this_f, ident_list, ident_list_f, head_t, tail_f}
 use Rattle.def_pass.specs.Targets.{aims, aimed_at, first_is, targets, targets_f}
 use Rattle.def_pass.specs.Twice.{unflagged, is_function, is_named, binds, no_literal, declarators, vars, vars_f, params, any_of, twice, flag, flags, flag_named, flagged}
 use Rattle.def_pass.specs.Walk.{as_ident, is_bind, but_last}
@@ -201,7 +201,3 @@ module _ (r : ℕ → ℕ) where
 
   pub same-flagged : (t : Tree) → flagged (relabel r t) ≡ relabel r (flagged t)
   same-flagged (node k f a ts) = ap (λ c. flag c (relabel r (node k f a ts))) (same-twice ts) ∙ same_flag (twice ts) (node k f a ts)
-
-  -- the zero of `void 0` has origin 0, which stays
-  pub same-void : r 0 ≡ 0 → relabel r void_zero ≡ void_zero
-  same-void e = ap (λ n. node 30 0 0 (cons (node 22 0 n nil) nil)) e
