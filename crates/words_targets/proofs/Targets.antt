@@ -3,19 +3,19 @@ use mathlib.Core.Path.{◌≡◌, refl, sym, ap, ap₂, ◌∙◌, fun_ext}
 use mathlib.Core.List.{List, [], ◌∷◌}
 use mathlib.Core.Bool.{Bool, true, false, ◌&&◌, ◌||◌}
 use mathlib.Core.Logic.{◌⊎◌, inl, inr, ⊎_elim}
-use Prim.Native.Nat.{ℕ, zero, suc, ◌+◌, ◌*◌, ◌/◌, ◌≤◌, ◌<◌}
+use Prim.Native.Nat.{ℕ, zero, suc, ◌+◌, ◌*◌, ◌≤◌, ◌<◌}
 use native.Mathlib.Omega.{arith}
 use native.Mathlib.Numerals.{add-one}
 use borrow.Author.Tests.{eqb-true, ne_eqb}
 use lib.Dec.{eqb}
-use lib.ListN.{length, get_or, drop, drop_of_length-le}
+use lib.ListN.{get_or, drop, drop_of_length-le}
 use lib.Seq.{drop-cons}
 use Rattle.def_tree.specs.Tree.{Core, no_core}
 use Rattle.def_pass.specs.Targets.{aims}
 use Rattle.laws_flat.specs.PassF.{some!, next_is, targets_l}
 use Rattle.words.specs.Flags.{flag_at, Flagged}
 use Rattle.words.specs.Tab.{get_d-tab, get_d-tab-out, below_or_not}
-use Rattle.words.specs.Layout.{yes, node_of, core_from, tree}
+use Rattle.words.specs.Layout.{yes, node_of, tree}
 use Rattle.words.specs.Moved.{Zeroed}
 use Rattle.words.proofs.Flags.{flag-none}
 use Rattle.words.proofs.Nodes.{tree-length, tree-at, tree-same}

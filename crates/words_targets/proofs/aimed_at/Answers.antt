@@ -5,13 +5,12 @@ use mathlib.Core.List.{List, ◌∷◌}
 use lib.Dec.{eqb}
 use Rattle.def_tree.specs.Tree.{Core}
 use mathlib.Core.Logic.{inl, inr}
-use Prim.Native.Nat.{ℕ, ◌+◌, ◌-◌}
+use Prim.Native.Nat.{ℕ, ◌+◌}
 use native.Mathlib.Omega.{arith}
-use lib.ListN.{get_or, drop}
+use lib.ListN.{drop}
 use Rattle.laws_flat.specs.PassF.{some!, next_is}
 use Rattle.words.specs.Layout.{tree, node_of}
 use Rattle.words_targets.proofs.Targets as laws
-use borrow.Author.Rules.{rules}
 use Rattle.words_targets.proofs.aimed_at.Goals as goal
 
 pub loop-k-init : goal.loop-k-init

@@ -1,7 +1,6 @@
 -- Test by test. Assumes nothing.
 use mathlib.Core.Path.{refl}
 use borrow.Author.Tests.{ne_eqb}
-use borrow.Author.Rules.{rules}
 use Rattle.words_targets.proofs.aims.Goals as goal
 
 pub returns-then-k-eq33 : goal.returns-then-k-eq33

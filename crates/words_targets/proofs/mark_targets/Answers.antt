@@ -1,9 +1,6 @@
 -- Node by node, from the first on. Assumes nothing.
-use Prim.Native.Nat.{◌≤◌, ◌-◌}
 use native.Mathlib.Omega.{arith}
-use Rattle.words_targets.specs.Targets.{Beside}
 use Rattle.words_targets.proofs.Targets as laws
-use borrow.Author.Rules.{rules}
 use Rattle.words_targets.proofs.mark_targets.Goals as goal
 
 pub wipe-requires : goal.wipe-requires

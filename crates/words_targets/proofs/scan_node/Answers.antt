@@ -3,7 +3,6 @@ use mathlib.Core.Path.{sym, ap, ◌∙◌}
 use native.Mathlib.Omega.{arith}
 use Rattle.def_pass.specs.Targets.{aims}
 use Rattle.words_targets.proofs.Targets as laws
-use borrow.Author.Rules.{rules}
 use Rattle.words_targets.proofs.scan_node.Goals as goal
 
 pub kind_at-kind-requires : goal.kind_at-kind-requires
