@@ -10,4 +10,4 @@ use borrow.Author.Rules.{rules}
 use Rattle.walk_declarator.proofs.declr_after.Goals as goal
 
 pub returns-then-n-eq0 : goal.returns-then-n-eq0
-returns-then-n-eq0 c = ends.did-by (ap (λ (n : ℕ). declr_after c.args.q (type_of c.args.kind) (named c.args.f c.args.x) n c.args.i c.args.j (abs c.args.w.now)) c.if-n-eq0.taken) c.after_bare.ensures
+returns-then-n-eq0 c = ends.did-by (ap (λ (n : ℕ). declr_after c.args.q (type_of c.args.kind) (named c.args.f c.args.x) n c.args.i c.args.j (abs c.args.w.now)) c.if-n-eq0.true) c.after_bare.ensures
