@@ -4,6 +4,7 @@ use mathlib.Core.Path.{refl, sym, ◌∙◌}
 use mathlib.Core.Bool.{true, false}
 use native.Mathlib.Omega.{arith}
 use Rattle.def_tree.specs.Combine.{◌>>=◌, ◌>>◌, ret, act, act_f, split_f, each_but_f, on_kids_f}
+use Rattle.def_pass.specs.Scope.{loop as loop_kind}
 use Rattle.def_pass.specs.Walk.{set_pat_mode, as_param, write_tree, write_forest, but_last}
 use Rattle.laws_flat.specs.WalkF.{walks_f, visit_with_child_f, visit_mut_for_in_stmt_f}
 use Rattle.laws_flat.proofs.Sim.{sims}
@@ -24,7 +25,7 @@ forin-overflow_add-result t c = omega (arith, c.requires.depth, (heres.at-node c
 
 pub forin-returns-then-n-eq0 : goal.forin-returns-then-n-eq0
 unfolding visit_mut_for_in_stmt_f
-forin-returns-then-n-eq0 t c = codes.did_at (codes.low-next c.requires) (ways.modify-then (set_pat_mode as_param) (on_kids_f (split_f (λ i₁. ((walks_f c.args.d).full (suc c.args.p) i₁) >>= λ j. act (write_tree true) i₁ >> ret j) (λ n i₁. act_f (λ ts. write_forest true (but_last ts)) n i₁ >> each_but_f ((walks_f c.args.d).full (suc c.args.p)) (visit_with_child_f (walks_f c.args.d) (suc c.args.p) vLoop) n i₁)) c.args.i) c.set_pat_mode.ensures (ways.on-kids (λ q. split_f (λ i₁. ((walks_f c.args.d).full q i₁) >>= λ j. act (write_tree true) i₁ >> ret j) (λ n i₁. act_f (λ ts. write_forest true (but_last ts)) n i₁ >> each_but_f ((walks_f c.args.d).full q) (visit_with_child_f (walks_f c.args.d) q vLoop) n i₁)) (heres.here-turn c.set_pat_mode.ensures c.requires) c.arity_at-n.ensures (ways.split-none (λ i₁. ((walks_f c.args.d).full (c.args.p + 1) i₁) >>= λ j. act (write_tree true) i₁ >> ret j) (λ n i₁. act_f (λ ts. write_forest true (but_last ts)) n i₁ >> each_but_f ((walks_f c.args.d).full (c.args.p + 1)) (visit_with_child_f (walks_f c.args.d) (c.args.p + 1) vLoop) n i₁) c.arity_at-n.result (c.args.i + 1) c.if-n-eq0.true (heres.here-turn c.set_pat_mode.ensures c.requires).planted)))
+forin-returns-then-n-eq0 t c = codes.did_at (codes.low-next c.requires) (ways.modify-then (set_pat_mode as_param) (on_kids_f (split_f (λ i₁. ((walks_f c.args.d).full (suc c.args.p) i₁) >>= λ j. act (write_tree true) i₁ >> ret j) (λ n i₁. act_f (λ ts. write_forest true (but_last ts)) n i₁ >> each_but_f ((walks_f c.args.d).full (suc c.args.p)) (visit_with_child_f (walks_f c.args.d) (suc c.args.p) loop_kind) n i₁)) c.args.i) c.set_pat_mode.ensures (ways.on-kids (λ q. split_f (λ i₁. ((walks_f c.args.d).full q i₁) >>= λ j. act (write_tree true) i₁ >> ret j) (λ n i₁. act_f (λ ts. write_forest true (but_last ts)) n i₁ >> each_but_f ((walks_f c.args.d).full q) (visit_with_child_f (walks_f c.args.d) q loop_kind) n i₁)) (heres.here-turn c.set_pat_mode.ensures c.requires) c.arity_at-n.ensures (ways.split-none (λ i₁. ((walks_f c.args.d).full (c.args.p + 1) i₁) >>= λ j. act (write_tree true) i₁ >> ret j) (λ n i₁. act_f (λ ts. write_forest true (but_last ts)) n i₁ >> each_but_f ((walks_f c.args.d).full (c.args.p + 1)) (visit_with_child_f (walks_f c.args.d) (c.args.p + 1) loop_kind) n i₁) c.arity_at-n.result (c.args.i + 1) c.if-n-eq0.true (heres.here-turn c.set_pat_mode.ensures c.requires).planted)))
 
 pub forin-overflow_add-p : goal.forin-overflow_add-p
 forin-overflow_add-p t c = omega (arith, c.requires.depth, (heres.at-node c.requires).1)
@@ -37,7 +38,7 @@ forin-full-r-requires t c = (omega (arith, c.decreases), heres.here-one c.if-n-e
 
 pub forin-returns-in_default : goal.forin-returns-in_default
 unfolding visit_mut_for_in_stmt_f
-forin-returns-in_default t c = ways.modify-then (set_pat_mode as_param) (on_kids_f (split_f (λ i₁. ((walks_f c.args.d).full (suc c.args.p) i₁) >>= λ j. act (write_tree true) i₁ >> ret j) (λ n i₁. act_f (λ ts. write_forest true (but_last ts)) n i₁ >> each_but_f ((walks_f c.args.d).full (suc c.args.p)) (visit_with_child_f (walks_f c.args.d) (suc c.args.p) vLoop) n i₁)) c.args.i) c.set_pat_mode.ensures (ways.on-kids (λ q. split_f (λ i₁. ((walks_f c.args.d).full q i₁) >>= λ j. act (write_tree true) i₁ >> ret j) (λ n i₁. act_f (λ ts. write_forest true (but_last ts)) n i₁ >> each_but_f ((walks_f c.args.d).full q) (visit_with_child_f (walks_f c.args.d) q vLoop) n i₁)) (heres.here-turn c.set_pat_mode.ensures c.requires) c.arity_at-n.ensures (ways.split-stop (λ i₁. ((walks_f c.args.d).full (c.args.p + 1) i₁) >>= λ j. act (write_tree true) i₁ >> ret j) (λ n i₁. act_f (λ ts. write_forest true (but_last ts)) n i₁ >> each_but_f ((walks_f c.args.d).full (c.args.p + 1)) (visit_with_child_f (walks_f c.args.d) (c.args.p + 1) vLoop) n i₁) c.arity_at-n.result (c.args.i + 1) c.if-n-eq0.false (sym c.next.ensures.0 ∙ c.in_default.is) (laws.did-stop _ _ (sym c.next.ensures.0 ∙ c.in_default.is) c.full-r.ensures)))
+forin-returns-in_default t c = ways.modify-then (set_pat_mode as_param) (on_kids_f (split_f (λ i₁. ((walks_f c.args.d).full (suc c.args.p) i₁) >>= λ j. act (write_tree true) i₁ >> ret j) (λ n i₁. act_f (λ ts. write_forest true (but_last ts)) n i₁ >> each_but_f ((walks_f c.args.d).full (suc c.args.p)) (visit_with_child_f (walks_f c.args.d) (suc c.args.p) loop_kind) n i₁)) c.args.i) c.set_pat_mode.ensures (ways.on-kids (λ q. split_f (λ i₁. ((walks_f c.args.d).full q i₁) >>= λ j. act (write_tree true) i₁ >> ret j) (λ n i₁. act_f (λ ts. write_forest true (but_last ts)) n i₁ >> each_but_f ((walks_f c.args.d).full q) (visit_with_child_f (walks_f c.args.d) q loop_kind) n i₁)) (heres.here-turn c.set_pat_mode.ensures c.requires) c.arity_at-n.ensures (ways.split-stop (λ i₁. ((walks_f c.args.d).full (c.args.p + 1) i₁) >>= λ j. act (write_tree true) i₁ >> ret j) (λ n i₁. act_f (λ ts. write_forest true (but_last ts)) n i₁ >> each_but_f ((walks_f c.args.d).full (c.args.p + 1)) (visit_with_child_f (walks_f c.args.d) (c.args.p + 1) loop_kind) n i₁) c.arity_at-n.result (c.args.i + 1) c.if-n-eq0.false (sym c.next.ensures.0 ∙ c.in_default.is) (laws.did-stop _ _ (sym c.next.ensures.0 ∙ c.in_default.is) c.full-r.ensures)))
 
 pub forin-overflow_add-i-2 : goal.forin-overflow_add-i-2
 forin-overflow_add-i-2 t c = omega (arith, c.requires.depth, (heres.at-node c.requires).1)
@@ -47,7 +48,7 @@ forin-write_tree-e-requires t c = heres.at-skip (heres.here-still ((sims c.args.
 
 pub forin-returns-then-e-ne0 : goal.forin-returns-then-e-ne0
 unfolding visit_mut_for_in_stmt_f
-forin-returns-then-e-ne0 t c = ways.did-as (sym c.refused.ensures) (ways.modify-then (set_pat_mode as_param) (on_kids_f (split_f (λ i₁. ((walks_f c.args.d).full (suc c.args.p) i₁) >>= λ j. act (write_tree true) i₁ >> ret j) (λ n i₁. act_f (λ ts. write_forest true (but_last ts)) n i₁ >> each_but_f ((walks_f c.args.d).full (suc c.args.p)) (visit_with_child_f (walks_f c.args.d) (suc c.args.p) vLoop) n i₁)) c.args.i) c.set_pat_mode.ensures (ways.on-kids (λ q. split_f (λ i₁. ((walks_f c.args.d).full q i₁) >>= λ j. act (write_tree true) i₁ >> ret j) (λ n i₁. act_f (λ ts. write_forest true (but_last ts)) n i₁ >> each_but_f ((walks_f c.args.d).full q) (visit_with_child_f (walks_f c.args.d) q vLoop) n i₁)) (heres.here-turn c.set_pat_mode.ensures c.requires) c.arity_at-n.ensures (ways.split-stop (λ i₁. ((walks_f c.args.d).full (c.args.p + 1) i₁) >>= λ j. act (write_tree true) i₁ >> ret j) (λ n i₁. act_f (λ ts. write_forest true (but_last ts)) n i₁ >> each_but_f ((walks_f c.args.d).full (c.args.p + 1)) (visit_with_child_f (walks_f c.args.d) (c.args.p + 1) vLoop) n i₁) c.arity_at-n.result (c.args.i + 1) c.if-n-eq0.false refl (laws.did_then c.in-At.j _ (sym c.next.ensures.0 ∙ c.in-At.is) c.full-r.ensures (laws.act-stop _ c.if-e-ne0.true c.write_tree-e.ensures)))))
+forin-returns-then-e-ne0 t c = ways.did-as (sym c.refused.ensures) (ways.modify-then (set_pat_mode as_param) (on_kids_f (split_f (λ i₁. ((walks_f c.args.d).full (suc c.args.p) i₁) >>= λ j. act (write_tree true) i₁ >> ret j) (λ n i₁. act_f (λ ts. write_forest true (but_last ts)) n i₁ >> each_but_f ((walks_f c.args.d).full (suc c.args.p)) (visit_with_child_f (walks_f c.args.d) (suc c.args.p) loop_kind) n i₁)) c.args.i) c.set_pat_mode.ensures (ways.on-kids (λ q. split_f (λ i₁. ((walks_f c.args.d).full q i₁) >>= λ j. act (write_tree true) i₁ >> ret j) (λ n i₁. act_f (λ ts. write_forest true (but_last ts)) n i₁ >> each_but_f ((walks_f c.args.d).full q) (visit_with_child_f (walks_f c.args.d) q loop_kind) n i₁)) (heres.here-turn c.set_pat_mode.ensures c.requires) c.arity_at-n.ensures (ways.split-stop (λ i₁. ((walks_f c.args.d).full (c.args.p + 1) i₁) >>= λ j. act (write_tree true) i₁ >> ret j) (λ n i₁. act_f (λ ts. write_forest true (but_last ts)) n i₁ >> each_but_f ((walks_f c.args.d).full (c.args.p + 1)) (visit_with_child_f (walks_f c.args.d) (c.args.p + 1) loop_kind) n i₁) c.arity_at-n.result (c.args.i + 1) c.if-n-eq0.false refl (laws.did_then c.in-At.j _ (sym c.next.ensures.0 ∙ c.in-At.is) c.full-r.ensures (laws.act-stop _ c.if-e-ne0.true c.write_tree-e.ensures)))))
 
 pub forin-overflow_sub-n : goal.forin-overflow_sub-n
 forin-overflow_sub-n t c = omega (arith, c.if-n-eq0.false)
@@ -57,7 +58,7 @@ forin-write_but_last-g-requires t c = heres.at-trees (heres.here-tree (write_tre
 
 pub forin-returns-then-g-ne0 : goal.forin-returns-then-g-ne0
 unfolding visit_mut_for_in_stmt_f
-forin-returns-then-g-ne0 t c = ways.did-as (sym c.refused-then-g-ne0.ensures) (ways.modify-then (set_pat_mode as_param) (on_kids_f (split_f (λ i₁. ((walks_f c.args.d).full (suc c.args.p) i₁) >>= λ j. act (write_tree true) i₁ >> ret j) (λ n i₁. act_f (λ ts. write_forest true (but_last ts)) n i₁ >> each_but_f ((walks_f c.args.d).full (suc c.args.p)) (visit_with_child_f (walks_f c.args.d) (suc c.args.p) vLoop) n i₁)) c.args.i) c.set_pat_mode.ensures (ways.on-kids (λ q. split_f (λ i₁. ((walks_f c.args.d).full q i₁) >>= λ j. act (write_tree true) i₁ >> ret j) (λ n i₁. act_f (λ ts. write_forest true (but_last ts)) n i₁ >> each_but_f ((walks_f c.args.d).full q) (visit_with_child_f (walks_f c.args.d) q vLoop) n i₁)) (heres.here-turn c.set_pat_mode.ensures c.requires) c.arity_at-n.ensures (ways.split-then (λ i₁. ((walks_f c.args.d).full (c.args.p + 1) i₁) >>= λ j. act (write_tree true) i₁ >> ret j) (λ n i₁. act_f (λ ts. write_forest true (but_last ts)) n i₁ >> each_but_f ((walks_f c.args.d).full (c.args.p + 1)) (visit_with_child_f (walks_f c.args.d) (c.args.p + 1) vLoop) n i₁) c.arity_at-n.result (c.args.i + 1) c.if-n-eq0.false refl (laws.did_then c.in-At.j _ (sym c.next.ensures.0 ∙ c.in-At.is) c.full-r.ensures (ways.act-end c.in-At.j c.if-e-ne0.false c.write_tree-e.ensures)) (laws.act-stop _ c.if-g-ne0.true c.write_but_last-g.ensures))))
+forin-returns-then-g-ne0 t c = ways.did-as (sym c.refused-then-g-ne0.ensures) (ways.modify-then (set_pat_mode as_param) (on_kids_f (split_f (λ i₁. ((walks_f c.args.d).full (suc c.args.p) i₁) >>= λ j. act (write_tree true) i₁ >> ret j) (λ n i₁. act_f (λ ts. write_forest true (but_last ts)) n i₁ >> each_but_f ((walks_f c.args.d).full (suc c.args.p)) (visit_with_child_f (walks_f c.args.d) (suc c.args.p) loop_kind) n i₁)) c.args.i) c.set_pat_mode.ensures (ways.on-kids (λ q. split_f (λ i₁. ((walks_f c.args.d).full q i₁) >>= λ j. act (write_tree true) i₁ >> ret j) (λ n i₁. act_f (λ ts. write_forest true (but_last ts)) n i₁ >> each_but_f ((walks_f c.args.d).full q) (visit_with_child_f (walks_f c.args.d) q loop_kind) n i₁)) (heres.here-turn c.set_pat_mode.ensures c.requires) c.arity_at-n.ensures (ways.split-then (λ i₁. ((walks_f c.args.d).full (c.args.p + 1) i₁) >>= λ j. act (write_tree true) i₁ >> ret j) (λ n i₁. act_f (λ ts. write_forest true (but_last ts)) n i₁ >> each_but_f ((walks_f c.args.d).full (c.args.p + 1)) (visit_with_child_f (walks_f c.args.d) (c.args.p + 1) loop_kind) n i₁) c.arity_at-n.result (c.args.i + 1) c.if-n-eq0.false refl (laws.did_then c.in-At.j _ (sym c.next.ensures.0 ∙ c.in-At.is) c.full-r.ensures (ways.act-end c.in-At.j c.if-e-ne0.false c.write_tree-e.ensures)) (laws.act-stop _ c.if-g-ne0.true c.write_but_last-g.ensures))))
 
 pub forin-overflow_add-p-2 : goal.forin-overflow_add-p-2
 forin-overflow_add-p-2 t c = omega (arith, c.requires.depth, (heres.at-node c.requires).1)
@@ -70,4 +71,4 @@ forin-loops-requires t c = (omega (arith, c.decreases), heres.here-trees (λ ts.
 
 pub forin-returns : goal.forin-returns
 unfolding visit_mut_for_in_stmt_f
-forin-returns t c = ways.modify-then (set_pat_mode as_param) (on_kids_f (split_f (λ i₁. ((walks_f c.args.d).full (suc c.args.p) i₁) >>= λ j. act (write_tree true) i₁ >> ret j) (λ n i₁. act_f (λ ts. write_forest true (but_last ts)) n i₁ >> each_but_f ((walks_f c.args.d).full (suc c.args.p)) (visit_with_child_f (walks_f c.args.d) (suc c.args.p) vLoop) n i₁)) c.args.i) c.set_pat_mode.ensures (ways.on-kids (λ q. split_f (λ i₁. ((walks_f c.args.d).full q i₁) >>= λ j. act (write_tree true) i₁ >> ret j) (λ n i₁. act_f (λ ts. write_forest true (but_last ts)) n i₁ >> each_but_f ((walks_f c.args.d).full q) (visit_with_child_f (walks_f c.args.d) q vLoop) n i₁)) (heres.here-turn c.set_pat_mode.ensures c.requires) c.arity_at-n.ensures (ways.split-then (λ i₁. ((walks_f c.args.d).full (c.args.p + 1) i₁) >>= λ j. act (write_tree true) i₁ >> ret j) (λ n i₁. act_f (λ ts. write_forest true (but_last ts)) n i₁ >> each_but_f ((walks_f c.args.d).full (c.args.p + 1)) (visit_with_child_f (walks_f c.args.d) (c.args.p + 1) vLoop) n i₁) c.arity_at-n.result (c.args.i + 1) c.if-n-eq0.false refl (laws.did_then c.in-At.j _ (sym c.next.ensures.0 ∙ c.in-At.is) c.full-r.ensures (ways.act-end c.in-At.j c.if-e-ne0.false c.write_tree-e.ensures)) (laws.act-then _ c.if-g-ne0.false c.write_but_last-g.ensures c.loops.ensures)))
+forin-returns t c = ways.modify-then (set_pat_mode as_param) (on_kids_f (split_f (λ i₁. ((walks_f c.args.d).full (suc c.args.p) i₁) >>= λ j. act (write_tree true) i₁ >> ret j) (λ n i₁. act_f (λ ts. write_forest true (but_last ts)) n i₁ >> each_but_f ((walks_f c.args.d).full (suc c.args.p)) (visit_with_child_f (walks_f c.args.d) (suc c.args.p) loop_kind) n i₁)) c.args.i) c.set_pat_mode.ensures (ways.on-kids (λ q. split_f (λ i₁. ((walks_f c.args.d).full q i₁) >>= λ j. act (write_tree true) i₁ >> ret j) (λ n i₁. act_f (λ ts. write_forest true (but_last ts)) n i₁ >> each_but_f ((walks_f c.args.d).full q) (visit_with_child_f (walks_f c.args.d) q loop_kind) n i₁)) (heres.here-turn c.set_pat_mode.ensures c.requires) c.arity_at-n.ensures (ways.split-then (λ i₁. ((walks_f c.args.d).full (c.args.p + 1) i₁) >>= λ j. act (write_tree true) i₁ >> ret j) (λ n i₁. act_f (λ ts. write_forest true (but_last ts)) n i₁ >> each_but_f ((walks_f c.args.d).full (c.args.p + 1)) (visit_with_child_f (walks_f c.args.d) (c.args.p + 1) loop_kind) n i₁) c.arity_at-n.result (c.args.i + 1) c.if-n-eq0.false refl (laws.did_then c.in-At.j _ (sym c.next.ensures.0 ∙ c.in-At.is) c.full-r.ensures (ways.act-end c.in-At.j c.if-e-ne0.false c.write_tree-e.ensures)) (laws.act-then _ c.if-g-ne0.false c.write_but_last-g.ensures c.loops.ensures)))

@@ -5,6 +5,7 @@ use native.Mathlib.Omega.{arith}
 use Rattle.def_tree.specs.Combine.{and_then, on_rest, each_but_f}
 use Rattle.words_scopes.specs.State.{scope_kind_of}
 use Rattle.words.specs.Layout.{yes}
+use Rattle.def_pass.specs.Scope.{fn as fn_kind}
 use Rattle.def_pass.specs.Walk.{opening, modify, set_pat_mode, as_param}
 use Rattle.laws_flat.specs.WalkF.{walks_f, visit_mut_function_f}
 use Rattle.walk_laws.proofs.Codes as codes
@@ -32,7 +33,7 @@ func-enter-e-requires t c = c.requires.0.planted
 
 pub func-returns-then-e-ne0 : goal.func-returns-then-e-ne0
 unfolding visit_mut_function_f
-func-returns-then-e-ne0 t c = ways.did-as (sym c.refused.ensures) (ways.scope-full (vFn (yes c.args.named)) (λ st. and_then (on_rest (modify (set_pat_mode as_param)) st) (λ y. each_but_f ((walks_f c.args.d).full (suc c.args.p)) ((walks_f c.args.d).inner (suc c.args.p)) c.args.n c.args.i)) (ways.fn-enter c.args.named c.enter-e.ensures) c.if-e-ne0.true)
+func-returns-then-e-ne0 t c = ways.did-as (sym c.refused.ensures) (ways.scope-full (fn_kind (yes c.args.named)) (λ st. and_then (on_rest (modify (set_pat_mode as_param)) st) (λ y. each_but_f ((walks_f c.args.d).full (suc c.args.p)) ((walks_f c.args.d).inner (suc c.args.p)) c.args.n c.args.i)) (ways.fn-enter c.args.named c.enter-e.ensures) c.if-e-ne0.true)
 
 pub func-set_pat_mode-requires : goal.func-set_pat_mode-requires
 func-set_pat_mode-requires t c = c.enter-e.ensures.ok.planted
@@ -45,11 +46,11 @@ func-params-r-requires t c = (omega (arith, c.decreases), heres.here-turn c.set_
 
 pub func-returns-in_default : goal.func-returns-in_default
 unfolding visit_mut_function_f
-func-returns-in_default t c = ways.scope-stop (vFn (yes c.args.named)) (λ st. and_then (on_rest (modify (set_pat_mode as_param)) st) (λ y. each_but_f ((walks_f c.args.d).full (suc c.args.p)) ((walks_f c.args.d).inner (suc c.args.p)) c.args.n c.args.i)) (ways.fn-enter c.args.named c.enter-e.ensures) c.if-e-ne0.false (sym c.next.ensures.0 ∙ c.in_default.is) (ways.func-in (walks_f c.args.d) c.args.p c.args.n c.args.i c.set_pat_mode.ensures c.params-r.ensures)
+func-returns-in_default t c = ways.scope-stop (fn_kind (yes c.args.named)) (λ st. and_then (on_rest (modify (set_pat_mode as_param)) st) (λ y. each_but_f ((walks_f c.args.d).full (suc c.args.p)) ((walks_f c.args.d).inner (suc c.args.p)) c.args.n c.args.i)) (ways.fn-enter c.args.named c.enter-e.ensures) c.if-e-ne0.false (sym c.next.ensures.0 ∙ c.in_default.is) (ways.func-in (walks_f c.args.d) c.args.p c.args.n c.args.i c.set_pat_mode.ensures c.params-r.ensures)
 
 pub func-leave-requires : goal.func-leave-requires
 func-leave-requires t c = c.params-r.ensures.ok.planted
 
 pub func-returns : goal.func-returns
 unfolding visit_mut_function_f
-func-returns t c = codes.did-got c.next.ensures.1 c.in-At.is (ways.scope_then (vFn (yes c.args.named)) (λ st. and_then (on_rest (modify (set_pat_mode as_param)) st) (λ y. each_but_f ((walks_f c.args.d).full (suc c.args.p)) ((walks_f c.args.d).inner (suc c.args.p)) c.args.n c.args.i)) (ways.fn-enter c.args.named c.enter-e.ensures) c.if-e-ne0.false (sym c.next.ensures.0 ∙ c.in-At.is) (ways.func-in (walks_f c.args.d) c.args.p c.args.n c.args.i c.set_pat_mode.ensures c.params-r.ensures) c.leave.ensures)
+func-returns t c = codes.did-got c.next.ensures.1 c.in-At.is (ways.scope_then (fn_kind (yes c.args.named)) (λ st. and_then (on_rest (modify (set_pat_mode as_param)) st) (λ y. each_but_f ((walks_f c.args.d).full (suc c.args.p)) ((walks_f c.args.d).inner (suc c.args.p)) c.args.n c.args.i)) (ways.fn-enter c.args.named c.enter-e.ensures) c.if-e-ne0.false (sym c.next.ensures.0 ∙ c.in-At.is) (ways.func-in (walks_f c.args.d) c.args.p c.args.n c.args.i c.set_pat_mode.ensures c.params-r.ensures) c.leave.ensures)

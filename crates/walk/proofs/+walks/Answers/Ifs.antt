@@ -3,6 +3,7 @@ use Prim.Native.Nat.{◌+◌, ◌-◌}
 use mathlib.Core.Path.{refl, sym, ◌∙◌}
 use native.Mathlib.Omega.{arith}
 use Rattle.def_tree.specs.Combine.{many, split_f}
+use Rattle.def_pass.specs.Scope.{cond as cond_kind}
 use Rattle.laws_flat.specs.WalkF.{walks_f, visit_with_child_f, tested_f, visit_mut_if_stmt_f}
 use Rattle.laws_flat.proofs.Sim.{sims}
 use Rattle.walk_laws.proofs.Codes as codes
@@ -18,7 +19,7 @@ ifs-overflow_add-result t c = omega (arith, c.requires.depth, (heres.at-node c.r
 
 pub ifs-returns-then-n-eq0 : goal.ifs-returns-then-n-eq0
 unfolding visit_mut_if_stmt_f
-ifs-returns-then-n-eq0 t c = codes.did_at (codes.low-next c.requires) (ways.on-kids (λ q. split_f (tested_f (walks_f c.args.d) q) (many (visit_with_child_f (walks_f c.args.d) q vCond))) c.requires c.arity_at-n.ensures (ways.split-none (tested_f (walks_f c.args.d) (c.args.p + 1)) (many (visit_with_child_f (walks_f c.args.d) (c.args.p + 1) vCond)) c.arity_at-n.result (c.args.i + 1) c.if-n-eq0.true c.requires.planted))
+ifs-returns-then-n-eq0 t c = codes.did_at (codes.low-next c.requires) (ways.on-kids (λ q. split_f (tested_f (walks_f c.args.d) q) (many (visit_with_child_f (walks_f c.args.d) q cond_kind))) c.requires c.arity_at-n.ensures (ways.split-none (tested_f (walks_f c.args.d) (c.args.p + 1)) (many (visit_with_child_f (walks_f c.args.d) (c.args.p + 1) cond_kind)) c.arity_at-n.result (c.args.i + 1) c.if-n-eq0.true c.requires.planted))
 
 pub ifs-bounds-w-10 : goal.ifs-bounds-w-10
 ifs-bounds-w-10 t c = omega (arith, c.requires.planted.good.long)
@@ -37,7 +38,7 @@ ifs-full-r-requires t c = (omega (arith, c.decreases), heres.here-one c.if-n-eq0
 
 pub ifs-returns-in_default : goal.ifs-returns-in_default
 unfolding visit_mut_if_stmt_f tested_f
-ifs-returns-in_default t c = ways.on-kids (λ q. split_f (tested_f (walks_f c.args.d) q) (many (visit_with_child_f (walks_f c.args.d) q vCond))) c.requires c.arity_at-n.ensures (ways.split-stop (tested_f (walks_f c.args.d) (c.args.p + 1)) (many (visit_with_child_f (walks_f c.args.d) (c.args.p + 1) vCond)) c.arity_at-n.result (c.args.i + 1) c.if-n-eq0.false (sym c.next.ensures.0 ∙ c.in_default.is) (ways.test-stop ((walks_f c.args.d).full (c.args.p + 1) (c.args.i + 1)) c.set_in_test.ensures (sym c.next.ensures.0 ∙ c.in_default.is) c.full-r.ensures))
+ifs-returns-in_default t c = ways.on-kids (λ q. split_f (tested_f (walks_f c.args.d) q) (many (visit_with_child_f (walks_f c.args.d) q cond_kind))) c.requires c.arity_at-n.ensures (ways.split-stop (tested_f (walks_f c.args.d) (c.args.p + 1)) (many (visit_with_child_f (walks_f c.args.d) (c.args.p + 1) cond_kind)) c.arity_at-n.result (c.args.i + 1) c.if-n-eq0.false (sym c.next.ensures.0 ∙ c.in_default.is) (ways.test-stop ((walks_f c.args.d).full (c.args.p + 1) (c.args.i + 1)) c.set_in_test.ensures (sym c.next.ensures.0 ∙ c.in_default.is) c.full-r.ensures))
 
 pub ifs-set_in_test-requires-2 : goal.ifs-set_in_test-requires-2
 ifs-set_in_test-requires-2 t c = c.full-r.ensures.ok.planted
@@ -53,4 +54,4 @@ ifs-arms-requires t c = (omega (arith, c.decreases), heres.here-turn c.set_in_te
 
 pub ifs-returns : goal.ifs-returns
 unfolding visit_mut_if_stmt_f tested_f
-ifs-returns t c = ways.on-kids (λ q. split_f (tested_f (walks_f c.args.d) q) (many (visit_with_child_f (walks_f c.args.d) q vCond))) c.requires c.arity_at-n.ensures (ways.split-then (tested_f (walks_f c.args.d) (c.args.p + 1)) (many (visit_with_child_f (walks_f c.args.d) (c.args.p + 1) vCond)) c.arity_at-n.result (c.args.i + 1) c.if-n-eq0.false refl (ways.test-then ((walks_f c.args.d).full (c.args.p + 1) (c.args.i + 1)) c.set_in_test.ensures (sym c.next.ensures.0 ∙ c.in-At.is) c.full-r.ensures c.set_in_test-2.ensures) c.arms.ensures)
+ifs-returns t c = ways.on-kids (λ q. split_f (tested_f (walks_f c.args.d) q) (many (visit_with_child_f (walks_f c.args.d) q cond_kind))) c.requires c.arity_at-n.ensures (ways.split-then (tested_f (walks_f c.args.d) (c.args.p + 1)) (many (visit_with_child_f (walks_f c.args.d) (c.args.p + 1) cond_kind)) c.arity_at-n.result (c.args.i + 1) c.if-n-eq0.false refl (ways.test-then ((walks_f c.args.d).full (c.args.p + 1) (c.args.i + 1)) c.set_in_test.ensures (sym c.next.ensures.0 ∙ c.in-At.is) c.full-r.ensures c.set_in_test-2.ensures) c.arms.ensures)

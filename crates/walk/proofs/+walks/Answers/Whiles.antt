@@ -5,6 +5,7 @@ use mathlib.Core.Bool.{true, false}
 use native.Mathlib.Omega.{arith}
 use Rattle.def_tree.specs.Combine.{each_but_f, on_kids_f}
 use Rattle.def_pass.specs.Tree.{kids}
+use Rattle.def_pass.specs.Scope.{loop as loop_kind}
 use Rattle.def_pass.specs.Walk.{write_forest, but_last}
 use Rattle.laws_flat.specs.WalkF.{walks_f, visit_with_child_f, visit_mut_while_stmt_f}
 use Rattle.walk_laws.proofs.Laws as laws
@@ -17,7 +18,7 @@ whiles-write_kids_but_last-e-requires t c = heres.at-skip c.requires
 
 pub whiles-returns-then-e-ne0 : goal.whiles-returns-then-e-ne0
 unfolding visit_mut_while_stmt_f
-whiles-returns-then-e-ne0 t c = ways.did-as (sym c.refused.ensures) (laws.act-stop (λ x. on_kids_f (each_but_f ((walks_f c.args.d).full (suc c.args.p)) (visit_with_child_f (walks_f c.args.d) (suc c.args.p) vLoop)) c.args.i) c.if-e-ne0.true c.write_kids_but_last-e.ensures)
+whiles-returns-then-e-ne0 t c = ways.did-as (sym c.refused.ensures) (laws.act-stop (λ x. on_kids_f (each_but_f ((walks_f c.args.d).full (suc c.args.p)) (visit_with_child_f (walks_f c.args.d) (suc c.args.p) loop_kind)) c.args.i) c.if-e-ne0.true c.write_kids_but_last-e.ensures)
 
 pub whiles-arity_at-n-requires : goal.whiles-arity_at-n-requires
 whiles-arity_at-n-requires t c = heres.at-node (heres.here-tree (λ t. write_forest true (but_last (kids t))) c.args.i c.if-e-ne0.false c.write_kids_but_last-e.ensures c.requires)
@@ -33,4 +34,4 @@ whiles-loops-requires t c = (omega (arith, c.decreases), heres.here-kids (heres.
 
 pub whiles-returns : goal.whiles-returns
 unfolding visit_mut_while_stmt_f
-whiles-returns t c = laws.act-then (λ x. on_kids_f (each_but_f ((walks_f c.args.d).full (suc c.args.p)) (visit_with_child_f (walks_f c.args.d) (suc c.args.p) vLoop)) c.args.i) c.if-e-ne0.false c.write_kids_but_last-e.ensures (ways.on-kids (λ q. each_but_f ((walks_f c.args.d).full q) (visit_with_child_f (walks_f c.args.d) q vLoop)) (heres.here-tree (λ t. write_forest true (but_last (kids t))) c.args.i c.if-e-ne0.false c.write_kids_but_last-e.ensures c.requires) c.arity_at-n.ensures c.loops.ensures)
+whiles-returns t c = laws.act-then (λ x. on_kids_f (each_but_f ((walks_f c.args.d).full (suc c.args.p)) (visit_with_child_f (walks_f c.args.d) (suc c.args.p) loop_kind)) c.args.i) c.if-e-ne0.false c.write_kids_but_last-e.ensures (ways.on-kids (λ q. each_but_f ((walks_f c.args.d).full q) (visit_with_child_f (walks_f c.args.d) q loop_kind)) (heres.here-tree (λ t. write_forest true (but_last (kids t))) c.args.i c.if-e-ne0.false c.write_kids_but_last-e.ensures c.requires) c.arity_at-n.ensures c.loops.ensures)
