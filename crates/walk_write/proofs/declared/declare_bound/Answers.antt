@@ -19,7 +19,7 @@ pub declare-s-requires : goal.declare-s-requires
 declare-s-requires c = c.turn.ensures.planted
 
 pub turn-requires-2 : goal.turn-requires-2
-turn-requires-2 c = bound-needs c.requires.0 c.args.i c.requires.1 c.requires.2 c.form_at-f.ensures c.unflagged-g.ensures c.turn.ensures c.declare-s.new.0 c.ident_at-x.result (type_of c.args.kind) c.declare-s.result c.ident_at-x.ensures (rw (sym (init-in c.turn.new.0 c.args.i Recorded (turned-in c.requires.0 c.args.i c.requires.1 c.requires.2 c.form_at-f.ensures c.unflagged-g.ensures c.turn.ensures))) at c.declare-s.ensures) (omega (arith, c.form_at-f.ensures))
+turn-requires-2 c = bound-needs c.requires.0 c.args.i c.requires.1 c.requires.2 c.form_at-f.ensures c.unflagged-g.ensures c.turn.ensures c.declare-s.new.w c.ident_at-x.result (type_of c.args.kind) c.declare-s.result c.ident_at-x.ensures (rw (sym (init-in c.turn.new.w c.args.i Recorded (turned-in c.requires.0 c.args.i c.requires.1 c.requires.2 c.form_at-f.ensures c.unflagged-g.ensures c.turn.ensures))) at c.declare-s.ensures) (omega (arith, c.form_at-f.ensures))
 
 pub returns : goal.returns
-returns c = rw c.number.ensures (bound-act c.requires.0 c.args.i c.requires.1 c.requires.2 c.form_at-f.ensures c.unflagged-g.ensures c.turn.ensures c.declare-s.new.0 c.ident_at-x.result (type_of c.args.kind) c.declare-s.result c.ident_at-x.ensures (rw (sym (init-in c.turn.new.0 c.args.i Recorded (turned-in c.requires.0 c.args.i c.requires.1 c.requires.2 c.form_at-f.ensures c.unflagged-g.ensures c.turn.ensures))) at c.declare-s.ensures) c.turn-2.ensures)
+returns c = rw c.number.ensures (bound-act c.requires.0 c.args.i c.requires.1 c.requires.2 c.form_at-f.ensures c.unflagged-g.ensures c.turn.ensures c.declare-s.new.w c.ident_at-x.result (type_of c.args.kind) c.declare-s.result c.ident_at-x.ensures (rw (sym (init-in c.turn.new.w c.args.i Recorded (turned-in c.requires.0 c.args.i c.requires.1 c.requires.2 c.form_at-f.ensures c.unflagged-g.ensures c.turn.ensures))) at c.declare-s.ensures) c.turn-2.ensures)
