@@ -1,4 +1,4 @@
-//! Links the static library: from the folder that `NEGBOSUN_LIB` names, or else as `rt staticlib pass` writes it in the repository, libpass.a,
+//! Links the static library: from the folder that `NEGBOSUN_LIB` names, or else as `tools/build pass` writes it in the repository, libpass.a,
 //! or as the Debian package installs it beside this crate, libnegbosun.a.
 
 use std::env;
@@ -35,7 +35,7 @@ fn main() {
     }
     let Some((folder, name)) = found else {
         eprintln!(
-            "The static library of the pass is not there. Run `rt staticlib pass` in the repository, which proves and writes \
+            "The static library of the pass is not there. Run `tools/build pass` in the repository, which proves and writes \
              target/staticlib/libpass.a, or set NEGBOSUN_LIB to the folder that holds libpass.a or libnegbosun.a."
         );
         std::process::exit(1);

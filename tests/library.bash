@@ -1,12 +1,17 @@
-# The static library and the program for the test scripts here, sourced behind counts.bash; built where they are absent or older than the proved pass.
+# The archives and programs for the test scripts here, sourced behind counts.bash; built where they are absent or older than what was proved.
 library=target/staticlib/libpass.a
 
-need_library() {
-    if [ ! -e "$library" ] || [ target/rlib/pass.rlib -nt "$library" ]; then
-        one "static library" rt staticlib pass
+# need WHAT FILE PROVED: what tools/build makes, and what it is made of.
+need() {
+    if [ ! -e "$2" ] || [ "$3" -nt "$2" ]; then
+        one "$1, built" tools/build "$1"
     fi
 }
 
+need_library() {
+    need pass "$library" crates/pass/out/rlib/pass.rlib/format
+}
+
 need_program() {
-    [ -x target/bin/negbosun ] || one "program" rt check negbosun
+    need negbosun target/bin/negbosun crates/negbosun/out/negbosun
 }

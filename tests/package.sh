@@ -36,7 +36,7 @@ says_what_to_run() {
         echo "made a package of nothing"
         return 1
     fi
-    grep "rt staticlib pass" <<<"$said" && grep "rt check negbosun" <<<"$said" && [ ! -e "$bare/target" ]
+    grep "tools/build pass" <<<"$said" && grep "tools/build negbosun" <<<"$said" && [ ! -e "$bare/target" ]
 }
 
 older_library_is_told() {

@@ -14,24 +14,28 @@ needed() {
         END { visit(ENVIRON["NAME"]); for (n in seen) count++; print count + 0 }' crates.txt
 }
 
-# counted TOTAL: the lines of rt as they come; a crate's line has its number before it.
+# counted TOTAL: the lines of rt as they come; a proved crate's line has its number before it. What an earlier run proved has no line.
 counted() {
-    local total=$1 done=0 line
+    local total=$1 done=0 line name=
     while IFS= read -r line; do
         case $line in
-        "rt: "*" proved ("*)
-            done=$((done + 1))
-            line=${line#rt: }
-            printf '%3d of %d  %s\n' "$done" "$total" "$line"
+        "crate "*": modules loaded="*)
+            name=${line#crate }
+            name=${name%%:*}
             ;;
-        logic=*) ;; # the prover's own line for each crate
+        "logic=proved"*)
+            done=$((done + 1))
+            printf '%3d of at most %d  %s proved\n' "$done" "$total" "$name"
+            ;;
+        "fn "*": proved" | "struct "*": proved" | "enum "*": proved" | "trait "*": proved" | "impl "*": proved" | "const "*": proved") ;;
+        "logic /"* | statements* | checked* | axioms* | library* | linked*) ;; # the prover's own lines for each crate
         *) printf '%s\n' "$line" ;;
         esac
     done
 }
 
-# proved NAME: proves a crate and what it depends on, and shows how far it is.
+# proved NAME: proves and builds a program and what it depends on (tools/build), and shows how far it is.
 proved() {
-    rt check "$1" 2>&1 | counted "$(needed "$1")" >&2
+    tools/build "$1" 2>&1 | counted "$(needed "$1")" >&2
     return "${PIPESTATUS[0]}"
 }

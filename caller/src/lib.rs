@@ -40,7 +40,7 @@
 //!
 //! # Building
 //!
-//! `rt staticlib pass` in the repository proves the pass and writes target/staticlib/libpass.a (x86-64). The build of this crate
+//! `tools/build pass` in the repository proves the pass and writes target/staticlib/libpass.a (x86-64). The build of this crate
 //! links it from there; an installed copy of the crate links the installed libnegbosun.a. The environment variable `NEGBOSUN_LIB` may
 //! name another folder that holds one of the two.
 

@@ -26,7 +26,7 @@ const tooLong = (seconds) => trouble(null, `the pass did not end within ${second
 function portOutput(bytes, { port, runs, seconds = SECONDS }) {
   const command = portPath(port, runs);
   if (!fs.existsSync(command)) {
-    const words = `no port at ${command}; build it by rt check negbosun, or name one by --port or NEGBOSUN_PORT`;
+    const words = `no port at ${command}; build it by tools/build negbosun, or name one by --port or NEGBOSUN_PORT`;
     throw Object.assign(new PortTrouble(words), { isAbsent: true });
   }
   const list = runs === undefined ? [] : ['--runs', String(runs)];
