@@ -15,7 +15,7 @@ use Rattle.def_pass.specs.Scope as def
 use Rattle.def_pass.specs.Scope.{VarInfo, Scope, Stack, VarType, find_in, idx_val_o, find_binding_from_current, alias_from, place_or, declare, kept, init_of, ident_of, prevented_o, should_prevent_inline_because_of_scope, in_loop, is_param, param_o, is_inline_prevented}
 use Rattle.words.specs.Layout.{tree, run, node_of}
 use Rattle.words.proofs.Nodes.{run_length}
-use Rattle.words_scopes.specs.State.{Good, stack, index_in, bind_at, binds, var_type_of, value_of, run_of}
+use Rattle.words_scopes.specs.State.{Good, stack, index_in, bind_at, binds, value_of, run_of}
 use Rattle.words_scopes.proofs.Split as laws
 use Rattle.scope_values.proofs.Count.{length-binds}
 use Rattle.scope_values.proofs.Listed.{stack-none}

@@ -1,5 +1,5 @@
 -- What a declaration looks up of its init, and of the current scope. Assumes nothing: these are definitions.
-use Rattle.std.specs.Prelude.{List, [], ◌∷◌, Bool, true, false, ◌&&◌, not, ℕ, ◌<◌, length}
+use Rattle.std.specs.Prelude.{[], ◌∷◌, Bool, true, false, ◌&&◌, not, ℕ, ◌<◌, length}
 use Rattle.std.proofs.Math.Option.{Option}
 use Rattle.def_tree.specs.Tree.{Tree}
 use Rattle.def_pass.specs.Scope as def

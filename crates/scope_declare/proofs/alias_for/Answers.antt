@@ -6,7 +6,6 @@ use Rattle.scope_declare.proofs.Init as init
 use Rattle.words_scopes.specs.State.{stack}
 use Rattle.scope_find.specs.Look.{at_place}
 use Rattle.scope_find.proofs.Facts.{at-is}
-use borrow.Author.Rules.{rules}
 use Rattle.scope_declare.proofs.alias_for.Goals as goal
 
 pub returns-then-r-eq0 : goal.returns-then-r-eq0

@@ -3,7 +3,6 @@ use mathlib.Core.Path.{sym, ap, ◌∙◌}
 use mathlib.Core.Bool.{Bool, ◌&&◌}
 use Rattle.words_scopes.specs.State.{stack}
 use Rattle.scope_declare.specs.Inits.{barred_here}
-use borrow.Author.Rules.{rules}
 use Rattle.scope_declare.proofs.barred_for.Goals as goal
 
 pub returns-then-works_with : goal.returns-then-works_with

@@ -10,7 +10,6 @@ use Rattle.words_scopes.specs.State.{stack}
 use Rattle.def_pass.specs.Scope.{VarInfo, barred, between}
 use Rattle.scope_find.specs.Look.{bars_here}
 use Rattle.scope_declare.specs.Inits.{place_here}
-use borrow.Author.Rules.{rules}
 use Rattle.scope_declare.proofs.barred_here.Goals as goal
 
 pub returns-then-v-eq0 : goal.returns-then-v-eq0

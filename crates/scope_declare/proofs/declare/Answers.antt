@@ -4,7 +4,6 @@ use lib.ListN.{get_or}
 use Rattle.scope_declare.proofs.Init as init
 use Rattle.words.specs.Layout.{tree}
 use Rattle.words_nodes.specs.Nodes.{tree_from}
-use borrow.Author.Rules.{rules}
 use Rattle.scope_declare.proofs.declare.Goals as goal
 
 pub returns-then-no_value : goal.returns-then-no_value

@@ -5,7 +5,6 @@ use native.Mathlib.Omega.{arith}
 use Rattle.scope_declare.proofs.Init as init
 use Rattle.words_scopes.specs.State.{stack}
 use Rattle.scope_define.specs.Kinds.{type_of}
-use borrow.Author.Rules.{rules}
 use Rattle.scope_declare.proofs.declare_bare.Goals as goal
 
 pub declare_with-requires : goal.declare_with-requires

@@ -11,7 +11,6 @@ use Rattle.def_tree.specs.Tree.{kind, count}
 use Rattle.scope_define.specs.Kinds.{type_of, alias_of}
 use Rattle.words_nodes.proofs.Splice.{subtree-one}
 use mathlib.Core.Logic.{inr}
-use borrow.Author.Rules.{rules}
 use Rattle.scope_declare.proofs.declare_ident.Goals as goal
 
 pub ident_at-y-requires : goal.ident_at-y-requires

@@ -9,7 +9,6 @@ use Rattle.words_nodes.specs.Nodes.{tree_from}
 use Rattle.def_tree.specs.Tree.{count}
 use Rattle.scope_define.specs.Kinds.{type_of}
 use Rattle.words_nodes.proofs.Splice.{subtree-one}
-use borrow.Author.Rules.{rules}
 use Rattle.scope_declare.proofs.declare_value.Goals as goal
 
 pub declare_with-requires : goal.declare_with-requires

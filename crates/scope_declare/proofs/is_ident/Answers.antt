@@ -3,7 +3,6 @@ use mathlib.Core.Path.{sym, ap, ◌∙◌}
 use Prim.Native.Nat.{ℕ}
 use lib.Dec.{eqb}
 use Rattle.scope_declare.proofs.Init as init
-use borrow.Author.Rules.{rules}
 use Rattle.scope_declare.proofs.is_ident.Goals as goal
 
 pub returns : goal.returns

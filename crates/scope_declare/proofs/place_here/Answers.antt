@@ -10,7 +10,6 @@ use Rattle.def_pass.specs.Scope.{place_or}
 use Rattle.scope_values.proofs.Listed.{stack-none}
 use Rattle.scope_redeclare.proofs.Top.{top-fits}
 use Rattle.scope_declare.specs.Inits.{place_here, count_here}
-use borrow.Author.Rules.{rules}
 use Rattle.scope_declare.proofs.place_here.Goals as goal
 
 pub returns-then-r-gt0 : goal.returns-then-r-gt0

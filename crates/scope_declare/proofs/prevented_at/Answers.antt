@@ -7,7 +7,6 @@ use Rattle.words.specs.Layout.{tree}
 use Rattle.words_nodes.specs.Nodes.{tree_from}
 use Rattle.def_tree.specs.Tree.{Tree}
 use Rattle.def_pass.specs.Scope.{is_inline_prevented}
-use borrow.Author.Rules.{rules}
 use Rattle.scope_declare.proofs.prevented_at.Goals as goal
 
 pub returns-then-should_prevent_inline_because_of_scope : goal.returns-then-should_prevent_inline_because_of_scope

@@ -1,7 +1,6 @@
 -- The words 0, 1 and 2 are told apart, and the rest is `const`. Assumes nothing.
 use mathlib.Core.Path.{sym}
 use Rattle.scope_declare.proofs.Codes as codes
-use borrow.Author.Rules.{rules}
 use Rattle.scope_declare.proofs.type_of.Goals as goal
 
 pub returns : goal.returns

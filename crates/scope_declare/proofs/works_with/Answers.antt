@@ -6,7 +6,6 @@ use Rattle.def_pass.specs.Scope.{is_param, param_o}
 use Rattle.scope_define.specs.Kinds.{type_of, alias_of}
 use Rattle.scope_define.specs.declared.Alias.{Alias}
 use Rattle.scope_define.specs.declared.VarType.{VarType}
-use borrow.Author.Rules.{rules}
 use Rattle.scope_declare.proofs.works_with.Goals as goal
 
 pub returns-in-NoAlias : goal.returns-in-NoAlias
