@@ -1,7 +1,7 @@
 -- `=` in Inlining by the words: its parts, its test, and the first value recorded. Assumes nothing.
 use Rattle.std.proofs.Common.{◌≡◌, ℕ, zero, suc, ◌+◌, ◌<◌, ◌≤◌, Bool, true, false, not, ◌&&◌, List, length, get_or, drop, sym, refl, ap, ◌∙◌, add-one, arith, drop-cons, eq-eqb, ne_eqb}
 use mathlib.Core.Option.{Option, none, some}
-use Rattle.def_tree.specs.Tree.{Tree, Forest, node, nil, cons, kind, num, kids, tail_f, Core, no_core, count, take_f, plant}
+use Rattle.def_tree.specs.Tree.{Tree, Forest, nil, cons, kind, num, kids, tail_f, Core, no_core, count, take_f, plant}
 use Rattle.def_tree.specs.Combine.{Res, stop, done, Nothing, and_then, iff, Flat, tree_at, skip, carry}
 use Rattle.def_tree.proofs.Whole as whole
 use Rattle.def_tree.proofs.Place.{append_f}

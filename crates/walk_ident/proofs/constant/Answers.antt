@@ -1,4 +1,4 @@
-use Rattle.std.proofs.Common.{sym, ap, ◌∙◌, inr, arith, rules}
+use Rattle.std.proofs.Common.{sym, ap, ◌∙◌, inr, arith}
 use Rattle.def_pass.specs.Tree.{count_o}
 use Rattle.walk_ident.proofs.Fates as fates
 use Rattle.walk_ident.proofs.constant.Goals as goal

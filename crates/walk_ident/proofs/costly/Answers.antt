@@ -1,4 +1,4 @@
-use Rattle.std.proofs.Common.{◌≡◌, ◌-◌, get_or, sym, refl, ap, ◌∙◌, rules}
+use Rattle.std.proofs.Common.{◌≡◌, ◌-◌, get_or, sym, refl, ap, ◌∙◌}
 use mathlib.Core.Option.{Option, none, some}
 use Rattle.def_pass.specs.Scope.{VarInfo, find_binding, value_o}
 use Rattle.words_scopes.specs.State.{stack}

@@ -1,5 +1,5 @@
 -- Marked and counted, or as it was. Assumes nothing.
-use Rattle.std.proofs.Common.{refl, ◌∙◌, rules}
+use Rattle.std.proofs.Common.{refl, ◌∙◌}
 use Rattle.words_nodes.proofs.Apart.{becomes-planted}
 use Rattle.walk_ident.proofs.Laws as laws
 use Rattle.walk_ident.proofs.counted.Goals as goal

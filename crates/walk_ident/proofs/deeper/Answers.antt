@@ -1,5 +1,5 @@
 -- Refused before the words change, or counted. Assumes nothing.
-use Rattle.std.proofs.Common.{arith, rules}
+use Rattle.std.proofs.Common.{arith}
 use Rattle.walk_ident.proofs.Laws as laws
 use Rattle.walk_ident.proofs.Scopes as scopes
 use Rattle.words_state.proofs.Fields.{ok-self}

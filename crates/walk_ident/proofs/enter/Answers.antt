@@ -1,4 +1,4 @@
-use Rattle.std.proofs.Common.{◌≡◌, sym, refl, ap, ◌∙◌, arith, rules}
+use Rattle.std.proofs.Common.{sym, ap, ◌∙◌, arith}
 use Rattle.def_tree.specs.Combine.{stop}
 use Rattle.def_pass.specs.Scope.{v_var}
 use Rattle.def_pass.specs.Walk.{set_var_decl_kind}

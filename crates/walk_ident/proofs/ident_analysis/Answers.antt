@@ -1,5 +1,5 @@
 -- Two changes of the scopes in a row. Assumes nothing.
-use Rattle.std.proofs.Common.{◌∙◌, inr, arith, rules}
+use Rattle.std.proofs.Common.{◌∙◌, inr, arith}
 use Rattle.walk_ident.proofs.Idents as idents
 use Rattle.walk_ident.proofs.ident_analysis.Goals as goal
 

@@ -1,4 +1,4 @@
-use Rattle.std.proofs.Common.{ℕ, ◌+◌, refl, ap, ◌∙◌, inr, arith, rules}
+use Rattle.std.proofs.Common.{ℕ, ◌+◌, refl, ap, ◌∙◌, inr, arith}
 use Rattle.walk_ident.proofs.Laws as laws
 use Rattle.walk_ident.proofs.Fates as fates
 use Rattle.scope_var_info.proofs.Numbers as numbers

@@ -1,5 +1,5 @@
 -- The replacement, with no mark. Assumes nothing.
-use Rattle.std.proofs.Common.{refl, arith, rules}
+use Rattle.std.proofs.Common.{refl, arith}
 use Rattle.walk_ident.proofs.Laws as laws
 use Rattle.def_pass.specs.Tree.{void_zero}
 use Rattle.walk_ident.specs.Steps.{quiet}

@@ -1,4 +1,4 @@
-use Rattle.std.proofs.Common.{ℕ, ◌+◌, not, sym, ap, ◌∙◌, inr, arith, rules}
+use Rattle.std.proofs.Common.{ℕ, ◌+◌, not, sym, ap, ◌∙◌, inr, arith}
 use Rattle.walk_ident.proofs.Laws as laws
 use Rattle.scope_var_info.proofs.Numbers as numbers
 use Rattle.scope_var_info.specs.Handles.{numbered}

@@ -1,5 +1,5 @@
 -- Marked, or as it was. Assumes nothing.
-use Rattle.std.proofs.Common.{refl, rules}
+use Rattle.std.proofs.Common.{refl}
 use Rattle.walk_ident.proofs.Laws as laws
 use Rattle.walk_ident.proofs.landed.Goals as goal
 

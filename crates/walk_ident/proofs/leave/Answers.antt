@@ -1,5 +1,5 @@
 -- Closed, and five fields stored. Assumes nothing.
-use Rattle.std.proofs.Common.{get_or, ◌∙◌, arith, rules}
+use Rattle.std.proofs.Common.{get_or, ◌∙◌, arith}
 use Rattle.def_pass.specs.Scope.{ending}
 use Rattle.walk_ident.proofs.Laws as laws
 use Rattle.walk_ident.proofs.Scopes as scopes

@@ -1,5 +1,5 @@
 -- The second child in the place of its parent. Assumes nothing.
-use Rattle.std.proofs.Common.{◌≡◌, ℕ, ◌+◌, ◌-◌, refl, ap, arith, rules}
+use Rattle.std.proofs.Common.{◌≡◌, ℕ, ◌+◌, ◌-◌, refl, ap, arith}
 use Rattle.walk_ident.proofs.Laws as laws
 use Rattle.words_nodes.proofs.Splice.{outer-in, inner-in}
 use Rattle.def_tree.specs.Tree.{Tree, count}

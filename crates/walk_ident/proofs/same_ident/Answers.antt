@@ -1,4 +1,4 @@
-use Rattle.std.proofs.Common.{inr, arith, rules}
+use Rattle.std.proofs.Common.{inr, arith}
 use Rattle.def_pass.specs.Scope.{value_o}
 use Rattle.words_scopes.specs.State.{stack}
 use Rattle.scope_var_info.specs.Handles.{numbered}

@@ -1,5 +1,5 @@
 -- By the word of the test, and whether the value is costly. Assumes nothing.
-use Rattle.std.proofs.Common.{get_or, sym, ◌∙◌, rules}
+use Rattle.std.proofs.Common.{get_or, sym, ◌∙◌}
 use Rattle.walk_ident.proofs.Idents as idents
 use Rattle.words_scopes.specs.State.{stack}
 use Rattle.scope_values.proofs.Listed as listed

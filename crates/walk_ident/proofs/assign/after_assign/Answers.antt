@@ -1,5 +1,5 @@
 -- By the parts of the node and its test. Assumes nothing.
-use Rattle.std.proofs.Common.{◌-◌, ◌<◌, sym, ◌∙◌, inl, arith, rules}
+use Rattle.std.proofs.Common.{◌<◌, sym, ◌∙◌, inl, arith}
 use Rattle.walk_ident.proofs.Assigns as assigns
 use Rattle.words.specs.Layout.{node_of}
 use Rattle.walk_ident.proofs.assign.after_assign.Goals as goal

@@ -1,4 +1,4 @@
-use Rattle.std.proofs.Common.{◌≡◌, List, sym, refl, ap, ◌∙◌, rules}
+use Rattle.std.proofs.Common.{◌≡◌, List, ap}
 use mathlib.Core.Option.{some}
 use Rattle.def_tree.specs.Tree.{Tree, Core}
 use Rattle.words.specs.Layout.{tree}

@@ -1,4 +1,4 @@
-use Rattle.std.proofs.Common.{◌≡◌, not, sym, refl, ap, ◌∙◌, rules}
+use Rattle.std.proofs.Common.{not, sym, refl, ap, ◌∙◌}
 use mathlib.Core.Option.{Option}
 use Rattle.def_tree.specs.Tree.{Tree}
 use Rattle.def_pass.specs.Scope.{VarInfo, is_inline_prevented, prevented_o}
