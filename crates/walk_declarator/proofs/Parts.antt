@@ -15,15 +15,13 @@ use Rattle.def_tree.specs.Combine.{Res, stop, done, Nothing, and_then, ret, iff,
 use Rattle.def_pass.specs.Tree.{is_ident, is_cheap, has_this, head_t, tail_f}
 use Rattle.def_pass.specs.Scope as def
 use Rattle.def_pass.specs.Scope.{VarInfo, Stack, VarType, is_var, is_const, declare, add_const, is_inline_prevented, prevent_inline, find_binding, mark_of, has_same_this}
-use Rattle.def_pass.specs.Walk.{St, M, when, mark, grow, declare_m, declr_analysis, over_m, stays, takes, no_value, read_once?}
-use Rattle.words.specs.Layout.{yes, tree}
+use Rattle.def_pass.specs.Walk.{St, M, when, mark, grow, declare_m, declr_analysis, over_m, stays, takes, read_once?}
+use Rattle.words.specs.Layout.{tree}
 use Rattle.words.proofs.Nodes.{tree-length}
-use Rattle.words_scopes.specs.State.{var_type_of}
 use Rattle.words_nodes.specs.Nodes.{Planted, tree_from, forest_from}
 use Rattle.words_nodes.proofs.Trees.{trees-le, plant-behind}
 use Rattle.words_nodes.proofs.Words.{tree-whole}
 use Rattle.scope_find.specs.Look.{reads_o}
-use Rattle.words_state.specs.State.{rest}
 use Rattle.walk_declarator.specs.Steps.{named, over_none, over_const, over_cheap, over_other, wants, take_ident, take_value, take_or_mark, take_init}
 pub use Rattle.scope.proofs.Undefined.{rest-kind, rest-inlining, rest-first}
 

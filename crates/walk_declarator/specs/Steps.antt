@@ -1,15 +1,13 @@
 -- What the steps of declarators look up, answer and do. Assumes nothing: these are definitions.
-use Rattle.std.specs.Prelude.{◌≡◌, List, [], ◌∷◌, Bool, true, false, ◌&&◌, ◌||◌, not, ℕ, suc, ◌+◌, ◌≤◌, ◌<◌, length, get_or}
-use Rattle.std.proofs.Math.Option.{Option, none, some}
-use Rattle.def_tree.specs.Tree.{Tree, Core, no_core, node, nil, count}
+use Rattle.std.specs.Prelude.{◌≡◌, List, Bool, true, false, ◌&&◌, ◌||◌, not, ℕ, suc, ◌+◌, ◌≤◌, ◌<◌, length, get_or}
+use Rattle.std.proofs.Math.Option.{none, some}
+use Rattle.def_tree.specs.Tree.{Tree, Core, no_core, count}
 use Rattle.def_tree.specs.Combine.{Res, stop, done, M as MS, Nothing, ◌>>=◌, ◌>>◌, ret, iff, Flat, act_f, cut_first, set_arity}
 use Rattle.def_pass.specs.Scope as def
 use Rattle.def_pass.specs.Tree.{is_ident, is_cheap, has_this}
 use Rattle.def_pass.specs.Scope.{Stack, place_or, is_param, param_o, is_const, barred, is_inline_prevented, prevent_inline, find_binding}
 use Rattle.def_pass.specs.Walk.{St, M, when, mark, insert_const, declare_m, as_ident, read_once?, takes}
 use Rattle.def_tree.specs.Base.{pick}
-use Rattle.words.specs.Layout.{tree}
-use Rattle.scope_find.specs.Look.{idx_here, bars_here}
 use Rattle.words_nodes.specs.Nodes.{tree_from}
 use Rattle.words_state.specs.State.{Ok}
 pub use Rattle.scope.specs.Steps.{named, done_of, Moves}

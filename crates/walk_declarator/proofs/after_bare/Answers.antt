@@ -9,7 +9,6 @@ use Rattle.scope_define.specs.Kinds.{type_of}
 use Rattle.def_tree.specs.Combine.{ret}
 use Rattle.walk_declarator.specs.Steps.{named}
 use Rattle.walk_declarator.proofs.Ends as ends
-use borrow.Author.Rules.{rules}
 use Rattle.walk_declarator.proofs.after_bare.Goals as goal
 
 pub returns-in-Refused : goal.returns-in-Refused

@@ -7,7 +7,6 @@ use Rattle.def_tree.specs.Tree.{count}
 use Rattle.scope_define.specs.Kinds.{type_of}
 use Rattle.walk_declarator.proofs.Ends as ends
 use Rattle.def_tree.specs.Tree.{Core}
-use borrow.Author.Rules.{rules}
 use Rattle.walk_declarator.proofs.after_init.Goals as goal
 
 pub take_init-requires : goal.take_init-requires

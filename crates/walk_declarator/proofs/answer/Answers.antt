@@ -1,6 +1,5 @@
 -- By cases. Assumes nothing.
 use mathlib.Core.Path.{refl}
-use borrow.Author.Rules.{rules}
 use Rattle.walk_declarator.proofs.answer.Goals as goal
 
 pub returns-in-Done : goal.returns-in-Done

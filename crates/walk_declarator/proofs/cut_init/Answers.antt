@@ -1,6 +1,5 @@
 -- A child is one of the nodes. Assumes nothing.
 use Rattle.walk_declarator.proofs.Ends as ends
-use borrow.Author.Rules.{rules}
 use Rattle.walk_declarator.proofs.cut_init.Goals as goal
 
 pub skip-requires : goal.skip-requires

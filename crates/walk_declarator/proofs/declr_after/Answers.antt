@@ -6,7 +6,6 @@ use Rattle.walk_declarator.specs.Steps.{named}
 use Rattle.walk_declarator.proofs.Ends as ends
 use Rattle.words_state.specs.State.{abs}
 use Rattle.walk_declarator.specs.Steps.{declr_after}
-use borrow.Author.Rules.{rules}
 use Rattle.walk_declarator.proofs.declr_after.Goals as goal
 
 pub returns-then-n-eq0 : goal.returns-then-n-eq0

@@ -8,7 +8,6 @@ use Rattle.scope_declare.proofs.Init as init
 use Rattle.words.specs.Layout.{tree}
 use Rattle.words_nodes.specs.Nodes.{tree_from}
 use Rattle.def_tree.specs.Tree.{kind}
-use borrow.Author.Rules.{rules}
 use Rattle.walk_declarator.proofs.is_cheap.Goals as goal
 
 pub returns-then-kind_at-eq22 : goal.returns-then-kind_at-eq22

@@ -5,7 +5,6 @@ use Rattle.walk_declarator.proofs.Acts as acts
 use Rattle.walk_declarator.proofs.Parts as parts
 use Rattle.words.specs.Layout.{tree}
 use Rattle.words_state.specs.State.{rest}
-use borrow.Author.Rules.{rules}
 use Rattle.walk_declarator.proofs.over.Goals as goal
 
 pub over_none-r-requires : goal.over_none-r-requires

@@ -7,7 +7,6 @@ use Rattle.scope.proofs.Given as given
 use Rattle.scope_define.specs.declared.Init.TheVariants.{Recorded}
 use mathlib.Core.Path.{sym, ap, ◌∙◌}
 use mathlib.Core.List.{List}
-use Rattle.scope_declare.proofs.Init as init
 use Rattle.walk_declarator.proofs.Acts as acts
 use Rattle.walk_declarator.proofs.Parts as parts
 use Rattle.words_scopes.specs.State.{stack}
@@ -22,7 +21,6 @@ use Rattle.def_pass.specs.Walk.{St}
 use Rattle.def_tree.specs.Combine.{Nothing}
 use Rattle.def_tree.specs.Tree.{Core}
 use Rattle.def_pass.specs.Scope.{Stack}
-use borrow.Author.Rules.{rules}
 use Rattle.walk_declarator.proofs.over_cheap.Goals as goal
 
 pub declare_m-requires : goal.declare_m-requires

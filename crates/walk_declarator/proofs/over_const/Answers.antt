@@ -1,4 +1,4 @@
-use mathlib.Core.Path.{◌≡◌, refl, sym, ap, ◌∙◌}
+use mathlib.Core.Path.{sym, ap, ◌∙◌}
 use mathlib.Core.Bool.{Bool}
 use mathlib.Core.Option.{none, some}
 use lib.ListN.{get_or}
@@ -12,7 +12,6 @@ use Rattle.words_state.specs.State.{rest}
 use Rattle.scope_var_info.proofs.Numbers as numbers
 use Rattle.walk_declarator.proofs.Parts as parts
 use Rattle.walk_declarator.proofs.Acts as acts
-use borrow.Author.Rules.{rules}
 use Rattle.walk_declarator.proofs.over_const.Goals as goal
 
 pub returns-then-w-eq0 : goal.returns-then-w-eq0

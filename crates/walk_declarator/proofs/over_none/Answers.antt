@@ -11,7 +11,6 @@ use Rattle.walk_declarator.proofs.Parts as parts
 use Rattle.words_state.specs.State.{rest}
 use Rattle.def_pass.specs.Scope.{is_const}
 use Rattle.scope_define.specs.Kinds.{type_of}
-use borrow.Author.Rules.{rules}
 use Rattle.walk_declarator.proofs.over_none.Goals as goal
 
 pub returns-then-k-ge3 : goal.returns-then-k-ge3

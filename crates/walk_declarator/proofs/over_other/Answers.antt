@@ -16,7 +16,6 @@ use Rattle.def_tree.specs.Combine.{Nothing}
 use Rattle.def_pass.specs.Tree.{has_this}
 use Rattle.def_tree.specs.Tree.{Core}
 use Rattle.def_tree.specs.Combine.{◌>>◌}
-use borrow.Author.Rules.{rules}
 use Rattle.walk_declarator.proofs.over_other.Goals as goal
 
 pub declare_m-requires : goal.declare_m-requires

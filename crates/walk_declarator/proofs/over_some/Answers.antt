@@ -11,7 +11,6 @@ use Rattle.words_nodes.specs.Nodes.{tree_from}
 use Rattle.words_state.specs.State.{rest}
 use Rattle.def_pass.specs.Scope.{is_const}
 use Rattle.scope_define.specs.Kinds.{type_of}
-use borrow.Author.Rules.{rules}
 use Rattle.walk_declarator.proofs.over_some.Goals as goal
 
 pub over_const-r-requires : goal.over_const-r-requires

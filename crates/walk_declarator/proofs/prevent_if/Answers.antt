@@ -5,7 +5,6 @@ use Rattle.walk_declarator.proofs.Acts as acts
 use Rattle.words_state.specs.State.{rest}
 use Rattle.def_pass.specs.Scope.{prevent_inline}
 use Rattle.def_pass.specs.Walk.{when, mark}
-use borrow.Author.Rules.{rules}
 use Rattle.walk_declarator.proofs.prevent_if.Goals as goal
 
 pub returns-then-test : goal.returns-then-test

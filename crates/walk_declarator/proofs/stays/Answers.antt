@@ -2,14 +2,11 @@
 use Rattle.scope_var_info.proofs.Numbers as numbers
 use mathlib.Core.Path.{sym, ap, ◌∙◌}
 use mathlib.Core.Bool.{not}
-use mathlib.Core.Option.{some}
 use native.Mathlib.Omega.{arith}
-use Rattle.scope_declare.proofs.Init as init
 use Rattle.walk_declarator.proofs.Parts as parts
 use Rattle.words_scopes.specs.State.{stack}
 use Rattle.words.specs.Layout.{tree}
 use Rattle.words_nodes.specs.Nodes.{tree_from}
-use Rattle.def_tree.specs.Tree.{Tree}
 use Rattle.walk_declarator.specs.Steps.{named}
 use Rattle.words_nodes.specs.Nodes.{forest_from}
 use Rattle.def_tree.specs.Tree.{Forest}

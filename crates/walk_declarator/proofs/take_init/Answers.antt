@@ -8,7 +8,6 @@ use Rattle.words_state.specs.State.{rest}
 use Rattle.scope_define.specs.Kinds.{type_of}
 use Rattle.def_tree.specs.Combine.{Nothing}
 use Rattle.walk_declarator.specs.Steps.{take_or_mark}
-use borrow.Author.Rules.{rules}
 use Rattle.walk_declarator.proofs.take_init.Goals as goal
 
 pub take_ident-requires : goal.take_ident-requires

@@ -4,7 +4,6 @@ use Rattle.def_pass.specs.Scope.{prevented_o}
 use Rattle.scope_var_info.proofs.Numbers as numbers
 use mathlib.Core.Path.{sym, ap, ◌∙◌}
 use mathlib.Core.Bool.{false}
-use Rattle.scope_declare.proofs.Init as init
 use Rattle.walk_declarator.proofs.Acts as acts
 use Rattle.walk_declarator.proofs.Parts as parts
 use Rattle.words_scopes.specs.State.{stack}

@@ -11,7 +11,6 @@ use Rattle.words_state.specs.State.{rest}
 use Rattle.scope_define.specs.Kinds.{type_of}
 use Rattle.def_pass.specs.Scope.{Stack}
 use Rattle.walk_declarator.specs.Steps.{wants}
-use borrow.Author.Rules.{rules}
 use Rattle.walk_declarator.proofs.take_value.Goals as goal
 
 pub wanted-requires : goal.wanted-requires

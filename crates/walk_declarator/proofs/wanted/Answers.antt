@@ -7,8 +7,6 @@ use Rattle.words.specs.Layout.{tree}
 use Rattle.words_nodes.specs.Nodes.{tree_from}
 use Rattle.def_pass.specs.Scope.{find_binding, mark_of}
 use Rattle.def_pass.specs.Walk.{read_once?}
-use Rattle.scope_find.specs.Answers.{count_of}
-use borrow.Author.Rules.{rules}
 use Rattle.walk_declarator.proofs.wanted.Goals as goal
 
 pub is_cheap-requires : goal.is_cheap-requires
