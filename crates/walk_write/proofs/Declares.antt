@@ -11,7 +11,7 @@ use lib.Dec.{eqb, ltb}
 use lib.ListN.{length, get_or, set, length-set}
 use lib.Seq.{get_or-set_same}
 use Rattle.def_tree.specs.Base.{pick}
-use Rattle.def_tree.specs.Tree.{Tree, node, kind, form, num, kids, Core, no_core}
+use Rattle.def_tree.specs.Tree.{Tree, node, form, num, kids, Core, no_core}
 use Rattle.def_tree.specs.Combine.{Res, stop, done, Nothing, M, tree_at, act}
 use Rattle.def_pass.specs.Tree.{head_t}
 use Rattle.def_pass.specs.Twice.{unflagged}

@@ -7,7 +7,6 @@ use lib.Dec.{eqb}
 use borrow.Author.Tests.{ne_eqb}
 use Rattle.words.specs.Layout.{node_of}
 use Rattle.walk_write.proofs.Names.{name-yes}
-use borrow.Author.Rules.{rules}
 use Rattle.walk_write.proofs.is_name.Goals as goal
 
 pub returns-then-k-eq20 : goal.returns-then-k-eq20

@@ -4,7 +4,6 @@ use mathlib.Core.Logic.{inr}
 use mathlib.Core.Option.{some}
 use Rattle.words.specs.Layout.{node_of}
 use Rattle.walk_write.proofs.Marks.{ident-some, callee-off, callee-other, callee-on}
-use borrow.Author.Rules.{rules}
 use Rattle.walk_write.proofs.mark_callee.Goals as goal
 
 pub returns-then-w-ne0 : goal.returns-then-w-ne0

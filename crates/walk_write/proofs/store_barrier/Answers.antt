@@ -1,6 +1,5 @@
 -- By the phase. Assumes nothing.
 use Rattle.walk_write.proofs.Marks.{barrier-off, barrier-on}
-use borrow.Author.Rules.{rules}
 use Rattle.walk_write.proofs.store_barrier.Goals as goal
 
 pub returns-then-w-ne0 : goal.returns-then-w-ne0

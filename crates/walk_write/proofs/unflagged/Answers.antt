@@ -4,7 +4,6 @@ use mathlib.Core.Bool.{Bool}
 use Prim.Native.Nat.{◌-◌}
 use borrow.Author.Tests.{lt-ltb, le-ltb}
 use Rattle.def_tree.specs.Base.{pick}
-use borrow.Author.Rules.{rules}
 use Rattle.walk_write.proofs.unflagged.Goals as goal
 
 pub returns-then-f-gt1 : goal.returns-then-f-gt1

@@ -3,7 +3,6 @@ use mathlib.Core.Path.{ap}
 use Rattle.words.specs.Layout.{yes}
 use Rattle.scope_find.proofs.Facts.{flag-set}
 use Rattle.walk_write.proofs.Shapes.{args-act, args_none}
-use borrow.Author.Rules.{rules}
 use Rattle.walk_write.proofs.write_args.Goals as goal
 
 pub returns-then-call-eq0 : goal.returns-then-call-eq0

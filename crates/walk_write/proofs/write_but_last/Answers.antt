@@ -1,6 +1,5 @@
 -- One tree less. Assumes nothing.
 use Rattle.walk_write.proofs.Shapes.{none_last, but-last-act}
-use borrow.Author.Rules.{rules}
 use Rattle.walk_write.proofs.write_but_last.Goals as goal
 
 pub returns-then-n-eq0 : goal.returns-then-n-eq0

@@ -4,7 +4,6 @@ use Prim.Native.Nat.{ℕ}
 use lib.Dec.{eqb}
 use Rattle.def_pass.specs.Twice.{unflagged}
 use Rattle.walk_write.proofs.Writing.{ident-act}
-use borrow.Author.Rules.{rules}
 use Rattle.walk_write.proofs.write_ident.Goals as goal
 
 pub returns : goal.returns

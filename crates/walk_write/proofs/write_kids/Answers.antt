@@ -2,7 +2,6 @@
 use mathlib.Core.Bool.{true}
 use Rattle.def_pass.specs.Walk.{write_forest}
 use Rattle.walk_write.proofs.Shapes.{kids-open, kids-act}
-use borrow.Author.Rules.{rules}
 use Rattle.walk_write.proofs.write_kids.Goals as goal
 
 pub write_trees-requires : goal.write_trees-requires

@@ -2,7 +2,6 @@
 use mathlib.Core.Bool.{true}
 use Rattle.def_pass.specs.Walk.{write_forest, but_last}
 use Rattle.walk_write.proofs.Shapes.{kids-open, kids-act}
-use borrow.Author.Rules.{rules}
 use Rattle.walk_write.proofs.write_kids_but_last.Goals as goal
 
 pub write_but_last-requires : goal.write_but_last-requires

@@ -5,7 +5,6 @@ use Prim.Native.Nat.{◌+◌}
 use native.Mathlib.Omega.{arith}
 use Rattle.words.specs.Layout.{node_of}
 use Rattle.walk_write.proofs.Shapes.{no-child, child-here, child-in, name-none, name-other, name-written}
-use borrow.Author.Rules.{rules}
 use Rattle.walk_write.proofs.write_name.Goals as goal
 
 pub returns-then-arity_at-eq0 : goal.returns-then-arity_at-eq0

@@ -3,7 +3,6 @@ use Rattle.words.specs.Layout.{tree}
 use Rattle.words.proofs.Nodes.{tree-length}
 use Rattle.words_nodes.proofs.Loops.{open-first}
 use Rattle.walk_write.proofs.Shapes.{one-tree}
-use borrow.Author.Rules.{rules}
 use Rattle.walk_write.proofs.write_tree.Goals as goal
 
 pub write_trees-requires : goal.write_trees-requires

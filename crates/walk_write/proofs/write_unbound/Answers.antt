@@ -1,7 +1,6 @@
 -- By what the current scope has. Assumes nothing.
 use mathlib.Core.Logic.{inl}
 use Rattle.walk_write.proofs.Patterns.{bound-act, unbound-act}
-use borrow.Author.Rules.{rules}
 use Rattle.walk_write.proofs.write_unbound.Goals as goal
 
 pub ident_at-x-requires : goal.ident_at-x-requires

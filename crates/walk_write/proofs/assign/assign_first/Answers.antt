@@ -9,7 +9,6 @@ use Rattle.words_state.specs.State.{abs}
 use Rattle.walk_write.proofs.Steps.{act-tree}
 use Rattle.walk_write.proofs.AssignFirst.{first-none, first-always, first-stop, first-name, first-again}
 use Rattle.walk_write.proofs.AssignLast.{target-in}
-use borrow.Author.Rules.{rules}
 use Rattle.walk_write.proofs.assign.assign_first.Goals as goal
 
 pub returns-then-n-eq0 : goal.returns-then-n-eq0

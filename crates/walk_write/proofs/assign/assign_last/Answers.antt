@@ -4,7 +4,6 @@ use mathlib.Core.Logic.{inl}
 use native.Mathlib.Omega.{arith}
 use Rattle.words.specs.Layout.{node_of}
 use Rattle.walk_write.proofs.AssignLast.{last_none, last-no-name, last-alone, last-prevented, last-stop, last_stored, target-in, value_in, store_needs}
-use borrow.Author.Rules.{rules}
 use Rattle.walk_write.proofs.assign.assign_last.Goals as goal
 
 pub returns-then-n-eq0 : goal.returns-then-n-eq0

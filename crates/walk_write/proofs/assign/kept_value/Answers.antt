@@ -1,8 +1,7 @@
-use mathlib.Core.Path.{◌≡◌, refl, sym, ap, ◌∙◌}
+use mathlib.Core.Path.{◌≡◌, sym, ◌∙◌}
 use mathlib.Core.Logic.{inl, inr}
 use Rattle.words.specs.Layout.{node_of}
 use Rattle.walk_write.proofs.AssignLast.{kept-all, kept-none}
-use borrow.Author.Rules.{rules}
 use Rattle.walk_write.proofs.assign.kept_value.Goals as goal
 
 pub returns-then-k-eq22 : goal.returns-then-k-eq22

@@ -1,4 +1,4 @@
-use mathlib.Core.Path.{◌≡◌, refl, sym, ap, ◌∙◌}
+use mathlib.Core.Path.{sym, ap, ◌∙◌}
 use Prim.Native.Nat.{◌-◌}
 use mathlib.Core.Logic.{inl}
 use lib.ListN.{get_or}
@@ -10,7 +10,6 @@ use Rattle.scope_var_info.specs.Handles.{numbered, bindings_of}
 use Rattle.scope_var_info.proofs.Numbers.{number-some}
 use Rattle.walk_write.proofs.Writing.{num-here}
 use Rattle.walk_write.proofs.AssignLast.{store-none, store-held, store_kept}
-use borrow.Author.Rules.{rules}
 use Rattle.walk_write.proofs.assign.store_value.Goals as goal
 
 pub ident_at-x-requires : goal.ident_at-x-requires

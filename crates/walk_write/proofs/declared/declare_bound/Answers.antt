@@ -6,7 +6,6 @@ use Rattle.scope_define.specs.Kinds.{type_of}
 use Rattle.walk_write.proofs.Declares.{unflagged-less, turned-in, bound-needs, bound-act}
 use Rattle.scope_define.specs.declared.Init.TheVariants.{Recorded}
 use Rattle.scope.proofs.Given.{init-in}
-use borrow.Author.Rules.{rules}
 use Rattle.walk_write.proofs.declared.declare_bound.Goals as goal
 
 pub ident_at-x-requires : goal.ident_at-x-requires

@@ -8,7 +8,6 @@ use Rattle.walk_write.proofs.Shapes.{no-child, child-here, child-in}
 use Rattle.walk_write.proofs.Declares.{declare-none, declare-other, declare-off, declare-on}
 use Rattle.scope_var_info.specs.Handles.{tree_o}
 use Rattle.scope.proofs.Given.{init-none}
-use borrow.Author.Rules.{rules}
 use Rattle.walk_write.proofs.declared.declare_name.Goals as goal
 
 pub returns-then-arity_at-eq0 : goal.returns-then-arity_at-eq0

@@ -2,7 +2,6 @@
 use mathlib.Core.Path.{◌≡◌, sym, ◌∙◌}
 use Rattle.words.specs.Layout.{node_of}
 use Rattle.walk_write.proofs.Declares.{pat-other, pat-assigning, pat-param, pat-catch, pat-declaring}
-use borrow.Author.Rules.{rules}
 use Rattle.walk_write.proofs.declared.pat_step.Goals as goal
 
 pub returns-then-kind_at-ne20 : goal.returns-then-kind_at-ne20

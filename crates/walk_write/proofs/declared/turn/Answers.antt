@@ -1,7 +1,6 @@
 -- The node's other words stay. Assumes nothing.
 use native.Mathlib.Omega.{arith}
 use Rattle.walk_write.proofs.Turned.{turn-done}
-use borrow.Author.Rules.{rules}
 use Rattle.walk_write.proofs.declared.turn.Goals as goal
 
 pub put_node-requires : goal.put_node-requires
