@@ -1,7 +1,6 @@
 -- `coded` meets its contract: an answer that has a word, and its word. Assumes nothing.
 use mathlib.Core.Path.{sym, ◌∙◌}
 use Rattle.walk_laws.proofs.Codes as codes
-use borrow.Author.Rules.{rules}
 use Rattle.walk_answer.proofs.answer.coded.Goals as goal
 
 pub returns-in-At : goal.returns-in-At

@@ -1,7 +1,6 @@
 -- `next` meets its contract: the number is below 65,536 or not. Assumes nothing.
 use mathlib.Core.Path.{sym}
 use Rattle.walk_laws.proofs.Codes as codes
-use borrow.Author.Rules.{rules}
 use Rattle.walk_answer.proofs.answer.next.Goals as goal
 
 pub returns-then-r-lt65536 : goal.returns-then-r-lt65536

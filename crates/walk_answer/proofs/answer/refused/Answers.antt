@@ -1,7 +1,6 @@
 -- `refused` meets its contract. Assumes nothing.
 use native.Mathlib.Omega.{arith}
 use Rattle.walk_laws.proofs.Codes as codes
-use borrow.Author.Rules.{rules}
 use Rattle.walk_answer.proofs.answer.refused.Goals as goal
 
 pub returns : goal.returns

@@ -1,5 +1,4 @@
 -- `decl_kind` meets its contract, by the form. Assumes nothing.
-use mathlib.Core.Path.{sym, ap}
 use borrow.Author.Tests.{eq-eqb, ne_eqb}
 use Rattle.walk_answer.proofs.steps.decl_kind.Goals as goal
 

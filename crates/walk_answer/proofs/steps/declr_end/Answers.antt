@@ -1,6 +1,5 @@
 -- `declr_end` meets its contract: the step of the crate below, with its answer as a walk's. Assumes nothing.
 use mathlib.Core.Path.{refl}
-use borrow.Author.Rules.{rules}
 use Rattle.walk_laws.proofs.Declrs as declrs
 use Rattle.walk_answer.proofs.steps.declr_end.Goals as goal
 
