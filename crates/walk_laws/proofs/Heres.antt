@@ -1,7 +1,7 @@
 -- What a call of a walk or of a step is given: that trees begin there, after what was done before it. Assumes nothing.
-use mathlib.Core.Path.{◌≡◌, refl, sym, ap, ◌∙◌, subst}
+use mathlib.Core.Path.{◌≡◌, sym, ap, ◌∙◌, subst}
 use mathlib.Core.List.{List, []}
-use Prim.Native.Nat.{ℕ, zero, suc, ◌+◌, ◌-◌, ◌≤◌, ◌<◌}
+use Prim.Native.Nat.{ℕ, suc, ◌+◌, ◌-◌, ◌≤◌, ◌<◌}
 use native.Mathlib.Omega.{arith}
 use lib.ListN.{length, get_or, drop}
 use mathlib.Core.Logic.{inl}
@@ -17,9 +17,9 @@ use Rattle.shape.specs.Shape.{Room}
 use Rattle.words_nodes.proofs.Walks.{forest-at-is}
 use Rattle.words_nodes.proofs.Loops.{forest-first}
 use Rattle.shape.proofs.Shapes.{room-stays, trees-end}
-use Rattle.words_state.specs.State.{abs, Ok, Acts, Act, Turns}
+use Rattle.words_state.specs.State.{abs, Acts, Act, Turns}
 use Rattle.walk_ident.specs.declared.Next.{Next}
-use Rattle.walk_ident.specs.declared.Next.TheVariants.{At, Refused}
+use Rattle.walk_ident.specs.declared.Next.TheVariants.{At}
 use Rattle.walk_laws.specs.Did.{Did, Here}
 use Rattle.walk_laws.proofs.Rooms.{whole_of, room-one, room-kids, room-less, room-node, room-behind, room_next, did-is}
 

@@ -2,15 +2,15 @@
 -- Assumes nothing.
 use mathlib.Core.Path.{◌≡◌, refl, sym, ap, ap₂, ◌∙◌, subst}
 use mathlib.Core.List.{List}
-use Prim.Native.Nat.{ℕ, zero, suc, ◌+◌, ◌-◌, ◌≤◌, ◌<◌}
+use Prim.Native.Nat.{ℕ, zero, suc, ◌+◌, ◌-◌, ◌≤◌}
 use native.Mathlib.Nat.{zero-add, suc-add}
 use native.Mathlib.Numerals.{add-one}
 use native.Mathlib.Omega.{arith}
-use Rattle.def_tree.specs.Combine.{Res, stop, done, M, Nothing, and_then, ◌>>=◌, ◌>>◌, Flat, node_at, Walk, Walks, on_rest, within_f, many}
+use Rattle.def_tree.specs.Combine.{Res, stop, done, M, Nothing, and_then, Flat, Walk, on_rest, within_f, many}
 use Rattle.words.specs.Layout.{tree}
 use Rattle.def_pass.specs.Walk.{St}
 use Rattle.words_nodes.specs.Nodes.{Planted}
-use Rattle.words_state.specs.State.{rest, abs, Ok, Acts, Act, Turns}
+use Rattle.words_state.specs.State.{rest, abs, Acts, Act, Turns}
 use Rattle.words_state.proofs.Fields.{ok-self, ok-then}
 use Rattle.walk_ident.specs.declared.Next.{Next}
 use Rattle.walk_ident.specs.declared.Next.TheVariants.{At, Refused}

@@ -2,12 +2,12 @@
 use mathlib.Core.Path.{◌≡◌, refl, sym, ap, ap₂, ◌∙◌, subst}
 use mathlib.Core.List.{List, [], ◌∷◌}
 use native.Mathlib.Numerals.{add-one}
-use Prim.Native.Nat.{ℕ, zero, suc, ◌+◌, ◌-◌, ◌≤◌, ◌<◌}
+use Prim.Native.Nat.{ℕ, suc, ◌+◌, ◌≤◌, ◌<◌}
 use native.Mathlib.Omega.{arith}
-use lib.ListN.{length, get_or, drop, take, length-drop}
+use lib.ListN.{length, get_or, drop, length-drop}
 use lib.Seq.{drop-cons, drop-drop}
-use Rattle.def_tree.specs.Tree.{Tree, Forest, nil, cons, Core, no_core, length_f, count, counts, plant, take_f, drop_f}
-use Rattle.def_tree.specs.Combine.{Res, stop, done, M, Flat, tree_at, forest_at, Walk, Walks, many, each, and_then}
+use Rattle.def_tree.specs.Tree.{Tree, Forest, Core, no_core, length_f, counts, plant, take_f}
+use Rattle.def_tree.specs.Combine.{Res, stop, done, M, Flat, forest_at, Walk, Walks, many}
 use Rattle.def_tree.proofs.Sims.{Sim, SimF, sim-each}
 use Rattle.def_tree.proofs.Whole.{Whole, whole_drop, length-drop_f}
 use Rattle.words.specs.Layout.{tree, node_of}
@@ -15,12 +15,11 @@ use Rattle.words.proofs.Nodes.{tree-length, tree-at}
 use Rattle.def_pass.specs.Walk.{St}
 use Rattle.words_nodes.specs.Nodes.{Planted}
 use Rattle.words_nodes.proofs.Trees.{one-whole, plant-behind, trees-le}
-use Rattle.shape.specs.Shape.{Room, Shape}
+use Rattle.shape.specs.Shape.{Room}
 use Rattle.shape.proofs.Shapes.{shape-trees}
-use Rattle.words_state.specs.State.{abs, Ok}
-use Rattle.walk_ident.specs.declared.Next.{Next}
-use Rattle.walk_ident.specs.declared.Next.TheVariants.{At, Refused}
-use Rattle.walk_laws.specs.Did.{Lands, Did, Here}
+use Rattle.words_state.specs.State.{abs}
+use Rattle.walk_ident.specs.declared.Next.TheVariants.{At}
+use Rattle.walk_laws.specs.Did.{Lands, Did}
 
 pub whole_of : {w : List ℕ} → Planted w → Whole (tree w)
 whole_of g = one-whole g.one

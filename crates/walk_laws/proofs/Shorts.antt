@@ -1,9 +1,9 @@
 -- What is passed at once: a node without a handler of its own, and one without a step behind its handler. Assumes nothing.
-use mathlib.Core.Path.{◌≡◌, refl, sym, ap, ◌∙◌, subst}
+use mathlib.Core.Path.{◌≡◌, refl, sym, ap, ◌∙◌}
 use mathlib.Core.Bool.{Bool, true, false, not, ◌&&◌, ◌||◌}
 use mathlib.Core.List.{List}
 use mathlib.Core.Logic.{◌⊎◌, ⊎_elim, inl, inr}
-use Prim.Native.Nat.{ℕ, suc, ◌+◌, ◌-◌, ◌≤◌, ◌<◌}
+use Prim.Native.Nat.{ℕ, ◌+◌, ◌-◌}
 use native.Mathlib.Omega.{arith}
 use lib.Dec.{eqb}
 use lib.ListN.{get_or}
@@ -17,7 +17,7 @@ use Rattle.words_state.specs.State.{abs}
 use Rattle.laws_flat.specs.WalkF.{WalksF, walks_f, handle_f, plain_f, own_f, after_f, after_ident_f}
 use Rattle.laws_flat.proofs.Sim.{sims, sim-own}
 use Rattle.walk_ident.specs.declared.Next.{Next}
-use Rattle.walk_ident.specs.declared.Next.TheVariants.{At, Refused}
+use Rattle.walk_ident.specs.declared.Next.TheVariants.{At}
 use Rattle.walk_laws.specs.Did.{Did, Here, bare_node, settled_node}
 use Rattle.walk_laws.proofs.Laws.{many-none}
 use Rattle.walk_laws.proofs.Heres.{walk_end}

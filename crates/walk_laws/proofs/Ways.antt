@@ -2,7 +2,7 @@
 use mathlib.Core.Path.{◌≡◌, refl, sym, ap, ap₂, ◌∙◌, subst}
 use mathlib.Core.Bool.{Bool, true, false, ◌&&◌, not}
 use mathlib.Core.List.{List, [], ◌∷◌}
-use mathlib.Core.Logic.{◌⊎◌, ⊎_elim, inl, inr}
+use mathlib.Core.Logic.{◌⊎◌, ⊎_elim}
 use Prim.Native.Nat.{ℕ, zero, suc, ◌+◌, ◌-◌, ◌≤◌, ◌<◌}
 use native.Mathlib.Numerals.{add-one}
 use native.Mathlib.Omega.{arith}
@@ -12,21 +12,21 @@ use borrow.Author.Tests.{eq-eqb, ne_eqb, eqb-true, eqb-false, lt-ltb, le-ltb}
 use mathlib.Core.Option.{Option, none, some}
 use Rattle.def_tree.specs.Base.{pick}
 use Rattle.def_tree.specs.Tree.{Tree, count, form, num}
-use Rattle.def_tree.specs.Combine.{Res, stop, done, M, Nothing, and_then, ◌>>=◌, ◌>>◌, iff, Flat, node_at, tree_at, Walk, Walks, on_rest, act, put, within_f, skip, many, split_f, each_but_f, on_kids_f}
+use Rattle.def_tree.specs.Combine.{Res, stop, done, M, Nothing, and_then, ◌>>◌, iff, Flat, node_at, tree_at, Walk, Walks, on_rest, act, put, within_f, skip, many, split_f, each_but_f, on_kids_f}
 use Rattle.words.specs.Layout.{yes, tree, node_of}
 use Rattle.words.proofs.Nodes.{tree-at}
 use Rattle.words_scopes.specs.State.{var_type_of, scope_kind_of}
 use Rattle.def_pass.specs.Scope.{VarType, ScopeKind, fn, VarInfo, prevent_inline, add_read, find_constant}
 use Rattle.def_pass.specs.Walk.{St, modify, opening, restore, deeper, shallower, set_inlining, set_in_test, set_conds, set_var_decl_kind, set_pat_mode, as_param, decl_kind_of, set_changed, tally, same_ident, replace, when, mark, Handler, handlers, h_plain, h_while, h_for_in}
 use Rattle.words_nodes.specs.Nodes.{Planted, tree_from}
-use Rattle.words_state.specs.State.{rest, abs, Ok, Acts, Act, Turns}
+use Rattle.words_state.specs.State.{rest, abs, Act, Turns}
 use Rattle.words_state.proofs.Fields.{ok-self}
 use Rattle.laws_flat.specs.WalkF.{WalksF, walks_f, in_scope_f, in_cond_f, visit_mut_expr_f, visit_mut_stmts_f, assign_kids_f, catch_param_f, handle_f, own_f, logical_f, test_read, ident_analysis_f, inline_value_f, by_const_f, after_ident_f, after_assign_f, after_by, after_f, script_f}
 use Rattle.walk_ident.specs.declared.Next.{Next}
 use Rattle.walk_ident.specs.declared.Next.TheVariants.{At, Refused}
-use Rattle.walk_ident.specs.Steps.{Goes, Restored}
-use Rattle.walk_laws.specs.Did.{Lands, Did, Here}
-use Rattle.walk_laws.proofs.Laws.{did_then, did-stop, act-then, act-stop, did-here, many_more, many-cut, within-full, within-stop, within-then}
+use Rattle.walk_ident.specs.Steps.{Restored}
+use Rattle.walk_laws.specs.Did.{Did, Here}
+use Rattle.walk_laws.proofs.Laws.{did_then, did-stop, act-then, did-here, many_more, many-cut, within-full, within-stop, within-then}
 use Rattle.walk_laws.proofs.Heres.{here-node}
 
 abbrev F : Type 0 → Type 0

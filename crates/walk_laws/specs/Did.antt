@@ -2,12 +2,12 @@
 -- Assumes nothing: these are definitions.
 use Rattle.std.specs.Prelude.{◌≡◌, List, ℕ, suc, ◌+◌, ◌-◌, ◌%◌, ◌≤◌, ◌<◌, eqb, ltb, Bool, true, false, not, ◌&&◌, ◌||◌}
 use Rattle.std.proofs.Math.Option.{Option, none, some}
-use Rattle.def_tree.specs.Combine.{Res, stop, done, ◌>>=◌, ◌>>◌, and_then, ret, iff, Flat, node_at, tree_at, forest_at, set_arity, Walk as One, Walks as Many, on_rest, act, act_f, skip, many, split_f, each_but_f, on_kids_f}
+use Rattle.def_tree.specs.Combine.{Res, stop, done, ◌>>◌, and_then, iff, Flat, node_at, tree_at, forest_at, set_arity, Walk as One, Walks as Many, on_rest, skip, many, split_f, each_but_f, on_kids_f}
 use Rattle.def_tree.specs.Base.{pick}
 use Rattle.def_tree.specs.Tree.{Tree, Core}
 use Rattle.words.specs.Layout.{tree, node_of}
-use Rattle.def_pass.specs.Scope.{VarType, mark_this_sensitive, ident_of}
-use Rattle.def_pass.specs.Walk.{St, as_catch, set_pat_mode, modify, mark, when, write_forest, head_bind}
+use Rattle.def_pass.specs.Scope.{VarType}
+use Rattle.def_pass.specs.Walk.{St, as_catch, set_pat_mode, modify, head_bind}
 use Rattle.laws_flat.specs.WalkF.{WalksF, visit_mut_stmts_f, catch_param_f, declr_to_f}
 use Rattle.words_nodes.specs.Nodes.{Planted}
 use Rattle.shape.specs.Shape.{Room}
