@@ -1,7 +1,7 @@
 -- The goals of own. Assumes nothing.
-use Prim.Native.Nat.{ℕ, ◌-◌}
-use mathlib.Core.Path.{refl, ap}
-use mathlib.Core.Logic.{⊎_elim, inl, inr}
+use Prim.Native.Nat.{ℕ, ◌<◌, ◌≤◌, ◌-◌}
+use mathlib.Core.Path.{◌≡◌, refl, ap}
+use mathlib.Core.Logic.{inl, inr}
 use native.Mathlib.Omega.{arith}
 use lib.ListN.{get_or}
 use Rattle.def_pass.specs.Tree.{kids}
@@ -10,6 +10,7 @@ use Rattle.laws_flat.specs.WalkF.{walks_f, handle_f}
 use Rattle.walk_laws.proofs.Heres as heres
 use Rattle.walk_laws.proofs.Ways as ways
 use Rattle.walk.proofs.+walks.Goals as goal
+use Rattle.walk.proofs.+walks.Goals.{own-in_default-via-then-k-lt9, own-in_default-via-else-k-lt9+else-k-lt12+else-k-lt15}
 
 pub own-kind_at-k-requires : goal.own-kind_at-k-requires
 own-kind_at-k-requires t c = heres.at-node c.requires
@@ -151,12 +152,18 @@ own-returns-in-40 t c = ways.own-by (walks_f c.args.d) h_arrow c.requires c.kind
 
 pub own-returns-in-10 : goal.own-returns-in-10
 unfolding handle_f
-own-returns-in-10 t c = ways.own-by (walks_f c.args.d) h_while c.requires c.kind_at-k.ensures (ways.kind-while c.kind_at-k.result c.in-10.in_default-own.rest.0.0.0.0.0.0.0.0.0.0.0.0.1 c.in-10.if-k-lt9-own.false c.in-10.if-k-lt12-own.true) c.whiles.ensures
+own-returns-in-10 t c = ways.own-by (walks_f c.args.d) h_while c.requires c.kind_at-k.ensures (ways.kind-while c.kind_at-k.result (λ e. omega (arith, e)) (omega arith) (omega arith)) c.whiles.ensures
 
 pub own-returns-in-13 : goal.own-returns-in-13
 unfolding handle_f
-own-returns-in-13 t c = ways.own-by (walks_f c.args.d) h_for_in c.requires c.kind_at-k.ensures (ways.kind-for-in c.kind_at-k.result c.in-13.in_default-own.rest.0.0.0.0.0.0.0.0.0.0.0.1 c.in-13.if-k-lt12-own.false c.in-13.if-k-lt15-own.true) c.forin.ensures
+own-returns-in-13 t c = ways.own-by (walks_f c.args.d) h_for_in c.requires c.kind_at-k.ensures (ways.kind-for-in c.kind_at-k.result (λ e. omega (arith, e)) (omega arith) (omega arith)) c.forin.ensures
 
 pub own-returns-in_default : goal.own-returns-in_default
 unfolding handle_f
-own-returns-in_default t c = ways.own-by (walks_f c.args.d) h_plain c.requires c.kind_at-k.ensures (⊎_elim (λ s. ways.kind-plain c.kind_at-k.result (inl refl, (inr c.in_default-1.rest.0.0.0.0.0.0.0.0.0.0.0.0.0.0.0.0.0.1, (inr c.in_default-1.rest.0.0.0.0.0.0.0.0.0.0.0.0.0.0.0.0.1, (inl refl, (inl refl, (inr c.in_default-1.rest.0.0.0.0.0.0.0.0.0.0.0.0.0.0.0.1, (inr c.in_default-1.rest.0.0.0.0.0.0.0.0.0.0.0.0.0.0.1, (inr c.in_default-1.rest.0.0.0.0.0.0.0.0.0.0.0.0.0.1, (inl refl, (inr c.in_default-1.rest.0.0.0.0.0.0.0.0.0.0.0.0.1, (inr (λ e. omega (arith, e, s.if-k-lt9-1.true)), (inr (λ e. omega (arith, e, s.if-k-lt9-1.true)), (inr c.in_default-1.rest.0.0.0.0.0.0.0.0.0.0.0.1, (inr (λ e. omega (arith, e, s.if-k-lt9-1.true)), (inr (λ e. omega (arith, e, s.if-k-lt9-1.true)), (inl refl, (inr c.in_default-1.rest.0.0.0.0.0.0.0.0.0.0.1, (inr c.in_default-1.rest.0.0.0.0.0.0.0.0.0.1, (inl refl, (inr c.in_default-1.rest.0.0.0.0.0.0.0.0.1, (inr c.in_default-1.rest.0.0.0.0.0.0.0.1, (inl refl, (inl refl, (inl refl, (inl refl, (inl refl, (inl refl, (inl refl, (inl refl, (inl refl, (inr c.in_default-1.rest.0.0.0.0.0.0.1, (inr c.in_default-1.rest.0.0.0.0.0.1, (inl refl, (inr c.in_default-1.rest.0.0.0.0.1, (inl refl, (inr c.in_default-1.rest.0.0.0.1, (inr c.in_default-1.rest.0.0.1, (inl refl, (inl refl, (inr c.in_default-1.rest.0.1, (inr c.in_default-1.rest.1, (inl refl, (inl refl, (inl refl, (inl refl, tt)))))))))))))))))))))))))))))))))))))))))))))) (λ s. ways.kind-plain c.kind_at-k.result (inl refl, (inr c.in_default-1.rest.0.0.0.0.0.0.0.0.0.0.0.0.0.0.0.0.0.1, (inr c.in_default-1.rest.0.0.0.0.0.0.0.0.0.0.0.0.0.0.0.0.1, (inl refl, (inl refl, (inr c.in_default-1.rest.0.0.0.0.0.0.0.0.0.0.0.0.0.0.0.1, (inr c.in_default-1.rest.0.0.0.0.0.0.0.0.0.0.0.0.0.0.1, (inr c.in_default-1.rest.0.0.0.0.0.0.0.0.0.0.0.0.0.1, (inl refl, (inr c.in_default-1.rest.0.0.0.0.0.0.0.0.0.0.0.0.1, (inr (λ e. omega (arith, e, s.if-k-lt15-1.false)), (inr (λ e. omega (arith, e, s.if-k-lt15-1.false)), (inr c.in_default-1.rest.0.0.0.0.0.0.0.0.0.0.0.1, (inr (λ e. omega (arith, e, s.if-k-lt15-1.false)), (inr (λ e. omega (arith, e, s.if-k-lt15-1.false)), (inl refl, (inr c.in_default-1.rest.0.0.0.0.0.0.0.0.0.0.1, (inr c.in_default-1.rest.0.0.0.0.0.0.0.0.0.1, (inl refl, (inr c.in_default-1.rest.0.0.0.0.0.0.0.0.1, (inr c.in_default-1.rest.0.0.0.0.0.0.0.1, (inl refl, (inl refl, (inl refl, (inl refl, (inl refl, (inl refl, (inl refl, (inl refl, (inl refl, (inr c.in_default-1.rest.0.0.0.0.0.0.1, (inr c.in_default-1.rest.0.0.0.0.0.1, (inl refl, (inr c.in_default-1.rest.0.0.0.0.1, (inl refl, (inr c.in_default-1.rest.0.0.0.1, (inr c.in_default-1.rest.0.0.1, (inl refl, (inl refl, (inr c.in_default-1.rest.0.1, (inr c.in_default-1.rest.1, (inl refl, (inl refl, (inl refl, (inl refl, tt)))))))))))))))))))))))))))))))))))))))))))))) c.in_default.branch-raw) c.kids.ensures
+own-returns-in_default t c =
+    let k = c.kind_at-k.result in
+    let between : (m : ℕ) → 9 ≤ m → m < 15 → k ≡ m → ⊥ = λ m lo hi e. elim c.in_default.branch [
+      | own-in_default-via-then-k-lt9 s ↦ omega (arith, hi, lo, e, s)
+      | own-in_default-via-else-k-lt9+else-k-lt12+else-k-lt15 s ↦ omega (arith, hi, lo, e, s)
+    ] in
+    ways.own-by (walks_f c.args.d) h_plain c.requires c.kind_at-k.ensures (ways.kind-plain k (inl refl, (inr (λ e. omega (arith, e)), (inr (λ e. omega (arith, e)), (inl refl, (inl refl, (inr (λ e. omega (arith, e)), (inr (λ e. omega (arith, e)), (inr (λ e. omega (arith, e)), (inl refl, (inr (λ e. omega (arith, e)), (inr (between 10 (omega arith) (omega arith)), (inr (between 11 (omega arith) (omega arith)), (inr (λ e. omega (arith, e)), (inr (between 13 (omega arith) (omega arith)), (inr (between 14 (omega arith) (omega arith)), (inl refl, (inr (λ e. omega (arith, e)), (inr (λ e. omega (arith, e)), (inl refl, (inr (λ e. omega (arith, e)), (inr (λ e. omega (arith, e)), (inl refl, (inl refl, (inl refl, (inl refl, (inl refl, (inl refl, (inl refl, (inl refl, (inl refl, (inr (λ e. omega (arith, e)), (inr (λ e. omega (arith, e)), (inl refl, (inr (λ e. omega (arith, e)), (inl refl, (inr (λ e. omega (arith, e)), (inr (λ e. omega (arith, e)), (inl refl, (inl refl, (inr (λ e. omega (arith, e)), (inr (λ e. omega (arith, e)), (inl refl, (inl refl, (inl refl, (inl refl, tt)))))))))))))))))))))))))))))))))))))))))))))) c.kids.ensures
