@@ -1,6 +1,5 @@
 -- Words are ready before every call. A byte past the end is 0, and ends the sequence. Assumes nothing.
-use Rattle.std.proofs.Common.{◌≡◌, ◌+◌, ◌-◌, ◌≤◌, length, refl, ◌∙◌, arith, rules}
-use Rattle.words_nodes.specs.Nodes.{Planted}
+use Rattle.std.proofs.Common.{refl, ◌∙◌, arith}
 use Rattle.scope_calls.proofs.Keep as keep
 use Rattle.scope_calls.proofs.play.Goals as goal
 

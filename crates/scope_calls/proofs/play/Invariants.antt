@@ -1,7 +1,6 @@
 -- Words are ready before every call. A byte past the end is 0, and ends the sequence. Assumes nothing.
-use Rattle.std.proofs.Common.{◌≡◌, ◌+◌, ◌-◌, ◌≤◌, length, refl, ◌∙◌, arith, rules}
+use Rattle.std.proofs.Common.{◌≡◌, ◌+◌, ◌-◌, ◌≤◌, length}
 use Rattle.words_nodes.specs.Nodes.{Planted}
-use Rattle.scope_calls.proofs.Keep as keep
 use Rattle.scope_calls.proofs.play.Given as goal
 
 abbrev pub invariant-loop-w : goal.invariant-loop-w

@@ -1,5 +1,5 @@
 -- A sequence ends behind its beginning. Assumes nothing.
-use Rattle.std.proofs.Common.{◌≡◌, ◌-◌, length, refl, ◌∙◌, arith, rules}
+use Rattle.std.proofs.Common.{◌≡◌, ◌-◌, length}
 use Rattle.scope_calls.proofs.play_all.Given as goal
 
 abbrev pub invariant-loop-i : goal.invariant-loop-i

@@ -1,6 +1,5 @@
 -- The root scope is opened. Assumes nothing.
 use Rattle.scope_calls.proofs.Keep as keep
-use Rattle.std.proofs.Common.{rules}
 use Rattle.scope_calls.proofs.begin.begin.Goals as goal
 
 pub returns : goal.returns

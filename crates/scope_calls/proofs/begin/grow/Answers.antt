@@ -2,7 +2,6 @@
 use Rattle.def_tree.specs.Tree.{core}
 use Rattle.scope_calls.proofs.Keep as keep
 use Rattle.scope_calls.proofs.Keep as keep
-use Rattle.std.proofs.Common.{rules}
 use Rattle.scope_calls.proofs.begin.grow.Goals as goal
 
 pub returns : goal.returns

@@ -1,5 +1,5 @@
 -- The nodes one after the other, and then they are one tree. Assumes nothing.
-use Rattle.std.proofs.Common.{◌∙◌, arith, rules}
+use Rattle.std.proofs.Common.{◌∙◌, arith}
 use Rattle.scope_calls.proofs.Keep as keep
 use Rattle.scope_calls.proofs.begin.plant.Goals as goal
 

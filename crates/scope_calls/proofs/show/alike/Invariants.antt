@@ -1,5 +1,5 @@
 -- Index and walk, for every identifier. Assumes nothing.
-use Rattle.std.proofs.Common.{◌-◌, arith, rules}
+use Rattle.std.proofs.Common.{◌-◌}
 use Rattle.scope_calls.proofs.show.alike.Given as goal
 
 abbrev pub invariant-loop-x : goal.invariant-loop-x

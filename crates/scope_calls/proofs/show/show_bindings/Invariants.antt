@@ -1,5 +1,5 @@
 -- One after the other. Assumes nothing.
-use Rattle.std.proofs.Common.{◌-◌, arith, rules}
+use Rattle.std.proofs.Common.{◌-◌}
 use Rattle.scope_calls.proofs.show.show_bindings.Given as goal
 
 abbrev pub invariant-loop-k : goal.invariant-loop-k

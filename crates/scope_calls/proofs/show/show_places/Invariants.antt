@@ -1,5 +1,5 @@
 -- Four identifiers, and that of each binding. Assumes nothing.
-use Rattle.std.proofs.Common.{◌-◌, arith, rules}
+use Rattle.std.proofs.Common.{◌-◌}
 use Rattle.scope_calls.proofs.show.show_places.Given as goal
 
 abbrev pub invariant-loop-k : goal.invariant-loop-k

@@ -1,5 +1,5 @@
 -- Four identifiers. Assumes nothing.
-use Rattle.std.proofs.Common.{◌-◌, arith, rules}
+use Rattle.std.proofs.Common.{◌-◌}
 use Rattle.scope_calls.proofs.show.show_unresolved.Given as goal
 
 abbrev pub invariant-loop-x : goal.invariant-loop-x

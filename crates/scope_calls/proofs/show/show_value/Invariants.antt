@@ -1,5 +1,5 @@
 -- One node after the other. Assumes nothing.
-use Rattle.std.proofs.Common.{◌-◌, arith, rules}
+use Rattle.std.proofs.Common.{◌-◌}
 use Rattle.scope_calls.proofs.show.show_value.Given as goal
 
 abbrev pub invariant-loop-j : goal.invariant-loop-j

@@ -1,5 +1,4 @@
 use Rattle.scope_calls.proofs.Keep as keep
-use Rattle.std.proofs.Common.{rules}
 use Rattle.scope_calls.proofs.steps.declares.Goals as goal
 
 pub returns : goal.returns

@@ -1,6 +1,5 @@
 -- A mark keeps the tree. Assumes nothing.
 use Rattle.scope_calls.proofs.Keep as keep
-use Rattle.std.proofs.Common.{rules}
 use Rattle.scope_calls.proofs.steps.mark.Goals as goal
 
 pub returns-then-c-eq7 : goal.returns-then-c-eq7

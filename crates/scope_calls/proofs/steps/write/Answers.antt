@@ -1,6 +1,5 @@
 -- A step keeps the tree. Assumes nothing.
 use Rattle.scope_calls.proofs.Keep as keep
-use Rattle.std.proofs.Common.{rules}
 use Rattle.scope_calls.proofs.steps.write.Goals as goal
 
 pub returns : goal.returns
