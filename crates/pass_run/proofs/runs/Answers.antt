@@ -15,19 +15,19 @@ pub visit_mut_program-run-requires : goal.visit_mut_program-run-requires
 visit_mut_program-run-requires c = c.set_changed.ensures.ok.planted
 
 pub returns-in-Refused : goal.returns-in-Refused
-returns-in-Refused c = going-stop c.args.n c.loop-k.k c.loop-k.invariant c.loop-k-test.true c.set_changed.ensures c.visit_mut_program-run.ensures _ c.run-1.given.1
+returns-in-Refused c = going-stop c.args.n c.loop-k.k c.loop-k.invariant c.loop-k-test.true c.set_changed.ensures c.visit_mut_program-run.ensures _ c.in-Refused.is
 
 pub bounds-w-5 : goal.bounds-w-5
 bounds-w-5 c = omega (arith, c.visit_mut_program-run.ensures.ok.planted.good.long)
 
 pub returns-then-w-eq0 : goal.returns-then-w-eq0
-returns-then-w-eq0 c = going-last c.args.n c.loop-k.k c.loop-k.invariant c.loop-k-test.true c.set_changed.ensures c.visit_mut_program-run.ensures _ c.enum_told-1.given.1 c.if-w-eq0.true
+returns-then-w-eq0 c = going-last c.args.n c.loop-k.k c.loop-k.invariant c.loop-k-test.true c.set_changed.ensures c.visit_mut_program-run.ensures _ c.in_default.is c.if-w-eq0.true
 
 pub set_is_first_run-requires : goal.set_is_first_run-requires
 set_is_first_run-requires c = c.visit_mut_program-run.ensures.ok.planted
 
 pub loop-k-preserved : goal.loop-k-preserved
-loop-k-preserved c = going_on c.args.n c.loop-k.k c.loop-k.invariant c.loop-k-test.true c.set_changed.ensures c.visit_mut_program-run.ensures _ c.enum_told-1.given.1 c.if-w-eq0.false c.set_is_first_run.ensures
+loop-k-preserved c = going_on c.args.n c.loop-k.k c.loop-k.invariant c.loop-k-test.true c.set_changed.ensures c.visit_mut_program-run.ensures _ c.in_default.is c.if-w-eq0.false c.set_is_first_run.ensures
 
 pub returns : goal.returns
 returns c = going_end c.args.n c.loop-k.k c.loop-k.invariant c.loop-k-test.false
