@@ -6,7 +6,7 @@ use Rattle.def_tree.specs.Base.{pick}
 use Rattle.def_tree.specs.Tree.{Tree, node, nil, Core}
 use Rattle.def_pass.specs.Scope.{VarInfo, Stack}
 use Rattle.def_pass.specs.Tree.{count_o}
-use Rattle.words.specs.Layout.{tree, run}
+use Rattle.words.specs.Layout.{run}
 use Rattle.words_scopes.specs.State.{Whole}
 use Rattle.words_nodes.specs.Nodes.{tree_from, value_from, Swapped}
 use Rattle.words_nodes.specs.declared.Step.{Step}

@@ -1,7 +1,6 @@
-use mathlib.Core.Path.{refl, sym, ap, ◌∙◌}
+use mathlib.Core.Path.{◌∙◌}
 use Rattle.scope_find.proofs.Facts.{found_at}
 use Rattle.scope_var_info.proofs.Numbers as numbers
-use borrow.Author.Rules.{rules}
 use Rattle.scope_var_info.proofs.find_binding.Goals as goal
 
 pub returns : goal.returns

@@ -1,6 +1,5 @@
-use mathlib.Core.Path.{refl, sym, ap, ◌∙◌}
+use mathlib.Core.Path.{◌∙◌}
 use Rattle.scope_var_info.proofs.Numbers as numbers
-use borrow.Author.Rules.{rules}
 use Rattle.scope_var_info.proofs.find_binding_from_current.Goals as goal
 
 pub returns : goal.returns

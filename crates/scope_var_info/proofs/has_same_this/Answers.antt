@@ -1,10 +1,9 @@
-use mathlib.Core.Path.{refl, sym, ap, ◌∙◌}
+use mathlib.Core.Path.{sym, ap, ◌∙◌}
 use mathlib.Core.Option.{some}
 use Rattle.def_tree.specs.Tree.{Tree}
 use Rattle.def_pass.specs.Scope.{find_binding, has_same_this}
 use Rattle.words_scopes.specs.State.{stack}
 use Rattle.scope_var_info.proofs.Numbers as numbers
-use borrow.Author.Rules.{rules}
 use Rattle.scope_var_info.proofs.has_same_this.Goals as goal
 
 pub has_same_this-requires : goal.has_same_this-requires

@@ -1,6 +1,5 @@
 use Rattle.words_scopes.specs.State.{stack}
 use Rattle.scope_var_info.proofs.Numbers as numbers
-use borrow.Author.Rules.{rules}
 use Rattle.scope_var_info.proofs.idx_val.Goals as goal
 
 pub returns : goal.returns

@@ -1,7 +1,6 @@
 use borrow.Author.Tests.{ltb-true, ltb-false}
 use lib.ListN.{get_or}
 use Rattle.scope_var_info.proofs.Numbers as numbers
-use borrow.Author.Rules.{rules}
 use Rattle.scope_var_info.proofs.in_tree.Goals as goal
 
 pub returns : goal.returns

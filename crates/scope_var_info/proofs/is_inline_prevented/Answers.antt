@@ -1,10 +1,9 @@
-use mathlib.Core.Path.{refl, sym, ap, ◌∙◌}
+use mathlib.Core.Path.{sym, ap, ◌∙◌}
 use mathlib.Core.Option.{Option}
 use Rattle.def_tree.specs.Tree.{Tree}
 use Rattle.def_pass.specs.Scope.{is_inline_prevented, prevented_o}
 use Rattle.words_scopes.specs.State.{stack}
 use Rattle.scope_var_info.proofs.Numbers as numbers
-use borrow.Author.Rules.{rules}
 use Rattle.scope_var_info.proofs.is_inline_prevented.Goals as goal
 
 pub is_inline_prevented-requires : goal.is_inline_prevented-requires

@@ -1,9 +1,8 @@
-use mathlib.Core.Path.{refl, sym, ap, ◌∙◌}
+use mathlib.Core.Path.{sym, ap, ◌∙◌}
 use native.Mathlib.Omega.{arith}
 use Rattle.def_pass.specs.Scope.{VarInfo, is_param}
 use Rattle.scope_var_info.specs.Handles.{of_binding}
 use Rattle.scope_var_info.proofs.Numbers as numbers
-use borrow.Author.Rules.{rules}
 use Rattle.scope_var_info.proofs.is_param.Goals as goal
 
 pub overflow_sub-b : goal.overflow_sub-b

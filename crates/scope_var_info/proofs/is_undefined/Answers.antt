@@ -1,10 +1,8 @@
-use mathlib.Core.Path.{refl, sym, ap, ◌∙◌}
+use mathlib.Core.Path.{sym, ap, ◌∙◌}
 use native.Mathlib.Omega.{arith}
-use mathlib.Core.Option.{Option}
 use Rattle.def_pass.specs.Scope.{VarInfo}
 use Rattle.scope_var_info.proofs.Numbers as numbers
 use Rattle.scope_var_info.specs.Handles.{of_binding}
-use borrow.Author.Rules.{rules}
 use Rattle.scope_var_info.proofs.is_undefined.Goals as goal
 
 pub overflow_sub-b : goal.overflow_sub-b

@@ -6,7 +6,6 @@ use Rattle.words_scopes.specs.State.{stack}
 use Rattle.def_pass.specs.Scope.{find_constant}
 use Rattle.scope_var_info.specs.Handles.{tree_o}
 use Rattle.scope_values.specs.declared.Constant.TheVariants.{Unknown, At}
-use borrow.Author.Rules.{rules}
 use Rattle.scope_var_info.proofs.put_constant.Goals as goal
 
 pub find_constant-requires : goal.find_constant-requires

@@ -2,7 +2,6 @@ use Rattle.scope_var_info.proofs.Numbers as numbers
 use native.Mathlib.Omega.{arith}
 use Rattle.words_nodes.specs.Nodes.{value_from}
 use Rattle.words_nodes.specs.declared.Step.TheVariants.{Refused}
-use borrow.Author.Rules.{rules}
 use Rattle.scope_var_info.proofs.put_held.Goals as goal
 
 pub in_tree-requires : goal.in_tree-requires

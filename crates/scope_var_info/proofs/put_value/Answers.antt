@@ -5,7 +5,6 @@ use Rattle.words.specs.Layout.{tree}
 use Rattle.words_scopes.specs.State.{stack}
 use Rattle.def_pass.specs.Scope.{value_o}
 use Rattle.scope_var_info.specs.Handles.{numbered, tree_o}
-use borrow.Author.Rules.{rules}
 use Rattle.scope_var_info.proofs.put_value.Goals as goal
 
 pub value_len-m-requires : goal.value_len-m-requires

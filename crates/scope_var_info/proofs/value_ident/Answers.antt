@@ -5,7 +5,6 @@ use mathlib.Core.Path.{sym, ap, ◌∙◌}
 use mathlib.Core.Option.{Option}
 use Rattle.def_pass.specs.Scope.{VarInfo, value_o}
 use Rattle.words_scopes.specs.State.{name_of}
-use borrow.Author.Rules.{rules}
 use Rattle.scope_var_info.proofs.value_ident.Goals as goal
 
 pub overflow_sub-b : goal.overflow_sub-b

@@ -1,11 +1,10 @@
-use mathlib.Core.Path.{refl, sym, ap, ◌∙◌}
+use mathlib.Core.Path.{sym, ap, ◌∙◌}
 use native.Mathlib.Omega.{arith}
 use mathlib.Core.Option.{Option}
 use Rattle.def_pass.specs.Scope.{VarInfo}
 use Rattle.scope_var_info.proofs.Numbers as numbers
 use Rattle.def_pass.specs.Scope.{value_o}
 use Rattle.scope_find.specs.Look.{kind_o}
-use borrow.Author.Rules.{rules}
 use Rattle.scope_var_info.proofs.value_kind.Goals as goal
 
 pub overflow_sub-b : goal.overflow_sub-b

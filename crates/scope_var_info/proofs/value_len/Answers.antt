@@ -5,7 +5,6 @@ use mathlib.Core.Path.{sym, ap, ◌∙◌}
 use mathlib.Core.Option.{Option}
 use Rattle.def_pass.specs.Scope.{VarInfo, value_o}
 use Rattle.def_pass.specs.Tree.{count_o}
-use borrow.Author.Rules.{rules}
 use Rattle.scope_var_info.proofs.value_len.Goals as goal
 
 pub overflow_sub-b : goal.overflow_sub-b
