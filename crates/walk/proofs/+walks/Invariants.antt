@@ -1,5 +1,5 @@
 -- The measure of each walk, the depth that is left and where in one node's walk it stands, and what each loop has done of its list.
-use Rattle.std.proofs.Common.{ℕ, ◌+◌, ◌-◌, ◌*◌, ◌<◌, ◌≤◌, ◌≡◌, length}
+use Rattle.std.proofs.Common.{◌+◌, ◌-◌, ◌*◌, ◌<◌, ◌≤◌, ◌≡◌, length}
 use Rattle.def_tree.specs.Combine.{many}
 use Rattle.words_scopes.specs.State.{scope_kind_of}
 use Rattle.words_state.specs.State.{abs}

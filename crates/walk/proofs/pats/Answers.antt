@@ -6,7 +6,6 @@ use Rattle.walk_laws.proofs.Laws as laws
 use Rattle.walk_laws.proofs.Heres as heres
 use Rattle.walk_laws.proofs.Ways as ways
 use Rattle.walk_laws.proofs.Codes as codes
-use borrow.Author.Rules.{rules}
 use Rattle.walk.proofs.pats.Goals as goal
 
 pub pat_step-e-requires : goal.pat_step-e-requires

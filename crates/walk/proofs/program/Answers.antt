@@ -1,6 +1,5 @@
 -- `program` meets its contract: the script's own handler at depth 1, and its answer. Assumes nothing.
 use mathlib.Core.Path.{sym}
-use borrow.Author.Rules.{rules}
 use Rattle.walk_laws.proofs.Heres as heres
 use Rattle.walk_laws.proofs.Ways as ways
 use Rattle.walk.proofs.program.Goals as goal

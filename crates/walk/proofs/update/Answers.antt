@@ -8,7 +8,6 @@ use Rattle.walk_laws.proofs.Laws as laws
 use Rattle.walk_laws.proofs.Heres as heres
 use Rattle.walk_laws.proofs.Ways as ways
 use Rattle.walk_laws.proofs.Codes as codes
-use borrow.Author.Rules.{rules}
 use Rattle.walk.proofs.update.Goals as goal
 
 pub write_kids-e-requires : goal.write_kids-e-requires

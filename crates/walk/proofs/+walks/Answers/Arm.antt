@@ -1,5 +1,4 @@
 -- The goals of arm. Assumes nothing.
-use Prim.Native.Nat.{◌-◌}
 use mathlib.Core.Path.{refl, sym, ◌∙◌}
 use native.Mathlib.Omega.{arith}
 use Rattle.words_scopes.specs.State.{scope_kind_of}

@@ -1,5 +1,4 @@
 -- The goals of arms. Assumes nothing.
-use Prim.Native.Nat.{◌-◌}
 use mathlib.Core.Path.{refl, sym, ◌∙◌}
 use native.Mathlib.Omega.{arith}
 use Rattle.def_tree.proofs.Sims.{sim-each}

@@ -1,7 +1,6 @@
 -- The goals of arrow. Assumes nothing.
-use Prim.Native.Nat.{◌-◌}
 use mathlib.Core.Path.{sym, ◌∙◌}
-use mathlib.Core.Bool.{true, false}
+use mathlib.Core.Bool.{false}
 use native.Mathlib.Omega.{arith}
 use Rattle.def_pass.specs.Scope.{fn as fn_kind}
 use Rattle.def_pass.specs.Walk.{opening}

@@ -1,5 +1,4 @@
 -- The goals of body. Assumes nothing.
-use Prim.Native.Nat.{◌-◌}
 use native.Mathlib.Omega.{arith}
 use Rattle.laws_flat.specs.WalkF.{walks_f, visit_mut_stmts_f, script_f}
 use Rattle.walk_laws.proofs.Heres as heres

@@ -1,8 +1,6 @@
 -- The goals of decl. Assumes nothing.
-use Prim.Native.Nat.{◌-◌}
 use native.Mathlib.Omega.{arith}
 use Rattle.def_tree.specs.Combine.{node_at}
-use Rattle.def_pass.specs.Tree.{kids}
 use Rattle.def_pass.specs.Walk.{set_var_decl_kind, decl_kind_of}
 use Rattle.words_state.specs.State.{abs}
 use Rattle.laws_flat.specs.WalkF.{walks_f, plain_f, visit_mut_var_decl_f}

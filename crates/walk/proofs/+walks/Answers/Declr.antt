@@ -1,8 +1,8 @@
 -- The goals of declr. Assumes nothing.
-use Prim.Native.Nat.{◌+◌, ◌-◌}
+use Prim.Native.Nat.{◌+◌}
 use mathlib.Core.Path.{sym, ◌∙◌}
 use native.Mathlib.Omega.{arith}
-use Rattle.def_tree.specs.Combine.{skip, tree_at}
+use Rattle.def_tree.specs.Combine.{tree_at}
 use Rattle.def_tree.proofs.Sims.{sim-each, sim-skip, sim-split}
 use Rattle.words_state.specs.State.{abs, rest}
 use Rattle.laws_flat.specs.WalkF.{walks_f}

@@ -1,7 +1,7 @@
 -- The goals of fexpr. Assumes nothing.
-use Prim.Native.Nat.{◌+◌, ◌-◌}
+use Prim.Native.Nat.{◌+◌}
 use mathlib.Core.Path.{refl, sym}
-use mathlib.Core.Bool.{true, false}
+use mathlib.Core.Bool.{false}
 use native.Mathlib.Omega.{arith}
 use Rattle.def_tree.specs.Combine.{skip, split_f}
 use Rattle.def_tree.proofs.Sims.{sim-skip}

@@ -1,7 +1,7 @@
 -- The goals of forin. Assumes nothing.
 use Prim.Native.Nat.{suc, ◌+◌, ◌-◌}
 use mathlib.Core.Path.{refl, sym, ◌∙◌}
-use mathlib.Core.Bool.{true, false}
+use mathlib.Core.Bool.{true}
 use native.Mathlib.Omega.{arith}
 use Rattle.def_tree.specs.Combine.{◌>>=◌, ◌>>◌, ret, act, act_f, split_f, each_but_f, on_kids_f}
 use Rattle.def_pass.specs.Scope.{loop as loop_kind}

@@ -1,7 +1,6 @@
 -- The goals of fors. Assumes nothing.
-use Prim.Native.Nat.{◌-◌}
 use mathlib.Core.Path.{refl, sym, ◌∙◌}
-use mathlib.Core.Bool.{true, false}
+use mathlib.Core.Bool.{true}
 use native.Mathlib.Omega.{arith}
 use Rattle.def_tree.specs.Combine.{each_but_f}
 use Rattle.def_pass.specs.Tree.{kids}

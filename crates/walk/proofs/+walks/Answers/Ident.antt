@@ -1,5 +1,4 @@
 -- The goals of ident. Assumes nothing.
-use Prim.Native.Nat.{◌-◌}
 use mathlib.Core.Path.{sym}
 use mathlib.Core.Option.{some}
 use native.Mathlib.Omega.{arith}

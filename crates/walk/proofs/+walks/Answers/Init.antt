@@ -2,7 +2,7 @@
 use Prim.Native.Nat.{suc, ◌+◌, ◌-◌}
 use mathlib.Core.Path.{refl, sym, ◌∙◌}
 use native.Mathlib.Omega.{arith}
-use Rattle.def_tree.specs.Combine.{skip, tree_at}
+use Rattle.def_tree.specs.Combine.{tree_at}
 use Rattle.def_tree.proofs.Sims.{sim-skip}
 use Rattle.words_state.specs.State.{abs, rest}
 use Rattle.laws_flat.specs.WalkF.{walks_f}

@@ -1,5 +1,4 @@
 -- The goals of kids. Assumes nothing.
-use Prim.Native.Nat.{◌-◌}
 use native.Mathlib.Omega.{arith}
 use Rattle.def_tree.specs.Combine.{many}
 use Rattle.laws_flat.specs.WalkF.{walks_f, plain_f}

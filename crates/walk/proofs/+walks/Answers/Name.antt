@@ -1,8 +1,8 @@
 -- The goals of name. Assumes nothing.
-use Prim.Native.Nat.{suc, ◌+◌, ◌-◌}
+use Prim.Native.Nat.{suc, ◌+◌}
 use mathlib.Core.Path.{refl, sym, ◌∙◌}
 use native.Mathlib.Omega.{arith}
-use Rattle.def_tree.specs.Combine.{skip, skips}
+use Rattle.def_tree.specs.Combine.{skips}
 use Rattle.laws_flat.specs.WalkF.{walks_f}
 use Rattle.laws_flat.proofs.Sim.{sims}
 use Rattle.walk_laws.proofs.Codes as codes

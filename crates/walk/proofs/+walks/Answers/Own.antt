@@ -1,10 +1,9 @@
 -- The goals of own. Assumes nothing.
-use Prim.Native.Nat.{ℕ, ◌<◌, ◌≤◌, ◌-◌}
+use Prim.Native.Nat.{ℕ, ◌<◌, ◌≤◌}
 use mathlib.Core.Path.{◌≡◌, refl, ap}
 use mathlib.Core.Logic.{inl, inr}
 use native.Mathlib.Omega.{arith}
 use lib.ListN.{get_or}
-use Rattle.def_pass.specs.Tree.{kids}
 use Rattle.def_pass.specs.Walk.{handlers, h_plain, h_script, h_block, h_decl, h_declr, h_fun, h_if, h_while, h_for, h_for_in, h_try, h_catch, h_case, h_pat, h_unary, h_update, h_assign, h_call, h_new, h_fun_expr, h_arrow}
 use Rattle.laws_flat.specs.WalkF.{walks_f, handle_f}
 use Rattle.walk_laws.proofs.Heres as heres

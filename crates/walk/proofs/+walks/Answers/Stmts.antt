@@ -1,8 +1,6 @@
 -- The goals of stmts. Assumes nothing.
-use Prim.Native.Nat.{◌-◌}
 use mathlib.Core.Path.{sym, ◌∙◌}
 use native.Mathlib.Omega.{arith}
-use Rattle.def_tree.specs.Combine.{many}
 use Rattle.def_tree.proofs.Sims.{sim-each}
 use Rattle.laws_flat.specs.WalkF.{walks_f}
 use Rattle.laws_flat.proofs.Sim.{sims}

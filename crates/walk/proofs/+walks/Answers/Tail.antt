@@ -1,5 +1,4 @@
 -- The goals of tail. Assumes nothing.
-use Prim.Native.Nat.{◌-◌}
 use mathlib.Core.Path.{refl}
 use native.Mathlib.Omega.{arith}
 use Rattle.def_tree.specs.Combine.{skip, many}

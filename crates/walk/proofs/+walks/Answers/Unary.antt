@@ -1,7 +1,5 @@
 -- The goals of unary. Assumes nothing.
-use Prim.Native.Nat.{◌-◌}
 use native.Mathlib.Omega.{arith}
-use Rattle.def_pass.specs.Tree.{kids}
 use Rattle.laws_flat.specs.WalkF.{visit_mut_unary_expr_f, visit_mut_update_expr_f}
 use Rattle.walk_laws.proofs.Heres as heres
 use Rattle.walk_laws.proofs.Ways as ways
