@@ -8,7 +8,6 @@ use lib.ListN.{length, get_or}
 use Rattle.def_tree.specs.Combine.{Res, stop, done, Nothing, and_then}
 use Rattle.def_pass.specs.Scope.{Stack}
 use Rattle.def_pass.specs.Walk.{St, M, set_stack, mark, grow}
-use Rattle.words.specs.Layout.{tree}
 use Rattle.words.proofs.Nodes.{tree-length}
 use Rattle.words_scopes.specs.State.{Becomes, stack}
 use Rattle.scope_values.specs.Steps.{Still, Grown, over}

@@ -1,5 +1,5 @@
 -- Request 9 in the words: the live counts, from word 8080 on, plus the ended total, word 12, are the replacements made, word 13. Assumes nothing: these are definitions.
-use Rattle.std.specs.Prelude.{◌≡◌, List, ℕ, ◌+◌, ◌-◌, ◌%◌, get_or}
+use Rattle.std.specs.Prelude.{◌≡◌, List, ℕ, ◌+◌, ◌%◌, get_or}
 use Rattle.def_tree.specs.Combine.{done}
 use Rattle.words.specs.Tab.{sum}
 use Rattle.def_pass.specs.Scope.{live_counts}

@@ -1,4 +1,3 @@
-use borrow.Author.Rules.{rules}
 use Rattle.scope.proofs.add_const.Goals as goal
 
 pub add_const-requires : goal.add_const-requires

@@ -1,4 +1,3 @@
-use borrow.Author.Rules.{rules}
 use Rattle.scope.proofs.declare.Goals as goal
 
 pub declare-requires : goal.declare-requires

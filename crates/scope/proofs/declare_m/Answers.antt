@@ -7,7 +7,6 @@ use Rattle.words_state.specs.State.{rest}
 use Rattle.def_pass.specs.Scope.{declare}
 use Rattle.scope_define.specs.Kinds.{type_of}
 use Rattle.scope_declare.specs.Inits.{init_from}
-use borrow.Author.Rules.{rules}
 use Rattle.scope.proofs.declare_m.Goals as goal
 
 pub sited-e-requires : goal.sited-e-requires

@@ -1,4 +1,3 @@
-use borrow.Author.Rules.{rules}
 use Rattle.scope.proofs.first_value.Goals as goal
 
 pub first_value-requires : goal.first_value-requires

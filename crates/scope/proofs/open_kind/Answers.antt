@@ -5,7 +5,6 @@ use borrow.Author.Tests.{le-leb, lt-leb}
 use Rattle.words_scopes.specs.State.{stack}
 use Rattle.scope_values.proofs.Listed as listed
 use Rattle.scope_values.proofs.Count as count
-use borrow.Author.Rules.{rules}
 use Rattle.scope.proofs.open_kind.Goals as goal
 
 pub returns-then-w-ge32 : goal.returns-then-w-ge32

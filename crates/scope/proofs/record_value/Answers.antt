@@ -1,4 +1,3 @@
-use borrow.Author.Rules.{rules}
 use Rattle.scope.proofs.record_value.Goals as goal
 
 pub record_value-requires : goal.record_value-requires

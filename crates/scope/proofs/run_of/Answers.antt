@@ -1,7 +1,6 @@
 use native.Mathlib.Omega.{arith}
 use Prim.Native.Nat.{◌-◌}
 use Rattle.scope.proofs.Given as given
-use borrow.Author.Rules.{rules}
 use Rattle.scope.proofs.run_of.Goals as goal
 
 pub in_tree-requires : goal.in_tree-requires

@@ -1,8 +1,7 @@
-use mathlib.Core.Path.{◌≡◌, refl, sym, ap, ◌∙◌}
+use mathlib.Core.Path.{sym, ap}
 use lib.ListN.{get_or}
 use Rattle.scope.specs.Given.{init_o}
 use Rattle.scope.proofs.Given as given
-use borrow.Author.Rules.{rules}
 use Rattle.scope.proofs.sited.Goals as goal
 
 pub returns-then-in_tree : goal.returns-then-in_tree

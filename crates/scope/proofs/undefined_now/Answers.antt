@@ -7,7 +7,6 @@ use Rattle.def_pass.specs.Scope.{is_var}
 use Rattle.words_scopes.specs.State.{var_type_of}
 use Rattle.scope_find.proofs.Facts.{var-no, flag}
 use Rattle.scope_declare.specs.Inits.{has_none}
-use borrow.Author.Rules.{rules}
 use Rattle.scope.proofs.undefined_now.Goals as goal
 
 pub returns-then-w-ne1 : goal.returns-then-w-ne1
