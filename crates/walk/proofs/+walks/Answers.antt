@@ -99,14 +99,8 @@ after-form_at-f-requires = of_after.after-form_at-f-requires
 pub after-returns-then-f-ne0 : goal.after-returns-then-f-ne0
 after-returns-then-f-ne0 = of_after.after-returns-then-f-ne0
 
-pub after-bounds-w-6 : goal.after-bounds-w-6
-after-bounds-w-6 = of_after.after-bounds-w-6
-
 pub after-returns-then-w-eq0 : goal.after-returns-then-w-eq0
 after-returns-then-w-eq0 = of_after.after-returns-then-w-eq0
-
-pub after-overflow_cast-p : goal.after-overflow_cast-p
-after-overflow_cast-p = of_after.after-overflow_cast-p
 
 pub after-after_assign-requires : goal.after-after_assign-requires
 after-after_assign-requires = of_after.after-after_assign-requires
@@ -117,38 +111,17 @@ after-coded-requires = of_after.after-coded-requires
 pub after-returns : goal.after-returns
 after-returns = of_after.after-returns
 
-pub arm-bounds-w-6 : goal.arm-bounds-w-6
-arm-bounds-w-6 = of_arm.arm-bounds-w-6
-
-pub arm-bounds-w-8 : goal.arm-bounds-w-8
-arm-bounds-w-8 = of_arm.arm-bounds-w-8
-
-pub arm-bounds-w-9 : goal.arm-bounds-w-9
-arm-bounds-w-9 = of_arm.arm-bounds-w-9
-
-pub arm-bounds-w-10 : goal.arm-bounds-w-10
-arm-bounds-w-10 = of_arm.arm-bounds-w-10
-
-pub arm-enter-e-requires : goal.arm-enter-e-requires
-arm-enter-e-requires = of_arm.arm-enter-e-requires
-
 pub arm-returns-then-e-ne0 : goal.arm-returns-then-e-ne0
 arm-returns-then-e-ne0 = of_arm.arm-returns-then-e-ne0
 
 pub arm-returns-then-d-eq0 : goal.arm-returns-then-d-eq0
 arm-returns-then-d-eq0 = of_arm.arm-returns-then-d-eq0
 
-pub arm-overflow_sub-d : goal.arm-overflow_sub-d
-arm-overflow_sub-d = of_arm.arm-overflow_sub-d
-
 pub arm-own-r-requires : goal.arm-own-r-requires
 arm-own-r-requires = of_arm.arm-own-r-requires
 
 pub arm-returns-in_default : goal.arm-returns-in_default
 arm-returns-in_default = of_arm.arm-returns-in_default
-
-pub arm-leave-requires : goal.arm-leave-requires
-arm-leave-requires = of_arm.arm-leave-requires
 
 pub arm-returns : goal.arm-returns
 arm-returns = of_arm.arm-returns
@@ -162,32 +135,11 @@ arms-arm-r-requires = of_arms.arms-arm-r-requires
 pub arms-returns-in_default : goal.arms-returns-in_default
 arms-returns-in_default = of_arms.arms-returns-in_default
 
-pub arms-overflow_add-k : goal.arms-overflow_add-k
-arms-overflow_add-k = of_arms.arms-overflow_add-k
-
-pub arms-loop-k-smaller : goal.arms-loop-k-smaller
-arms-loop-k-smaller = of_arms.arms-loop-k-smaller
-
 pub arms-loop-k-preserved : goal.arms-loop-k-preserved
 arms-loop-k-preserved = of_arms.arms-loop-k-preserved
 
 pub arms-returns : goal.arms-returns
 arms-returns = of_arms.arms-returns
-
-pub arrow-bounds-w-6 : goal.arrow-bounds-w-6
-arrow-bounds-w-6 = of_arrow.arrow-bounds-w-6
-
-pub arrow-bounds-w-8 : goal.arrow-bounds-w-8
-arrow-bounds-w-8 = of_arrow.arrow-bounds-w-8
-
-pub arrow-bounds-w-9 : goal.arrow-bounds-w-9
-arrow-bounds-w-9 = of_arrow.arrow-bounds-w-9
-
-pub arrow-bounds-w-10 : goal.arrow-bounds-w-10
-arrow-bounds-w-10 = of_arrow.arrow-bounds-w-10
-
-pub arrow-enter-e-requires : goal.arrow-enter-e-requires
-arrow-enter-e-requires = of_arrow.arrow-enter-e-requires
 
 pub arrow-returns-then-e-ne0 : goal.arrow-returns-then-e-ne0
 arrow-returns-then-e-ne0 = of_arrow.arrow-returns-then-e-ne0
@@ -198,14 +150,8 @@ arrow-kids-r-requires = of_arrow.arrow-kids-r-requires
 pub arrow-returns-in_default : goal.arrow-returns-in_default
 arrow-returns-in_default = of_arrow.arrow-returns-in_default
 
-pub arrow-leave-requires : goal.arrow-leave-requires
-arrow-leave-requires = of_arrow.arrow-leave-requires
-
 pub arrow-returns : goal.arrow-returns
 arrow-returns = of_arrow.arrow-returns
-
-pub assign-set_pat_mode-requires : goal.assign-set_pat_mode-requires
-assign-set_pat_mode-requires = of_assign.assign-set_pat_mode-requires
 
 pub assign-form_at-f-requires : goal.assign-form_at-f-requires
 assign-form_at-f-requires = of_assign.assign-form_at-f-requires
@@ -264,32 +210,11 @@ binds-returns-in_default = of_binds.binds-returns-in_default
 pub binds-mark_caught-requires : goal.binds-mark_caught-requires
 binds-mark_caught-requires = of_binds.binds-mark_caught-requires
 
-pub binds-overflow_add-k : goal.binds-overflow_add-k
-binds-overflow_add-k = of_binds.binds-overflow_add-k
-
-pub binds-loop-k-smaller : goal.binds-loop-k-smaller
-binds-loop-k-smaller = of_binds.binds-loop-k-smaller
-
 pub binds-loop-k-preserved : goal.binds-loop-k-preserved
 binds-loop-k-preserved = of_binds.binds-loop-k-preserved
 
 pub binds-returns : goal.binds-returns
 binds-returns = of_binds.binds-returns
-
-pub block-bounds-w-6 : goal.block-bounds-w-6
-block-bounds-w-6 = of_block.block-bounds-w-6
-
-pub block-bounds-w-8 : goal.block-bounds-w-8
-block-bounds-w-8 = of_block.block-bounds-w-8
-
-pub block-bounds-w-9 : goal.block-bounds-w-9
-block-bounds-w-9 = of_block.block-bounds-w-9
-
-pub block-bounds-w-10 : goal.block-bounds-w-10
-block-bounds-w-10 = of_block.block-bounds-w-10
-
-pub block-enter-e-requires : goal.block-enter-e-requires
-block-enter-e-requires = of_block.block-enter-e-requires
 
 pub block-returns-then-e-ne0 : goal.block-returns-then-e-ne0
 block-returns-then-e-ne0 = of_block.block-returns-then-e-ne0
@@ -299,9 +224,6 @@ block-body-r-requires = of_block.block-body-r-requires
 
 pub block-returns-in_default : goal.block-returns-in_default
 block-returns-in_default = of_block.block-returns-in_default
-
-pub block-leave-requires : goal.block-leave-requires
-block-leave-requires = of_block.block-leave-requires
 
 pub block-returns : goal.block-returns
 block-returns = of_block.block-returns
@@ -323,9 +245,6 @@ body-returns = of_body.body-returns
 
 pub call-arity_at-n-requires : goal.call-arity_at-n-requires
 call-arity_at-n-requires = of_call.call-arity_at-n-requires
-
-pub call-store_barrier-requires : goal.call-store_barrier-requires
-call-store_barrier-requires = of_call.call-store_barrier-requires
 
 pub call-overflow_add-result : goal.call-overflow_add-result
 call-overflow_add-result = of_call.call-overflow_add-result
@@ -351,9 +270,6 @@ call-overflow_add-i-2 = of_call.call-overflow_add-i-2
 pub call-mark_callee-requires : goal.call-mark_callee-requires
 call-mark_callee-requires = of_call.call-mark_callee-requires
 
-pub call-overflow_sub-n : goal.call-overflow_sub-n
-call-overflow_sub-n = of_call.call-overflow_sub-n
-
 pub call-write_args-e-requires : goal.call-write_args-e-requires
 call-write_args-e-requires = of_call.call-write_args-e-requires
 
@@ -363,35 +279,14 @@ call-returns-then-e-ne0 = of_call.call-returns-then-e-ne0
 pub call-overflow_add-p-2 : goal.call-overflow_add-p-2
 call-overflow_add-p-2 = of_call.call-overflow_add-p-2
 
-pub call-overflow_sub-n-2 : goal.call-overflow_sub-n-2
-call-overflow_sub-n-2 = of_call.call-overflow_sub-n-2
-
 pub call-many-s-requires : goal.call-many-s-requires
 call-many-s-requires = of_call.call-many-s-requires
 
 pub call-returns-in_default-next : goal.call-returns-in_default-next
 call-returns-in_default-next = of_call.call-returns-in_default-next
 
-pub call-store_barrier-requires-2 : goal.call-store_barrier-requires-2
-call-store_barrier-requires-2 = of_call.call-store_barrier-requires-2
-
 pub call-returns : goal.call-returns
 call-returns = of_call.call-returns
-
-pub case-bounds-w-6 : goal.case-bounds-w-6
-case-bounds-w-6 = of_case.case-bounds-w-6
-
-pub case-bounds-w-8 : goal.case-bounds-w-8
-case-bounds-w-8 = of_case.case-bounds-w-8
-
-pub case-bounds-w-9 : goal.case-bounds-w-9
-case-bounds-w-9 = of_case.case-bounds-w-9
-
-pub case-bounds-w-10 : goal.case-bounds-w-10
-case-bounds-w-10 = of_case.case-bounds-w-10
-
-pub case-enter-e-requires : goal.case-enter-e-requires
-case-enter-e-requires = of_case.case-enter-e-requires
 
 pub case-returns-then-e-ne0 : goal.case-returns-then-e-ne0
 case-returns-then-e-ne0 = of_case.case-returns-then-e-ne0
@@ -402,38 +297,14 @@ case-items-r-requires = of_case.case-items-r-requires
 pub case-returns-in_default : goal.case-returns-in_default
 case-returns-in_default = of_case.case-returns-in_default
 
-pub case-leave-requires : goal.case-leave-requires
-case-leave-requires = of_case.case-leave-requires
-
 pub case-returns : goal.case-returns
 case-returns = of_case.case-returns
-
-pub catch-bounds-w-6 : goal.catch-bounds-w-6
-catch-bounds-w-6 = of_catch.catch-bounds-w-6
-
-pub catch-bounds-w-8 : goal.catch-bounds-w-8
-catch-bounds-w-8 = of_catch.catch-bounds-w-8
-
-pub catch-bounds-w-9 : goal.catch-bounds-w-9
-catch-bounds-w-9 = of_catch.catch-bounds-w-9
-
-pub catch-bounds-w-10 : goal.catch-bounds-w-10
-catch-bounds-w-10 = of_catch.catch-bounds-w-10
-
-pub catch-enter-e-requires : goal.catch-enter-e-requires
-catch-enter-e-requires = of_catch.catch-enter-e-requires
 
 pub catch-returns-then-e-ne0 : goal.catch-returns-then-e-ne0
 catch-returns-then-e-ne0 = of_catch.catch-returns-then-e-ne0
 
-pub catch-set_pat_mode-requires : goal.catch-set_pat_mode-requires
-catch-set_pat_mode-requires = of_catch.catch-set_pat_mode-requires
-
 pub catch-arity_at-n-requires : goal.catch-arity_at-n-requires
 catch-arity_at-n-requires = of_catch.catch-arity_at-n-requires
-
-pub catch-leave-requires : goal.catch-leave-requires
-catch-leave-requires = of_catch.catch-leave-requires
 
 pub catch-overflow_add-result : goal.catch-overflow_add-result
 catch-overflow_add-result = of_catch.catch-overflow_add-result
@@ -443,9 +314,6 @@ catch-returns-then-n-eq0 = of_catch.catch-returns-then-n-eq0
 
 pub catch-overflow_add-p : goal.catch-overflow_add-p
 catch-overflow_add-p = of_catch.catch-overflow_add-p
-
-pub catch-overflow_sub-n : goal.catch-overflow_sub-n
-catch-overflow_sub-n = of_catch.catch-overflow_sub-n
 
 pub catch-overflow_add-i : goal.catch-overflow_add-i
 catch-overflow_add-i = of_catch.catch-overflow_add-i
@@ -465,17 +333,11 @@ catch-full-s-requires = of_catch.catch-full-s-requires
 pub catch-returns-in_default-next : goal.catch-returns-in_default-next
 catch-returns-in_default-next = of_catch.catch-returns-in_default-next
 
-pub catch-leave-requires-2 : goal.catch-leave-requires-2
-catch-leave-requires-2 = of_catch.catch-leave-requires-2
-
 pub catch-returns : goal.catch-returns
 catch-returns = of_catch.catch-returns
 
 pub conds-loop-k-init : goal.conds-loop-k-init
 conds-loop-k-init = of_conds.conds-loop-k-init
-
-pub conds-bounds-w-11 : goal.conds-bounds-w-11
-conds-bounds-w-11 = of_conds.conds-bounds-w-11
 
 pub conds-deeper-e-requires : goal.conds-deeper-e-requires
 conds-deeper-e-requires = of_conds.conds-deeper-e-requires
@@ -489,15 +351,6 @@ conds-arm-r-requires = of_conds.conds-arm-r-requires
 pub conds-returns-in_default : goal.conds-returns-in_default
 conds-returns-in_default = of_conds.conds-returns-in_default
 
-pub conds-set_conds-requires : goal.conds-set_conds-requires
-conds-set_conds-requires = of_conds.conds-set_conds-requires
-
-pub conds-overflow_add-k : goal.conds-overflow_add-k
-conds-overflow_add-k = of_conds.conds-overflow_add-k
-
-pub conds-loop-k-smaller : goal.conds-loop-k-smaller
-conds-loop-k-smaller = of_conds.conds-loop-k-smaller
-
 pub conds-loop-k-preserved : goal.conds-loop-k-preserved
 conds-loop-k-preserved = of_conds.conds-loop-k-preserved
 
@@ -506,9 +359,6 @@ conds-returns = of_conds.conds-returns
 
 pub decl-form_at-f-requires : goal.decl-form_at-f-requires
 decl-form_at-f-requires = of_decl.decl-form_at-f-requires
-
-pub decl-set_var_decl_kind-requires : goal.decl-set_var_decl_kind-requires
-decl-set_var_decl_kind-requires = of_decl.decl-set_var_decl_kind-requires
 
 pub decl-kids-requires : goal.decl-kids-requires
 decl-kids-requires = of_decl.decl-kids-requires
@@ -531,9 +381,6 @@ declr-tail-r-requires = of_declr.declr-tail-r-requires
 pub declr-returns-in_default : goal.declr-returns-in_default
 declr-returns-in_default = of_declr.declr-returns-in_default
 
-pub declr-set_pat_mode-requires : goal.declr-set_pat_mode-requires
-declr-set_pat_mode-requires = of_declr.declr-set_pat_mode-requires
-
 pub declr-overflow_add-i-2 : goal.declr-overflow_add-i-2
 declr-overflow_add-i-2 = of_declr.declr-overflow_add-i-2
 
@@ -545,9 +392,6 @@ declr-name-requires = of_declr.declr-name-requires
 
 pub declr-returns-then-nameless : goal.declr-returns-then-nameless
 declr-returns-then-nameless = of_declr.declr-returns-then-nameless
-
-pub declr-bounds-w-6 : goal.declr-bounds-w-6
-declr-bounds-w-6 = of_declr.declr-bounds-w-6
 
 pub declr-init-requires : goal.declr-init-requires
 declr-init-requires = of_declr.declr-init-requires
@@ -612,9 +456,6 @@ fdecl-overflow_add-i = of_fdecl.fdecl-overflow_add-i
 pub fdecl-skip-j-requires : goal.fdecl-skip-j-requires
 fdecl-skip-j-requires = of_fdecl.fdecl-skip-j-requires
 
-pub fdecl-overflow_sub-n : goal.fdecl-overflow_sub-n
-fdecl-overflow_sub-n = of_fdecl.fdecl-overflow_sub-n
-
 pub fdecl-func-requires : goal.fdecl-func-requires
 fdecl-func-requires = of_fdecl.fdecl-func-requires
 
@@ -654,17 +495,11 @@ fexpr-overflow_add-i-2 = of_fexpr.fexpr-overflow_add-i-2
 pub fexpr-skip-j-requires : goal.fexpr-skip-j-requires
 fexpr-skip-j-requires = of_fexpr.fexpr-skip-j-requires
 
-pub fexpr-overflow_sub-n : goal.fexpr-overflow_sub-n
-fexpr-overflow_sub-n = of_fexpr.fexpr-overflow_sub-n
-
 pub fexpr-func-requires-2 : goal.fexpr-func-requires-2
 fexpr-func-requires-2 = of_fexpr.fexpr-func-requires-2
 
 pub fexpr-returns : goal.fexpr-returns
 fexpr-returns = of_fexpr.fexpr-returns
-
-pub forin-set_pat_mode-requires : goal.forin-set_pat_mode-requires
-forin-set_pat_mode-requires = of_forin.forin-set_pat_mode-requires
 
 pub forin-arity_at-n-requires : goal.forin-arity_at-n-requires
 forin-arity_at-n-requires = of_forin.forin-arity_at-n-requires
@@ -696,9 +531,6 @@ forin-write_tree-e-requires = of_forin.forin-write_tree-e-requires
 pub forin-returns-then-e-ne0 : goal.forin-returns-then-e-ne0
 forin-returns-then-e-ne0 = of_forin.forin-returns-then-e-ne0
 
-pub forin-overflow_sub-n : goal.forin-overflow_sub-n
-forin-overflow_sub-n = of_forin.forin-overflow_sub-n
-
 pub forin-write_but_last-g-requires : goal.forin-write_but_last-g-requires
 forin-write_but_last-g-requires = of_forin.forin-write_but_last-g-requires
 
@@ -707,9 +539,6 @@ forin-returns-then-g-ne0 = of_forin.forin-returns-then-g-ne0
 
 pub forin-overflow_add-p-2 : goal.forin-overflow_add-p-2
 forin-overflow_add-p-2 = of_forin.forin-overflow_add-p-2
-
-pub forin-overflow_sub-n-2 : goal.forin-overflow_sub-n-2
-forin-overflow_sub-n-2 = of_forin.forin-overflow_sub-n-2
 
 pub forin-loops-requires : goal.forin-loops-requires
 forin-loops-requires = of_forin.forin-loops-requires
@@ -741,9 +570,6 @@ fors-loops-r-requires = of_fors.fors-loops-r-requires
 pub fors-returns-in_default : goal.fors-returns-in_default
 fors-returns-in_default = of_fors.fors-returns-in_default
 
-pub fors-store_barrier-requires : goal.fors-store_barrier-requires
-fors-store_barrier-requires = of_fors.fors-store_barrier-requires
-
 pub fors-returns-then-f-eq0 : goal.fors-returns-then-f-eq0
 fors-returns-then-f-eq0 = of_fors.fors-returns-then-f-eq0
 
@@ -759,9 +585,6 @@ full-bare-requires = of_full.full-bare-requires
 pub full-kind_at-requires : goal.full-kind_at-requires
 full-kind_at-requires = of_full.full-kind_at-requires
 
-pub full-overflow_sub-l : goal.full-overflow_sub-l
-full-overflow_sub-l = of_full.full-overflow_sub-l
-
 pub full-ident-requires : goal.full-ident-requires
 full-ident-requires = of_full.full-ident-requires
 
@@ -773,9 +596,6 @@ full-overflow_add-result = of_full.full-overflow_add-result
 
 pub full-returns-then-bare : goal.full-returns-then-bare
 full-returns-then-bare = of_full.full-returns-then-bare
-
-pub full-overflow_sub-l-2 : goal.full-overflow_sub-l-2
-full-overflow_sub-l-2 = of_full.full-overflow_sub-l-2
 
 pub full-own-r-requires : goal.full-own-r-requires
 full-own-r-requires = of_full.full-own-r-requires
@@ -789,41 +609,14 @@ full-settled-requires = of_full.full-settled-requires
 pub full-returns-then-settled : goal.full-returns-then-settled
 full-returns-then-settled = of_full.full-returns-then-settled
 
-pub full-overflow_sub-l-3 : goal.full-overflow_sub-l-3
-full-overflow_sub-l-3 = of_full.full-overflow_sub-l-3
-
 pub full-after-requires : goal.full-after-requires
 full-after-requires = of_full.full-after-requires
 
 pub full-returns : goal.full-returns
 full-returns = of_full.full-returns
 
-pub func-bounds-w-6 : goal.func-bounds-w-6
-func-bounds-w-6 = of_func.func-bounds-w-6
-
-pub func-bounds-w-8 : goal.func-bounds-w-8
-func-bounds-w-8 = of_func.func-bounds-w-8
-
-pub func-bounds-w-9 : goal.func-bounds-w-9
-func-bounds-w-9 = of_func.func-bounds-w-9
-
-pub func-bounds-w-10 : goal.func-bounds-w-10
-func-bounds-w-10 = of_func.func-bounds-w-10
-
-pub func-overflow_add-named : goal.func-overflow_add-named
-func-overflow_add-named = of_func.func-overflow_add-named
-
-pub func-enter-e-requires : goal.func-enter-e-requires
-func-enter-e-requires = of_func.func-enter-e-requires
-
 pub func-returns-then-e-ne0 : goal.func-returns-then-e-ne0
 func-returns-then-e-ne0 = of_func.func-returns-then-e-ne0
-
-pub func-set_pat_mode-requires : goal.func-set_pat_mode-requires
-func-set_pat_mode-requires = of_func.func-set_pat_mode-requires
-
-pub func-overflow_add-p : goal.func-overflow_add-p
-func-overflow_add-p = of_func.func-overflow_add-p
 
 pub func-params-r-requires : goal.func-params-r-requires
 func-params-r-requires = of_func.func-params-r-requires
@@ -831,17 +624,11 @@ func-params-r-requires = of_func.func-params-r-requires
 pub func-returns-in_default : goal.func-returns-in_default
 func-returns-in_default = of_func.func-returns-in_default
 
-pub func-leave-requires : goal.func-leave-requires
-func-leave-requires = of_func.func-leave-requires
-
 pub func-returns : goal.func-returns
 func-returns = of_func.func-returns
 
 pub ident-constant-m-requires : goal.ident-constant-m-requires
 ident-constant-m-requires = of_ident.ident-constant-m-requires
-
-pub ident-overflow_cast-p : goal.ident-overflow_cast-p
-ident-overflow_cast-p = of_ident.ident-overflow_cast-p
 
 pub ident-inline_constant-r-requires : goal.ident-inline_constant-r-requires
 ident-inline_constant-r-requires = of_ident.ident-inline_constant-r-requires
@@ -858,9 +645,6 @@ ident-full-requires = of_ident.ident-full-requires
 pub ident-returns-then-m-gt0 : goal.ident-returns-then-m-gt0
 ident-returns-then-m-gt0 = of_ident.ident-returns-then-m-gt0
 
-pub ident-bounds-w-6 : goal.ident-bounds-w-6
-ident-bounds-w-6 = of_ident.ident-bounds-w-6
-
 pub ident-ident_analysis-requires : goal.ident-ident_analysis-requires
 ident-ident_analysis-requires = of_ident.ident-ident_analysis-requires
 
@@ -876,17 +660,11 @@ ident-fate-requires = of_ident.ident-fate-requires
 pub ident-skip-requires-in-Nothing : goal.ident-skip-requires-in-Nothing
 ident-skip-requires-in-Nothing = of_ident.ident-skip-requires-in-Nothing
 
-pub ident-overflow_cast-p-in-Void : goal.ident-overflow_cast-p-in-Void
-ident-overflow_cast-p-in-Void = of_ident.ident-overflow_cast-p-in-Void
-
 pub ident-inline_undefined-requires : goal.ident-inline_undefined-requires
 ident-inline_undefined-requires = of_ident.ident-inline_undefined-requires
 
 pub ident-coded-requires-in-Void : goal.ident-coded-requires-in-Void
 ident-coded-requires-in-Void = of_ident.ident-coded-requires-in-Void
-
-pub ident-overflow_cast-p-in-Value : goal.ident-overflow_cast-p-in-Value
-ident-overflow_cast-p-in-Value = of_ident.ident-overflow_cast-p-in-Value
 
 pub ident-inline_value-r-requires : goal.ident-inline_value-r-requires
 ident-inline_value-r-requires = of_ident.ident-inline_value-r-requires
@@ -918,12 +696,6 @@ ifs-overflow_add-result = of_ifs.ifs-overflow_add-result
 pub ifs-returns-then-n-eq0 : goal.ifs-returns-then-n-eq0
 ifs-returns-then-n-eq0 = of_ifs.ifs-returns-then-n-eq0
 
-pub ifs-bounds-w-10 : goal.ifs-bounds-w-10
-ifs-bounds-w-10 = of_ifs.ifs-bounds-w-10
-
-pub ifs-set_in_test-requires : goal.ifs-set_in_test-requires
-ifs-set_in_test-requires = of_ifs.ifs-set_in_test-requires
-
 pub ifs-overflow_add-p : goal.ifs-overflow_add-p
 ifs-overflow_add-p = of_ifs.ifs-overflow_add-p
 
@@ -936,23 +708,14 @@ ifs-full-r-requires = of_ifs.ifs-full-r-requires
 pub ifs-returns-in_default : goal.ifs-returns-in_default
 ifs-returns-in_default = of_ifs.ifs-returns-in_default
 
-pub ifs-set_in_test-requires-2 : goal.ifs-set_in_test-requires-2
-ifs-set_in_test-requires-2 = of_ifs.ifs-set_in_test-requires-2
-
 pub ifs-overflow_add-p-2 : goal.ifs-overflow_add-p-2
 ifs-overflow_add-p-2 = of_ifs.ifs-overflow_add-p-2
-
-pub ifs-overflow_sub-n : goal.ifs-overflow_sub-n
-ifs-overflow_sub-n = of_ifs.ifs-overflow_sub-n
 
 pub ifs-arms-requires : goal.ifs-arms-requires
 ifs-arms-requires = of_ifs.ifs-arms-requires
 
 pub ifs-returns : goal.ifs-returns
 ifs-returns = of_ifs.ifs-returns
-
-pub init-bounds-w-8 : goal.init-bounds-w-8
-init-bounds-w-8 = of_init.init-bounds-w-8
 
 pub init-name-requires : goal.init-name-requires
 init-name-requires = of_init.init-name-requires
@@ -977,9 +740,6 @@ init-overflow_add-i-3 = of_init.init-overflow_add-i-3
 
 pub init-skip-j-requires : goal.init-skip-j-requires
 init-skip-j-requires = of_init.init-skip-j-requires
-
-pub init-overflow_sub-n : goal.init-overflow_sub-n
-init-overflow_sub-n = of_init.init-overflow_sub-n
 
 pub init-stays-requires : goal.init-stays-requires
 init-stays-requires = of_init.init-stays-requires
@@ -1007,9 +767,6 @@ init-returns-in_default = of_init.init-returns-in_default
 
 pub init-skip-end-requires : goal.init-skip-end-requires
 init-skip-end-requires = of_init.init-skip-end-requires
-
-pub init-overflow_sub-n-2 : goal.init-overflow_sub-n-2
-init-overflow_sub-n-2 = of_init.init-overflow_sub-n-2
 
 pub init-declr_end-requires-2 : goal.init-declr_end-requires-2
 init-declr_end-requires-2 = of_init.init-declr_end-requires-2
@@ -1049,9 +806,6 @@ items-returns-in_default = of_items.items-returns-in_default
 
 pub items-overflow_add-p-2 : goal.items-overflow_add-p-2
 items-overflow_add-p-2 = of_items.items-overflow_add-p-2
-
-pub items-overflow_sub-n : goal.items-overflow_sub-n
-items-overflow_sub-n = of_items.items-overflow_sub-n
 
 pub items-stmts-requires : goal.items-stmts-requires
 items-stmts-requires = of_items.items-stmts-requires
@@ -1110,9 +864,6 @@ logic-skip-j-requires = of_logic.logic-skip-j-requires
 pub logic-overflow_add-p : goal.logic-overflow_add-p
 logic-overflow_add-p = of_logic.logic-overflow_add-p
 
-pub logic-overflow_sub-n : goal.logic-overflow_sub-n
-logic-overflow_sub-n = of_logic.logic-overflow_sub-n
-
 pub logic-conds-requires : goal.logic-conds-requires
 logic-conds-requires = of_logic.logic-conds-requires
 
@@ -1121,9 +872,6 @@ logic-returns = of_logic.logic-returns
 
 pub loops-returns-then-n-eq0 : goal.loops-returns-then-n-eq0
 loops-returns-then-n-eq0 = of_loops.loops-returns-then-n-eq0
-
-pub loops-overflow_sub-n : goal.loops-overflow_sub-n
-loops-overflow_sub-n = of_loops.loops-overflow_sub-n
 
 pub loops-many-r-requires : goal.loops-many-r-requires
 loops-many-r-requires = of_loops.loops-many-r-requires
@@ -1145,12 +893,6 @@ many-full-r-requires = of_many.many-full-r-requires
 
 pub many-returns-in_default : goal.many-returns-in_default
 many-returns-in_default = of_many.many-returns-in_default
-
-pub many-overflow_add-k : goal.many-overflow_add-k
-many-overflow_add-k = of_many.many-overflow_add-k
-
-pub many-loop-k-smaller : goal.many-loop-k-smaller
-many-loop-k-smaller = of_many.many-loop-k-smaller
 
 pub many-loop-k-preserved : goal.many-loop-k-preserved
 many-loop-k-preserved = of_many.many-loop-k-preserved
@@ -1215,14 +957,8 @@ own-catch-requires = of_own.own-catch-requires
 pub own-case-requires : goal.own-case-requires
 own-case-requires = of_own.own-case-requires
 
-pub own-pats-requires : goal.own-pats-requires
-own-pats-requires = of_own.own-pats-requires
-
 pub own-unary-requires : goal.own-unary-requires
 own-unary-requires = of_own.own-unary-requires
-
-pub own-update-requires : goal.own-update-requires
-own-update-requires = of_own.own-update-requires
 
 pub own-assign-requires : goal.own-assign-requires
 own-assign-requires = of_own.own-assign-requires
@@ -1314,9 +1050,6 @@ own-returns-in_default = of_own.own-returns-in_default
 pub params-returns-then-n-eq0 : goal.params-returns-then-n-eq0
 params-returns-then-n-eq0 = of_params.params-returns-then-n-eq0
 
-pub params-overflow_sub-n : goal.params-overflow_sub-n
-params-overflow_sub-n = of_params.params-overflow_sub-n
-
 pub params-many-r-requires : goal.params-many-r-requires
 params-many-r-requires = of_params.params-many-r-requires
 
@@ -1325,9 +1058,6 @@ params-returns-in_default = of_params.params-returns-in_default
 
 pub params-returns-then-d-eq0 : goal.params-returns-then-d-eq0
 params-returns-then-d-eq0 = of_params.params-returns-then-d-eq0
-
-pub params-overflow_sub-d : goal.params-overflow_sub-d
-params-overflow_sub-d = of_params.params-overflow_sub-d
 
 pub params-body-requires : goal.params-body-requires
 params-body-requires = of_params.params-body-requires
@@ -1344,12 +1074,6 @@ parts-kind_at-kind-requires = of_parts.parts-kind_at-kind-requires
 pub parts-skip-at-requires : goal.parts-skip-at-requires
 parts-skip-at-requires = of_parts.parts-skip-at-requires
 
-pub parts-overflow_add-k : goal.parts-overflow_add-k
-parts-overflow_add-k = of_parts.parts-overflow_add-k
-
-pub parts-loop-k-smaller-then-kind-ne17 : goal.parts-loop-k-smaller-then-kind-ne17
-parts-loop-k-smaller-then-kind-ne17 = of_parts.parts-loop-k-smaller-then-kind-ne17
-
 pub parts-loop-k-preserved-then-kind-ne17 : goal.parts-loop-k-preserved-then-kind-ne17
 parts-loop-k-preserved-then-kind-ne17 = of_parts.parts-loop-k-preserved-then-kind-ne17
 
@@ -1359,20 +1083,11 @@ parts-full-r-requires = of_parts.parts-full-r-requires
 pub parts-returns-in_default : goal.parts-returns-in_default
 parts-returns-in_default = of_parts.parts-returns-in_default
 
-pub parts-overflow_add-k-in-loop-k : goal.parts-overflow_add-k-in-loop-k
-parts-overflow_add-k-in-loop-k = of_parts.parts-overflow_add-k-in-loop-k
-
-pub parts-loop-k-smaller : goal.parts-loop-k-smaller
-parts-loop-k-smaller = of_parts.parts-loop-k-smaller
-
 pub parts-loop-k-preserved : goal.parts-loop-k-preserved
 parts-loop-k-preserved = of_parts.parts-loop-k-preserved
 
 pub parts-returns : goal.parts-returns
 parts-returns = of_parts.parts-returns
-
-pub stmts-bounds-w-6 : goal.stmts-bounds-w-6
-stmts-bounds-w-6 = of_stmts.stmts-bounds-w-6
 
 pub stmts-many-requires : goal.stmts-many-requires
 stmts-many-requires = of_stmts.stmts-many-requires
@@ -1380,17 +1095,11 @@ stmts-many-requires = of_stmts.stmts-many-requires
 pub stmts-returns-then-w-eq0 : goal.stmts-returns-then-w-eq0
 stmts-returns-then-w-eq0 = of_stmts.stmts-returns-then-w-eq0
 
-pub stmts-set_inlining-requires : goal.stmts-set_inlining-requires
-stmts-set_inlining-requires = of_stmts.stmts-set_inlining-requires
-
 pub stmts-many-r-requires : goal.stmts-many-r-requires
 stmts-many-r-requires = of_stmts.stmts-many-r-requires
 
 pub stmts-returns-in_default : goal.stmts-returns-in_default
 stmts-returns-in_default = of_stmts.stmts-returns-in_default
-
-pub stmts-set_inlining-requires-2 : goal.stmts-set_inlining-requires-2
-stmts-set_inlining-requires-2 = of_stmts.stmts-set_inlining-requires-2
 
 pub stmts-many-requires-2 : goal.stmts-many-requires-2
 stmts-many-requires-2 = of_stmts.stmts-many-requires-2
@@ -1403,9 +1112,6 @@ tail-returns-then-n-eq0 = of_tail.tail-returns-then-n-eq0
 
 pub tail-skip-j-requires : goal.tail-skip-j-requires
 tail-skip-j-requires = of_tail.tail-skip-j-requires
-
-pub tail-overflow_sub-n : goal.tail-overflow_sub-n
-tail-overflow_sub-n = of_tail.tail-overflow_sub-n
 
 pub tail-many-requires : goal.tail-many-requires
 tail-many-requires = of_tail.tail-many-requires
@@ -1440,9 +1146,6 @@ tries-skip-j-requires = of_tries.tries-skip-j-requires
 pub tries-overflow_add-p : goal.tries-overflow_add-p
 tries-overflow_add-p = of_tries.tries-overflow_add-p
 
-pub tries-overflow_sub-n : goal.tries-overflow_sub-n
-tries-overflow_sub-n = of_tries.tries-overflow_sub-n
-
 pub tries-parts-requires : goal.tries-parts-requires
 tries-parts-requires = of_tries.tries-parts-requires
 
@@ -1457,9 +1160,6 @@ unary-kids-requires = of_unary.unary-kids-requires
 
 pub unary-returns-then-f-ne6 : goal.unary-returns-then-f-ne6
 unary-returns-then-f-ne6 = of_unary.unary-returns-then-f-ne6
-
-pub unary-update-requires : goal.unary-update-requires
-unary-update-requires = of_unary.unary-update-requires
 
 pub unary-returns : goal.unary-returns
 unary-returns = of_unary.unary-returns

@@ -36,14 +36,8 @@ after-form_at-f-requires t c = heres.at-node c.requires.0
 pub after-returns-then-f-ne0 : goal.after-returns-then-f-ne0
 after-returns-then-f-ne0 t c = codes.did_at (codes.low-tree c.requires.0 c.requires.1) (ways.after-logic (walks_f c.args.d) c.args.p c.args.i (ways.kind-no c.requires.0 21 c.kind_at-k.ensures c.if-k-eq21.false) (ways.second-no (eqb (node_at (abs c.args.w.now) c.args.i).kind 33) (ways.form-no c.requires.0 0 c.form_at-f.ensures c.if-f-ne0.true)) (ways.logic-other (walks_f c.args.d) c.args.p c.args.i c.requires.0.planted (ways.kind-no c.requires.0 32 c.kind_at-k.ensures c.if-k-eq32.false) c.requires.1))
 
-pub after-bounds-w-6 : goal.after-bounds-w-6
-after-bounds-w-6 t c = omega (arith, c.requires.0.planted.good.long)
-
 pub after-returns-then-w-eq0 : goal.after-returns-then-w-eq0
 after-returns-then-w-eq0 t c = codes.did_at (codes.low-tree c.requires.0 c.requires.1) (ways.after-assign (walks_f c.args.d) c.args.p c.args.i (ways.kind-no c.requires.0 21 c.kind_at-k.ensures c.if-k-eq21.false) (ways.both_yes (ways.kind-yes c.requires.0 c.kind_at-k.ensures c.if-k-ne33.false) (ways.form-yes c.requires.0 c.form_at-f.ensures c.if-f-ne0.false)) (ways.iff-no _ _ (ways.in-analysis _ c.if-w-eq0.true) (ways.did-skip c.args.i c.requires.0.planted c.requires.1)))
-
-pub after-overflow_cast-p : goal.after-overflow_cast-p
-after-overflow_cast-p t c = omega (arith, c.requires.0.depth)
 
 pub after-after_assign-requires : goal.after-after_assign-requires
 after-after_assign-requires t c = (c.requires.0.planted, heres.here-node c.requires.0, omega (arith, c.requires.0.depth))

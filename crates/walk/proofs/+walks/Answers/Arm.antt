@@ -9,21 +9,6 @@ use Rattle.walk_laws.proofs.Heres as heres
 use Rattle.walk_laws.proofs.Ways as ways
 use Rattle.walk.proofs.+walks.Goals as goal
 
-pub arm-bounds-w-6 : goal.arm-bounds-w-6
-arm-bounds-w-6 t c = omega (arith, c.requires.planted.good.long)
-
-pub arm-bounds-w-8 : goal.arm-bounds-w-8
-arm-bounds-w-8 t c = omega (arith, c.requires.planted.good.long)
-
-pub arm-bounds-w-9 : goal.arm-bounds-w-9
-arm-bounds-w-9 t c = omega (arith, c.requires.planted.good.long)
-
-pub arm-bounds-w-10 : goal.arm-bounds-w-10
-arm-bounds-w-10 t c = omega (arith, c.requires.planted.good.long)
-
-pub arm-enter-e-requires : goal.arm-enter-e-requires
-arm-enter-e-requires t c = c.requires.planted
-
 pub arm-returns-then-e-ne0 : goal.arm-returns-then-e-ne0
 unfolding visit_with_child_f
 arm-returns-then-e-ne0 t c = ways.did-as (sym c.refused.ensures) (ways.scope-full (scope_kind_of c.args.kind) ((walks_f c.args.d).bare c.args.p c.args.i) c.enter-e.ensures c.if-e-ne0.true)
@@ -32,18 +17,12 @@ pub arm-returns-then-d-eq0 : goal.arm-returns-then-d-eq0
 unfolding visit_with_child_f
 arm-returns-then-d-eq0 t c = ways.did-as (sym c.refused-then-d-eq0.ensures) (ways.scope-stop (scope_kind_of c.args.kind) ((walks_f c.args.d).bare c.args.p c.args.i) c.enter-e.ensures c.if-e-ne0.false refl (ways.bare-none c.args.p c.args.i c.args.d c.enter-e.ensures.ok.planted c.if-d-eq0.true))
 
-pub arm-overflow_sub-d : goal.arm-overflow_sub-d
-arm-overflow_sub-d t c = omega (arith, c.if-d-eq0.false)
-
 pub arm-own-r-requires : goal.arm-own-r-requires
 arm-own-r-requires t c = (omega (arith, c.decreases, c.if-d-eq0.false), heres.here-up c.if-d-eq0.false (heres.here-rest (opening (scope_kind_of c.args.kind)) c.if-e-ne0.false c.enter-e.ensures c.requires))
 
 pub arm-returns-in_default : goal.arm-returns-in_default
 unfolding visit_with_child_f
 arm-returns-in_default t c = ways.scope-stop (scope_kind_of c.args.kind) ((walks_f c.args.d).bare c.args.p c.args.i) c.enter-e.ensures c.if-e-ne0.false (sym c.next.ensures.0 ∙ c.in_default.is) (ways.bare_of_lem c.args.p c.args.i c.args.d c.if-d-eq0.false c.own-r.ensures)
-
-pub arm-leave-requires : goal.arm-leave-requires
-arm-leave-requires t c = c.own-r.ensures.ok.planted
 
 pub arm-returns : goal.arm-returns
 unfolding visit_with_child_f

@@ -20,12 +20,6 @@ arms-arm-r-requires t c = (omega (arith, c.decreases), heres.here-behind (sim-ea
 pub arms-returns-in_default : goal.arms-returns-in_default
 arms-returns-in_default t c = ways.many-stop (visit_with_child_f (walks_f c.args.d) c.args.p (scope_kind_of c.args.kind)) c.args.i c.loop-k.k c.args.n c.loop-k.invariant.2 c.loop-k-test.true (sym c.next.ensures.0 ∙ c.in_default.is) c.arm-r.ensures
 
-pub arms-overflow_add-k : goal.arms-overflow_add-k
-arms-overflow_add-k t c = omega (arith, c.loop-k-test.true, c.ranges.n)
-
-pub arms-loop-k-smaller : goal.arms-loop-k-smaller
-arms-loop-k-smaller t c = omega (arith, c.loop-k-test.true)
-
 pub arms-loop-k-preserved : goal.arms-loop-k-preserved
 arms-loop-k-preserved t c = (omega (arith, c.loop-k-test.true), c.arm-r.auto.w ∙ c.loop-k.invariant.1, ways.many-next (visit_with_child_f (walks_f c.args.d) c.args.p (scope_kind_of c.args.kind)) c.args.i c.loop-k.k c.args.n c.loop-k.invariant.2 (sym c.next.ensures.0 ∙ c.in-At.is) c.arm-r.ensures, codes.low-got c.next.ensures.1 c.in-At.is)
 

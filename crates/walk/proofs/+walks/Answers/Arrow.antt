@@ -10,21 +10,6 @@ use Rattle.walk_laws.proofs.Heres as heres
 use Rattle.walk_laws.proofs.Ways as ways
 use Rattle.walk.proofs.+walks.Goals as goal
 
-pub arrow-bounds-w-6 : goal.arrow-bounds-w-6
-arrow-bounds-w-6 t c = omega (arith, c.requires.planted.good.long)
-
-pub arrow-bounds-w-8 : goal.arrow-bounds-w-8
-arrow-bounds-w-8 t c = omega (arith, c.requires.planted.good.long)
-
-pub arrow-bounds-w-9 : goal.arrow-bounds-w-9
-arrow-bounds-w-9 t c = omega (arith, c.requires.planted.good.long)
-
-pub arrow-bounds-w-10 : goal.arrow-bounds-w-10
-arrow-bounds-w-10 t c = omega (arith, c.requires.planted.good.long)
-
-pub arrow-enter-e-requires : goal.arrow-enter-e-requires
-arrow-enter-e-requires t c = c.requires.planted
-
 pub arrow-returns-then-e-ne0 : goal.arrow-returns-then-e-ne0
 unfolding visit_mut_arrow_expr_f
 arrow-returns-then-e-ne0 t c = ways.did-as (sym c.refused.ensures) (ways.scope-full (fn_kind false) (plain_f (walks_f c.args.d) c.args.p c.args.i) c.enter-e.ensures c.if-e-ne0.true)
@@ -35,9 +20,6 @@ arrow-kids-r-requires t c = (omega (arith, c.decreases), (heres.here-rest (openi
 pub arrow-returns-in_default : goal.arrow-returns-in_default
 unfolding visit_mut_arrow_expr_f
 arrow-returns-in_default t c = ways.scope-stop (fn_kind false) (plain_f (walks_f c.args.d) c.args.p c.args.i) c.enter-e.ensures c.if-e-ne0.false (sym c.next.ensures.0 ∙ c.in_default.is) c.kids-r.ensures
-
-pub arrow-leave-requires : goal.arrow-leave-requires
-arrow-leave-requires t c = c.kids-r.ensures.ok.planted
 
 pub arrow-returns : goal.arrow-returns
 unfolding visit_mut_arrow_expr_f

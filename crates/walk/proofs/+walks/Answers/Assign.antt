@@ -13,9 +13,6 @@ use Rattle.walk_laws.proofs.Heres as heres
 use Rattle.walk_laws.proofs.Ways as ways
 use Rattle.walk.proofs.+walks.Goals as goal
 
-pub assign-set_pat_mode-requires : goal.assign-set_pat_mode-requires
-assign-set_pat_mode-requires t c = c.requires.planted
-
 pub assign-form_at-f-requires : goal.assign-form_at-f-requires
 assign-form_at-f-requires t c = heres.at-node (heres.here-turn c.set_pat_mode.ensures c.requires)
 

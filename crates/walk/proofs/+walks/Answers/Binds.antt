@@ -28,12 +28,6 @@ binds-returns-in_default t c = ways.many-stop (catch_param_f (walks_f c.args.d) 
 pub binds-mark_caught-requires : goal.binds-mark_caught-requires
 binds-mark_caught-requires t c = heres.name-low (heres.here-behind (sim-each (sim-catch_param (sims c.args.d) c.args.p)) c.requires refl c.loop-k.k c.loop-k-test.true c.loop-k.invariant.2) c.kind_at-kind.ensures c.num_at-x.ensures c.full-r.ensures.ok.planted
 
-pub binds-overflow_add-k : goal.binds-overflow_add-k
-binds-overflow_add-k t c = omega (arith, c.loop-k-test.true, c.ranges.n)
-
-pub binds-loop-k-smaller : goal.binds-loop-k-smaller
-binds-loop-k-smaller t c = omega (arith, c.loop-k-test.true)
-
 pub binds-loop-k-preserved : goal.binds-loop-k-preserved
 binds-loop-k-preserved t c = (omega (arith, c.loop-k-test.true), c.mark_caught.auto.w ∙ c.full-r.auto.w ∙ c.loop-k.invariant.1, ways.many-next (catch_param_f (walks_f c.args.d) c.args.p) c.args.i c.loop-k.k c.args.n c.loop-k.invariant.2 refl (ways.bound-then (walks_f c.args.d) (heres.here-behind (sim-each (sim-catch_param (sims c.args.d) c.args.p)) c.requires refl c.loop-k.k c.loop-k-test.true c.loop-k.invariant.2) c.kind_at-kind.ensures c.num_at-x.ensures (sym c.next.ensures.0 ∙ c.in-At.is) c.full-r.ensures c.mark_caught.ensures), codes.low-got c.next.ensures.1 c.in-At.is)
 

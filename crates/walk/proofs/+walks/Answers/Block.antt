@@ -9,21 +9,6 @@ use Rattle.walk_laws.proofs.Heres as heres
 use Rattle.walk_laws.proofs.Ways as ways
 use Rattle.walk.proofs.+walks.Goals as goal
 
-pub block-bounds-w-6 : goal.block-bounds-w-6
-block-bounds-w-6 t c = omega (arith, c.requires.planted.good.long)
-
-pub block-bounds-w-8 : goal.block-bounds-w-8
-block-bounds-w-8 t c = omega (arith, c.requires.planted.good.long)
-
-pub block-bounds-w-9 : goal.block-bounds-w-9
-block-bounds-w-9 t c = omega (arith, c.requires.planted.good.long)
-
-pub block-bounds-w-10 : goal.block-bounds-w-10
-block-bounds-w-10 t c = omega (arith, c.requires.planted.good.long)
-
-pub block-enter-e-requires : goal.block-enter-e-requires
-block-enter-e-requires t c = c.requires.planted
-
 pub block-returns-then-e-ne0 : goal.block-returns-then-e-ne0
 unfolding visit_mut_block_stmt_f script_f
 block-returns-then-e-ne0 t c = ways.did-as (sym c.refused.ensures) (ways.scope-full block_kind (script_f (walks_f c.args.d) c.args.p c.args.i) c.enter-e.ensures c.if-e-ne0.true)
@@ -34,9 +19,6 @@ block-body-r-requires t c = (omega (arith, c.decreases), (heres.here-rest (openi
 pub block-returns-in_default : goal.block-returns-in_default
 unfolding visit_mut_block_stmt_f script_f
 block-returns-in_default t c = ways.scope-stop block_kind (script_f (walks_f c.args.d) c.args.p c.args.i) c.enter-e.ensures c.if-e-ne0.false (sym c.next.ensures.0 ∙ c.in_default.is) c.body-r.ensures
-
-pub block-leave-requires : goal.block-leave-requires
-block-leave-requires t c = c.body-r.ensures.ok.planted
 
 pub block-returns : goal.block-returns
 unfolding visit_mut_block_stmt_f script_f

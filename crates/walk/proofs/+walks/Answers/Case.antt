@@ -10,21 +10,6 @@ use Rattle.walk_laws.proofs.Heres as heres
 use Rattle.walk_laws.proofs.Ways as ways
 use Rattle.walk.proofs.+walks.Goals as goal
 
-pub case-bounds-w-6 : goal.case-bounds-w-6
-case-bounds-w-6 t c = omega (arith, c.requires.planted.good.long)
-
-pub case-bounds-w-8 : goal.case-bounds-w-8
-case-bounds-w-8 t c = omega (arith, c.requires.planted.good.long)
-
-pub case-bounds-w-9 : goal.case-bounds-w-9
-case-bounds-w-9 t c = omega (arith, c.requires.planted.good.long)
-
-pub case-bounds-w-10 : goal.case-bounds-w-10
-case-bounds-w-10 t c = omega (arith, c.requires.planted.good.long)
-
-pub case-enter-e-requires : goal.case-enter-e-requires
-case-enter-e-requires t c = c.requires.planted
-
 pub case-returns-then-e-ne0 : goal.case-returns-then-e-ne0
 unfolding visit_mut_switch_case_f
 case-returns-then-e-ne0 t c = ways.did-as (sym c.refused.ensures) (ways.scope-full block_kind (items_f (walks_f c.args.d) c.args.p c.args.i) c.enter-e.ensures c.if-e-ne0.true)
@@ -35,9 +20,6 @@ case-items-r-requires t c = (omega (arith, c.decreases), (heres.here-rest (openi
 pub case-returns-in_default : goal.case-returns-in_default
 unfolding visit_mut_switch_case_f
 case-returns-in_default t c = ways.scope-stop block_kind (items_f (walks_f c.args.d) c.args.p c.args.i) c.enter-e.ensures c.if-e-ne0.false (sym c.next.ensures.0 ∙ c.in_default.is) c.items-r.ensures
-
-pub case-leave-requires : goal.case-leave-requires
-case-leave-requires t c = c.items-r.ensures.ok.planted
 
 pub case-returns : goal.case-returns
 unfolding visit_mut_switch_case_f

@@ -14,33 +14,12 @@ use Rattle.walk_laws.proofs.Heres as heres
 use Rattle.walk_laws.proofs.Ways as ways
 use Rattle.walk.proofs.+walks.Goals as goal
 
-pub catch-bounds-w-6 : goal.catch-bounds-w-6
-catch-bounds-w-6 t c = omega (arith, c.requires.planted.good.long)
-
-pub catch-bounds-w-8 : goal.catch-bounds-w-8
-catch-bounds-w-8 t c = omega (arith, c.requires.planted.good.long)
-
-pub catch-bounds-w-9 : goal.catch-bounds-w-9
-catch-bounds-w-9 t c = omega (arith, c.requires.planted.good.long)
-
-pub catch-bounds-w-10 : goal.catch-bounds-w-10
-catch-bounds-w-10 t c = omega (arith, c.requires.planted.good.long)
-
-pub catch-enter-e-requires : goal.catch-enter-e-requires
-catch-enter-e-requires t c = c.requires.planted
-
 pub catch-returns-then-e-ne0 : goal.catch-returns-then-e-ne0
 unfolding visit_mut_catch_clause_f
 catch-returns-then-e-ne0 t c = ways.did-as (sym c.refused.ensures) (ways.scope-full block_kind (caught_f (walks_f c.args.d) c.args.p c.args.i) c.enter-e.ensures c.if-e-ne0.true)
 
-pub catch-set_pat_mode-requires : goal.catch-set_pat_mode-requires
-catch-set_pat_mode-requires t c = c.enter-e.ensures.ok.planted
-
 pub catch-arity_at-n-requires : goal.catch-arity_at-n-requires
 catch-arity_at-n-requires t c = heres.at-node (heres.here-turn c.set_pat_mode.ensures (heres.here-rest (opening block_kind) c.if-e-ne0.false c.enter-e.ensures c.requires))
-
-pub catch-leave-requires : goal.catch-leave-requires
-catch-leave-requires t c = c.set_pat_mode.ensures.ok.planted
 
 pub catch-overflow_add-result : goal.catch-overflow_add-result
 catch-overflow_add-result t c = omega (arith, c.requires.depth, (heres.at-node c.requires).1)
@@ -51,9 +30,6 @@ catch-returns-then-n-eq0 t c = codes.did_at (codes.low-next c.requires) (ways.sc
 
 pub catch-overflow_add-p : goal.catch-overflow_add-p
 catch-overflow_add-p t c = omega (arith, c.requires.depth, (heres.at-node c.requires).1)
-
-pub catch-overflow_sub-n : goal.catch-overflow_sub-n
-catch-overflow_sub-n t c = omega (arith, c.if-e-ne0.false)
 
 pub catch-overflow_add-i : goal.catch-overflow_add-i
 catch-overflow_add-i t c = omega (arith, c.requires.depth, (heres.at-node c.requires).1)
@@ -74,9 +50,6 @@ catch-full-s-requires t c = (omega (arith, c.decreases), heres.here-behind (sim-
 pub catch-returns-in_default-next : goal.catch-returns-in_default-next
 unfolding visit_mut_catch_clause_f
 catch-returns-in_default-next t c = ways.scope-stop block_kind (caught_f (walks_f c.args.d) c.args.p c.args.i) c.enter-e.ensures c.if-e-ne0.false (sym c.next-2.ensures.0 ∙ c.in_default-next.is) (ways.modify-then (set_pat_mode as_catch) (on_kids_f (each_but_f (catch_param_f (walks_f c.args.d) (suc c.args.p)) ((walks_f c.args.d).full (suc c.args.p))) c.args.i) c.set_pat_mode.ensures (ways.on-kids (λ q. each_but_f (catch_param_f (walks_f c.args.d) q) ((walks_f c.args.d).full q)) (heres.here-turn c.set_pat_mode.ensures (heres.here-rest (opening block_kind) c.if-e-ne0.false c.enter-e.ensures c.requires)) c.arity_at-n.ensures (ways.but-then (catch_param_f (walks_f c.args.d) (c.args.p + 1)) ((walks_f c.args.d).full (c.args.p + 1)) c.arity_at-n.result (c.args.i + 1) c.if-n-eq0.false (sym c.next.ensures.0 ∙ c.in-At.is) c.binds-r.ensures c.full-s.ensures)))
-
-pub catch-leave-requires-2 : goal.catch-leave-requires-2
-catch-leave-requires-2 t c = c.full-s.ensures.ok.planted
 
 pub catch-returns : goal.catch-returns
 unfolding visit_mut_catch_clause_f

@@ -15,9 +15,6 @@ use Rattle.walk.proofs.+walks.Goals as goal
 pub conds-loop-k-init : goal.conds-loop-k-init
 conds-loop-k-init t c = (omega arith, refl, laws.many-none (λ r. in_cond_f ((walks_f c.args.d).bare c.args.p r)) c.args.i c.requires.planted, codes.low-here c.requires)
 
-pub conds-bounds-w-11 : goal.conds-bounds-w-11
-conds-bounds-w-11 t c = omega (arith, c.requires.planted.good.long)
-
 pub conds-deeper-e-requires : goal.conds-deeper-e-requires
 conds-deeper-e-requires t c = (heres.here-behind (sim-each (sim-within deeper shallower (sim-within (opening cond_kind) restore ((sims c.args.d).bare c.args.p)))) c.requires refl c.loop-k.k c.loop-k-test.true c.loop-k.invariant.2).planted
 
@@ -31,15 +28,6 @@ conds-arm-r-requires t c = (omega (arith, c.decreases), heres.here-rest deeper c
 pub conds-returns-in_default : goal.conds-returns-in_default
 unfolding visit_with_child_f
 conds-returns-in_default t c = ways.many-stop (λ r. in_cond_f ((walks_f c.args.d).bare c.args.p r)) c.args.i c.loop-k.k c.args.n c.loop-k.invariant.2 c.loop-k-test.true (sym c.next.ensures.0 ∙ c.in_default.is) (ways.cond-stop (visit_with_child_f (walks_f c.args.d) c.args.p cond_kind c.loop-k.at) c.deeper-e.ensures c.if-e-ne0.false (sym c.next.ensures.0 ∙ c.in_default.is) c.arm-r.ensures)
-
-pub conds-set_conds-requires : goal.conds-set_conds-requires
-conds-set_conds-requires t c = c.arm-r.ensures.ok.planted
-
-pub conds-overflow_add-k : goal.conds-overflow_add-k
-conds-overflow_add-k t c = omega (arith, c.loop-k-test.true, c.ranges.n)
-
-pub conds-loop-k-smaller : goal.conds-loop-k-smaller
-conds-loop-k-smaller t c = omega (arith, c.loop-k-test.true)
 
 pub conds-loop-k-preserved : goal.conds-loop-k-preserved
 unfolding visit_with_child_f

@@ -11,9 +11,6 @@ use Rattle.walk.proofs.+walks.Goals as goal
 pub decl-form_at-f-requires : goal.decl-form_at-f-requires
 decl-form_at-f-requires t c = heres.at-node c.requires
 
-pub decl-set_var_decl_kind-requires : goal.decl-set_var_decl_kind-requires
-decl-set_var_decl_kind-requires t c = c.requires.planted
-
 pub decl-kids-requires : goal.decl-kids-requires
 decl-kids-requires t c = (omega (arith, c.decreases), heres.here-turn c.set_var_decl_kind.ensures c.requires)
 

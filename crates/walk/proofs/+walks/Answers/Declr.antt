@@ -28,9 +28,6 @@ declr-tail-r-requires t c = (omega (arith, c.decreases), (heres.here-kids c.requ
 pub declr-returns-in_default : goal.declr-returns-in_default
 declr-returns-in_default t c = declrs.declr-stop (walks_f c.args.d) c.requires c.arity_at-n.ensures c.tail-r.ensures (sym c.next.ensures.0 ∙ c.in_default.is)
 
-pub declr-set_pat_mode-requires : goal.declr-set_pat_mode-requires
-declr-set_pat_mode-requires t c = c.tail-r.ensures.ok.planted
-
 pub declr-overflow_add-i-2 : goal.declr-overflow_add-i-2
 declr-overflow_add-i-2 t c = omega (arith, c.requires.depth, (heres.at-node c.requires).1)
 
@@ -42,9 +39,6 @@ declr-name-requires t c = (omega (arith, c.decreases), (declrs.kids-again (sim-s
 
 pub declr-returns-then-nameless : goal.declr-returns-then-nameless
 declr-returns-then-nameless t c = declrs.declr-then (walks_f c.args.d) c.requires c.arity_at-n.ensures c.tail-r.ensures (sym c.next.ensures.0 ∙ c.in-At.is) c.set_pat_mode.ensures (declrs.end_none (walks_f c.args.d) c.args.p (sim-name (sims c.args.d) c.args.p) (declrs.kids-again (sim-split sim-skip (sim-each ((sims c.args.d).full (c.args.p + 1)))) c.requires c.arity_at-n.ensures (sym c.next.ensures.0 ∙ c.in-At.is) c.tail-r.ensures c.set_pat_mode.ensures).0 (declrs.kids-again (sim-split sim-skip (sim-each ((sims c.args.d).full (c.args.p + 1)))) c.requires c.arity_at-n.ensures (sym c.next.ensures.0 ∙ c.in-At.is) c.tail-r.ensures c.set_pat_mode.ensures).1 (rest c.set_pat_mode.new.w).inlining (rest c.set_pat_mode.new.w).var_decl_kind (declrs.headed-yes c.set_pat_mode.new.w c.arity_at-n.result (c.args.i + 1) c.nameless.result c.nameless.ensures c.if-nameless.true) c.name.ensures)
-
-pub declr-bounds-w-6 : goal.declr-bounds-w-6
-declr-bounds-w-6 t c = omega (arith, c.requires.planted.good.long)
 
 pub declr-init-requires : goal.declr-init-requires
 declr-init-requires t c = (omega (arith, c.decreases), ((declrs.kids-again (sim-split sim-skip (sim-each ((sims c.args.d).full (c.args.p + 1)))) c.requires c.arity_at-n.ensures (sym c.next.ensures.0 ∙ c.in-At.is) c.tail-r.ensures c.set_pat_mode.ensures).0, (declrs.kids-again (sim-split sim-skip (sim-each ((sims c.args.d).full (c.args.p + 1)))) c.requires c.arity_at-n.ensures (sym c.next.ensures.0 ∙ c.in-At.is) c.tail-r.ensures c.set_pat_mode.ensures).1, (declrs.headed-no c.set_pat_mode.new.w c.arity_at-n.result (c.args.i + 1) c.nameless.result c.nameless.ensures c.if-nameless.false).1))

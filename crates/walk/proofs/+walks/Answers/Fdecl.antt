@@ -37,9 +37,6 @@ fdecl-overflow_add-i t c = omega (arith, c.requires.depth, (heres.at-node c.requ
 pub fdecl-skip-j-requires : goal.fdecl-skip-j-requires
 fdecl-skip-j-requires t c = heres.at-skip (heres.here-one c.if-n-eq0.false (heres.here-kids (heres.here-tree (λ t. declare_name (head_t (kids t))) c.args.i c.if-e-ne0.false c.declare_name-e.ensures c.requires) c.arity_at-n.ensures))
 
-pub fdecl-overflow_sub-n : goal.fdecl-overflow_sub-n
-fdecl-overflow_sub-n t c = omega (arith, c.if-n-eq0.false)
-
 pub fdecl-func-requires : goal.fdecl-func-requires
 fdecl-func-requires t c = (omega (arith, c.decreases), (heres.here-next sim-skip (heres.here-kids (heres.here-tree (λ t. declare_name (head_t (kids t))) c.args.i c.if-e-ne0.false c.declare_name-e.ensures c.requires) c.arity_at-n.ensures) refl c.if-n-eq0.false (ways.did-skip (c.args.i + 1) (heres.here-tree (λ t. declare_name (head_t (kids t))) c.args.i c.if-e-ne0.false c.declare_name-e.ensures c.requires).planted c.skip-j.ensures.0), omega arith))
 

@@ -50,9 +50,6 @@ fexpr-overflow_add-i-2 t c = omega (arith, c.requires.depth, (heres.at-node c.re
 pub fexpr-skip-j-requires : goal.fexpr-skip-j-requires
 fexpr-skip-j-requires t c = heres.at-skip (heres.here-one c.if-n-eq0.false (heres.here-tree (λ t. write_name (head_t (kids t))) c.args.i c.if-e-ne0.false c.write_name-e.ensures (heres.here-kids c.requires c.arity_at-n.ensures)))
 
-pub fexpr-overflow_sub-n : goal.fexpr-overflow_sub-n
-fexpr-overflow_sub-n t c = omega (arith, c.if-n-eq0.false)
-
 pub fexpr-func-requires-2 : goal.fexpr-func-requires-2
 fexpr-func-requires-2 t c = (omega (arith, c.decreases), (heres.here-next sim-skip (heres.here-tree (λ t. write_name (head_t (kids t))) c.args.i c.if-e-ne0.false c.write_name-e.ensures (heres.here-kids c.requires c.arity_at-n.ensures)) refl c.if-n-eq0.false (ways.did-skip (c.args.i + 1) (heres.here-tree (λ t. write_name (head_t (kids t))) c.args.i c.if-e-ne0.false c.write_name-e.ensures c.requires).planted c.skip-j.ensures.0), omega arith))
 

@@ -39,9 +39,6 @@ pub fors-returns-in_default : goal.fors-returns-in_default
 unfolding visit_mut_for_stmt_f
 fors-returns-in_default t c = laws.act-then _ c.if-e-ne0.false c.write_kids_but_last-e.ensures (laws.did-stop _ _ (sym c.next.ensures.0 ∙ c.in_default.is) (ways.on-kids (λ q. each_but_f ((walks_f c.args.d).full q) (visit_with_child_f (walks_f c.args.d) q loop_kind)) (heres.here-tree (λ t. write_forest true (but_last (kids t))) c.args.i c.if-e-ne0.false c.write_kids_but_last-e.ensures c.requires) c.arity_at-n.ensures c.loops-r.ensures))
 
-pub fors-store_barrier-requires : goal.fors-store_barrier-requires
-fors-store_barrier-requires t c = c.loops-r.ensures.ok.planted
-
 pub fors-returns-then-f-eq0 : goal.fors-returns-then-f-eq0
 unfolding visit_mut_for_stmt_f
 fors-returns-then-f-eq0 t c = codes.did-got c.next.ensures.1 c.in-At.is (laws.act-then _ c.if-e-ne0.false c.write_kids_but_last-e.ensures (laws.did_then c.in-At.j _ (sym c.next.ensures.0 ∙ c.in-At.is) (ways.on-kids (λ q. each_but_f ((walks_f c.args.d).full q) (visit_with_child_f (walks_f c.args.d) q loop_kind)) (heres.here-tree (λ t. write_forest true (but_last (kids t))) c.args.i c.if-e-ne0.false c.write_kids_but_last-e.ensures c.requires) c.arity_at-n.ensures c.loops-r.ensures) (ways.act-end c.in-At.j refl (ways.when-yes store_inline_barrier_m (ways.form-yes (heres.here-tree (λ t. write_forest true (but_last (kids t))) c.args.i c.if-e-ne0.false c.write_kids_but_last-e.ensures c.requires) c.form_at-f.ensures c.if-f-eq0.true) c.store_barrier.ensures))))

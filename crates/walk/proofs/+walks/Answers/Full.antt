@@ -19,9 +19,6 @@ full-bare-requires t c = heres.here-flat c.requires
 pub full-kind_at-requires : goal.full-kind_at-requires
 full-kind_at-requires t c = heres.at-node c.requires
 
-pub full-overflow_sub-l : goal.full-overflow_sub-l
-full-overflow_sub-l t c = omega (arith, c.if-l-eq0.false)
-
 pub full-ident-requires : goal.full-ident-requires
 full-ident-requires t c = (omega (arith, c.decreases, c.if-l-eq0.false), (heres.here-up c.if-l-eq0.false c.requires, sym c.kind_at.ensures ∙ c.if-kind_at-eq21.true))
 
@@ -34,9 +31,6 @@ full-overflow_add-result t c = omega (arith, c.requires.depth, (heres.at-node c.
 pub full-returns-then-bare : goal.full-returns-then-bare
 full-returns-then-bare t c = codes.did_at (codes.low-next c.requires) (shorts.bare-other (heres.here-up c.if-l-eq0.false c.requires) c.if-l-eq0.false (sym c.bare.ensures ∙ c.if-bare.true) c.kind_at.ensures c.if-kind_at-eq21.false)
 
-pub full-overflow_sub-l-2 : goal.full-overflow_sub-l-2
-full-overflow_sub-l-2 t c = omega (arith, c.if-l-eq0.false)
-
 pub full-own-r-requires : goal.full-own-r-requires
 full-own-r-requires t c = (omega (arith, c.decreases, c.if-l-eq0.false), heres.here-up c.if-l-eq0.false c.requires)
 
@@ -48,9 +42,6 @@ full-settled-requires t c = heres.here-flat (heres.here-still (sim-own (sims (c.
 
 pub full-returns-then-settled : goal.full-returns-then-settled
 full-returns-then-settled t c = codes.did-got c.next.ensures.1 c.in-At.is (ways.full-then c.args.p c.args.i c.args.l c.if-l-eq0.false (sym c.next.ensures.0 ∙ c.in-At.is) c.own-r.ensures (shorts.settled-after (walks_f (c.args.l - 1)) (heres.here-still (sim-own (sims (c.args.l - 1)) c.args.p) (heres.here-up c.if-l-eq0.false c.requires) (sym c.next.ensures.0 ∙ c.in-At.is) refl c.own-r.ensures) (sym c.settled.ensures ∙ c.if-settled.true) (heres.walk_end (sim-own (sims (c.args.l - 1)) c.args.p) (heres.here-up c.if-l-eq0.false c.requires) (sym c.next.ensures.0 ∙ c.in-At.is) c.own-r.ensures)))
-
-pub full-overflow_sub-l-3 : goal.full-overflow_sub-l-3
-full-overflow_sub-l-3 t c = omega (arith, c.if-l-eq0.false)
 
 pub full-after-requires : goal.full-after-requires
 full-after-requires t c = (omega (arith, c.decreases, c.if-l-eq0.false), (heres.here-still (sim-own (sims (c.args.l - 1)) c.args.p) (heres.here-up c.if-l-eq0.false c.requires) (sym c.next.ensures.0 ∙ c.in-At.is) refl c.own-r.ensures, heres.walk_end (sim-own (sims (c.args.l - 1)) c.args.p) (heres.here-up c.if-l-eq0.false c.requires) (sym c.next.ensures.0 ∙ c.in-At.is) c.own-r.ensures))

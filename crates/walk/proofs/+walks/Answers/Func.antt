@@ -13,33 +13,9 @@ use Rattle.walk_laws.proofs.Heres as heres
 use Rattle.walk_laws.proofs.Ways as ways
 use Rattle.walk.proofs.+walks.Goals as goal
 
-pub func-bounds-w-6 : goal.func-bounds-w-6
-func-bounds-w-6 t c = omega (arith, c.requires.0.planted.good.long)
-
-pub func-bounds-w-8 : goal.func-bounds-w-8
-func-bounds-w-8 t c = omega (arith, c.requires.0.planted.good.long)
-
-pub func-bounds-w-9 : goal.func-bounds-w-9
-func-bounds-w-9 t c = omega (arith, c.requires.0.planted.good.long)
-
-pub func-bounds-w-10 : goal.func-bounds-w-10
-func-bounds-w-10 t c = omega (arith, c.requires.0.planted.good.long)
-
-pub func-overflow_add-named : goal.func-overflow_add-named
-func-overflow_add-named t c = omega (arith, c.requires.1)
-
-pub func-enter-e-requires : goal.func-enter-e-requires
-func-enter-e-requires t c = c.requires.0.planted
-
 pub func-returns-then-e-ne0 : goal.func-returns-then-e-ne0
 unfolding visit_mut_function_f
 func-returns-then-e-ne0 t c = ways.did-as (sym c.refused.ensures) (ways.scope-full (fn_kind (yes c.args.named)) (λ st. and_then (on_rest (modify (set_pat_mode as_param)) st) (λ y. each_but_f ((walks_f c.args.d).full (suc c.args.p)) ((walks_f c.args.d).inner (suc c.args.p)) c.args.n c.args.i)) (ways.fn-enter c.args.named c.enter-e.ensures) c.if-e-ne0.true)
-
-pub func-set_pat_mode-requires : goal.func-set_pat_mode-requires
-func-set_pat_mode-requires t c = c.enter-e.ensures.ok.planted
-
-pub func-overflow_add-p : goal.func-overflow_add-p
-func-overflow_add-p t c = omega (arith, c.requires.0.depth)
 
 pub func-params-r-requires : goal.func-params-r-requires
 func-params-r-requires t c = (omega (arith, c.decreases), heres.here-turn c.set_pat_mode.ensures (heres.here-rest (opening (scope_kind_of (3 + c.args.named))) c.if-e-ne0.false c.enter-e.ensures c.requires.0))
@@ -47,9 +23,6 @@ func-params-r-requires t c = (omega (arith, c.decreases), heres.here-turn c.set_
 pub func-returns-in_default : goal.func-returns-in_default
 unfolding visit_mut_function_f
 func-returns-in_default t c = ways.scope-stop (fn_kind (yes c.args.named)) (λ st. and_then (on_rest (modify (set_pat_mode as_param)) st) (λ y. each_but_f ((walks_f c.args.d).full (suc c.args.p)) ((walks_f c.args.d).inner (suc c.args.p)) c.args.n c.args.i)) (ways.fn-enter c.args.named c.enter-e.ensures) c.if-e-ne0.false (sym c.next.ensures.0 ∙ c.in_default.is) (ways.func-in (walks_f c.args.d) c.args.p c.args.n c.args.i c.set_pat_mode.ensures c.params-r.ensures)
-
-pub func-leave-requires : goal.func-leave-requires
-func-leave-requires t c = c.params-r.ensures.ok.planted
 
 pub func-returns : goal.func-returns
 unfolding visit_mut_function_f

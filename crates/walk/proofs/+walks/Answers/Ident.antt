@@ -16,9 +16,6 @@ use Rattle.walk.proofs.+walks.Goals as goal
 pub ident-constant-m-requires : goal.ident-constant-m-requires
 ident-constant-m-requires t c = (c.requires.0.planted, heres.here-node c.requires.0, c.requires.1)
 
-pub ident-overflow_cast-p : goal.ident-overflow_cast-p
-ident-overflow_cast-p t c = omega (arith, c.requires.0.depth)
-
 pub ident-inline_constant-r-requires : goal.ident-inline_constant-r-requires
 ident-inline_constant-r-requires t c = (c.requires.0.planted, heres.here-node c.requires.0, c.requires.1, c.if-m-gt0.true, c.constant-m.ensures.0, c.constant-m.ensures.1)
 
@@ -33,9 +30,6 @@ ident-full-requires t c = (omega (arith, c.decreases), idents.here-lower (idents
 
 pub ident-returns-then-m-gt0 : goal.ident-returns-then-m-gt0
 ident-returns-then-m-gt0 t c = ways.ident-by (walks_f c.args.d) c.args.p c.args.i (some (held (constant_at (abs c.args.w.now) c.args.i))) (idents.const-some c.args.w.now c.args.i c.constant-m.result c.constant-m.ensures.0 c.if-m-gt0.true) (ways.const-then (walks_f c.args.d) c.args.p c.args.i (held (constant_at (abs c.args.w.now) c.args.i)) c.in-At.is (idents.goes-did c.inline_constant-r.ensures) c.full.ensures)
-
-pub ident-bounds-w-6 : goal.ident-bounds-w-6
-ident-bounds-w-6 t c = omega (arith, c.requires.0.planted.good.long)
 
 pub ident-ident_analysis-requires : goal.ident-ident_analysis-requires
 ident-ident_analysis-requires t c = (c.requires.0.planted, heres.here-node c.requires.0, c.requires.1)
@@ -52,17 +46,11 @@ ident-fate-requires t c = (c.requires.0.planted, heres.here-node c.requires.0, c
 pub ident-skip-requires-in-Nothing : goal.ident-skip-requires-in-Nothing
 ident-skip-requires-in-Nothing t c = heres.at-skip c.requires.0
 
-pub ident-overflow_cast-p-in-Void : goal.ident-overflow_cast-p-in-Void
-ident-overflow_cast-p-in-Void t c = omega (arith, c.requires.0.depth)
-
 pub ident-inline_undefined-requires : goal.ident-inline_undefined-requires
 ident-inline_undefined-requires t c = heres.at-skip c.requires.0
 
 pub ident-coded-requires-in-Void : goal.ident-coded-requires-in-Void
 ident-coded-requires-in-Void t c = codes.low-did (sim-after_ident (sims c.args.d) c.args.p) c.inline_undefined.result c.requires.0 (idents.no-const-inlining (walks_f c.args.d) c.args.p c.args.i (idents.const-none c.args.w.now c.args.i c.constant-m.result c.constant-m.ensures.0 (omega (arith, c.if-m-gt0.false))) c.if-w-eq0.false (idents.found-void (walks_f c.args.d) c.args.p c.args.i (idents.fated-void c.args.w.now c.args.i c.in-Void.is c.fate.ensures) (idents.goes-did c.inline_undefined.ensures)))
-
-pub ident-overflow_cast-p-in-Value : goal.ident-overflow_cast-p-in-Value
-ident-overflow_cast-p-in-Value t c = omega (arith, c.requires.0.depth)
 
 pub ident-inline_value-r-requires : goal.ident-inline_value-r-requires
 ident-inline_value-r-requires t c = (c.requires.0.planted, heres.here-node c.requires.0, c.requires.1, (idents.fated-value c.args.w.now c.args.i c.in-Value.b c.in-Value.is c.fate.ensures).1)

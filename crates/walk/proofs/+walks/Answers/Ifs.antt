@@ -21,12 +21,6 @@ pub ifs-returns-then-n-eq0 : goal.ifs-returns-then-n-eq0
 unfolding visit_mut_if_stmt_f
 ifs-returns-then-n-eq0 t c = codes.did_at (codes.low-next c.requires) (ways.on-kids (λ q. split_f (tested_f (walks_f c.args.d) q) (many (visit_with_child_f (walks_f c.args.d) q cond_kind))) c.requires c.arity_at-n.ensures (ways.split-none (tested_f (walks_f c.args.d) (c.args.p + 1)) (many (visit_with_child_f (walks_f c.args.d) (c.args.p + 1) cond_kind)) c.arity_at-n.result (c.args.i + 1) c.if-n-eq0.true c.requires.planted))
 
-pub ifs-bounds-w-10 : goal.ifs-bounds-w-10
-ifs-bounds-w-10 t c = omega (arith, c.requires.planted.good.long)
-
-pub ifs-set_in_test-requires : goal.ifs-set_in_test-requires
-ifs-set_in_test-requires t c = c.requires.planted
-
 pub ifs-overflow_add-p : goal.ifs-overflow_add-p
 ifs-overflow_add-p t c = omega (arith, c.requires.depth, (heres.at-node c.requires).1)
 
@@ -40,14 +34,8 @@ pub ifs-returns-in_default : goal.ifs-returns-in_default
 unfolding visit_mut_if_stmt_f tested_f
 ifs-returns-in_default t c = ways.on-kids (λ q. split_f (tested_f (walks_f c.args.d) q) (many (visit_with_child_f (walks_f c.args.d) q cond_kind))) c.requires c.arity_at-n.ensures (ways.split-stop (tested_f (walks_f c.args.d) (c.args.p + 1)) (many (visit_with_child_f (walks_f c.args.d) (c.args.p + 1) cond_kind)) c.arity_at-n.result (c.args.i + 1) c.if-n-eq0.false (sym c.next.ensures.0 ∙ c.in_default.is) (ways.test-stop ((walks_f c.args.d).full (c.args.p + 1) (c.args.i + 1)) c.set_in_test.ensures (sym c.next.ensures.0 ∙ c.in_default.is) c.full-r.ensures))
 
-pub ifs-set_in_test-requires-2 : goal.ifs-set_in_test-requires-2
-ifs-set_in_test-requires-2 t c = c.full-r.ensures.ok.planted
-
 pub ifs-overflow_add-p-2 : goal.ifs-overflow_add-p-2
 ifs-overflow_add-p-2 t c = omega (arith, c.requires.depth, (heres.at-node c.requires).1)
-
-pub ifs-overflow_sub-n : goal.ifs-overflow_sub-n
-ifs-overflow_sub-n t c = omega (arith, c.if-n-eq0.false)
 
 pub ifs-arms-requires : goal.ifs-arms-requires
 ifs-arms-requires t c = (omega (arith, c.decreases), heres.here-turn c.set_in_test-2.ensures (heres.here-next ((sims c.args.d).full (c.args.p + 1)) (heres.here-turn c.set_in_test.ensures (heres.here-kids c.requires c.arity_at-n.ensures)) (sym c.next.ensures.0 ∙ c.in-At.is) c.if-n-eq0.false c.full-r.ensures))

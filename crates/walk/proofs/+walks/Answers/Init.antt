@@ -12,9 +12,6 @@ use Rattle.walk_laws.proofs.Ways as ways
 use Rattle.walk_laws.proofs.Declrs as declrs
 use Rattle.walk.proofs.+walks.Goals as goal
 
-pub init-bounds-w-8 : goal.init-bounds-w-8
-init-bounds-w-8 t c = omega (arith, c.requires.0.planted.good.long)
-
 pub init-name-requires : goal.init-name-requires
 init-name-requires t c = (omega (arith, c.decreases), (c.requires.0, c.requires.1))
 
@@ -38,9 +35,6 @@ init-overflow_add-i-3 t c = omega (arith, c.requires.0.depth, (heres.at-node c.r
 
 pub init-skip-j-requires : goal.init-skip-j-requires
 init-skip-j-requires t c = declrs.at_bound (heres.here-kids c.requires.0 c.requires.1) c.requires.2
-
-pub init-overflow_sub-n : goal.init-overflow_sub-n
-init-overflow_sub-n t c = omega (arith, c.requires.2.some)
 
 pub init-stays-requires : goal.init-stays-requires
 init-stays-requires t c = heres.at-trees (heres.here-next sim-skip (heres.here-kids c.requires.0 c.requires.1) refl (λ z. omega (arith, z, c.requires.2.some)) (ways.did-skip (c.args.i + 1) c.requires.0.planted c.skip-j.ensures.0))
@@ -68,9 +62,6 @@ init-returns-in_default t c = ways.did-as (sym c.next-r.ensures.0) (declrs.init-
 
 pub init-skip-end-requires : goal.init-skip-end-requires
 init-skip-end-requires t c = heres.here-below c.args.i (omega (arith, c.skip-j.ensures.1)) (heres.here-still ((sims c.args.d).full (c.args.p + 1)) (heres.here-one (λ z. omega (arith, z, c.if-n-eq1.false, c.requires.2.some)) (heres.here-next sim-skip (heres.here-kids c.requires.0 c.requires.1) refl (λ z. omega (arith, z, c.requires.2.some)) (ways.did-skip (c.args.i + 1) c.requires.0.planted c.skip-j.ensures.0))) (sym c.next-r.ensures.0 ∙ c.in-At.is) refl c.full.ensures)
-
-pub init-overflow_sub-n-2 : goal.init-overflow_sub-n-2
-init-overflow_sub-n-2 t c = omega (arith, c.requires.2.some)
 
 pub init-declr_end-requires-2 : goal.init-declr_end-requires-2
 init-declr_end-requires-2 t c = (c.full.ensures.ok.planted, declrs.spot (walks_f c.args.d) c.args.p ((sims c.args.d).full (suc c.args.p)) c.requires.0 c.requires.1 c.requires.2 c.skip-j.ensures.0 (declrs.walked (walks_f c.args.d) c.args.p ((sims c.args.d).full (suc c.args.p)) c.requires.0 c.requires.1 c.requires.2 c.skip-j.ensures.0 c.if-n-eq1.false (sym c.next-r.ensures.0 ∙ c.in-At.is) c.full.ensures c.skip-end.ensures.0) (λ z. c.skip-end.ensures.0))

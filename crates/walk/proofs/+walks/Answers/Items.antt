@@ -44,9 +44,6 @@ items-returns-in_default t c = ways.iff-yes _ _ (ways.form-yes c.requires c.form
 pub items-overflow_add-p-2 : goal.items-overflow_add-p-2
 items-overflow_add-p-2 t c = omega (arith, c.requires.depth, (heres.at-node c.requires).1)
 
-pub items-overflow_sub-n : goal.items-overflow_sub-n
-items-overflow_sub-n t c = omega (arith, c.if-n-eq0.false)
-
 pub items-stmts-requires : goal.items-stmts-requires
 items-stmts-requires t c = (omega (arith, c.decreases), heres.here-next ((sims c.args.d).full (c.args.p + 1)) (heres.here-kids c.requires c.arity_at-n.ensures) (sym c.next.ensures.0 ∙ c.in-At.is) c.if-n-eq0.false c.full-r.ensures)
 

@@ -51,9 +51,6 @@ logic-skip-j-requires t c = heres.at-skip (heres.here-one c.if-n-eq0.false (here
 pub logic-overflow_add-p : goal.logic-overflow_add-p
 logic-overflow_add-p t c = omega (arith, c.requires.depth, (heres.at-node c.requires).1)
 
-pub logic-overflow_sub-n : goal.logic-overflow_sub-n
-logic-overflow_sub-n t c = omega (arith, c.if-n-eq0.false)
-
 pub logic-conds-requires : goal.logic-conds-requires
 logic-conds-requires t c = (omega (arith, c.decreases), heres.here-next sim-skip (heres.here-kids c.requires c.arity_at-n.ensures) refl c.if-n-eq0.false (ways.did-skip (c.args.i + 1) c.requires.planted c.skip-j.ensures.0))
 

@@ -14,9 +14,6 @@ use Rattle.walk.proofs.+walks.Goals as goal
 pub loops-returns-then-n-eq0 : goal.loops-returns-then-n-eq0
 loops-returns-then-n-eq0 t c = codes.did_at (codes.low-here c.requires) (ways.but-none ((walks_f c.args.d).full c.args.p) (visit_with_child_f (walks_f c.args.d) c.args.p loop_kind) c.args.n c.args.i c.if-n-eq0.true c.requires.planted)
 
-pub loops-overflow_sub-n : goal.loops-overflow_sub-n
-loops-overflow_sub-n t c = omega (arith, c.if-n-eq0.false)
-
 pub loops-many-r-requires : goal.loops-many-r-requires
 loops-many-r-requires t c = (omega (arith, c.decreases), heres.here-less c.requires)
 

@@ -19,12 +19,6 @@ many-full-r-requires t c = (omega (arith, c.decreases), heres.here-behind (sim-e
 pub many-returns-in_default : goal.many-returns-in_default
 many-returns-in_default t c = ways.many-stop ((walks_f c.args.d).full c.args.p) c.args.i c.loop-k.k c.args.n c.loop-k.invariant.2 c.loop-k-test.true (sym c.next.ensures.0 ∙ c.in_default.is) c.full-r.ensures
 
-pub many-overflow_add-k : goal.many-overflow_add-k
-many-overflow_add-k t c = omega (arith, c.loop-k-test.true, c.ranges.n)
-
-pub many-loop-k-smaller : goal.many-loop-k-smaller
-many-loop-k-smaller t c = omega (arith, c.loop-k-test.true)
-
 pub many-loop-k-preserved : goal.many-loop-k-preserved
 many-loop-k-preserved t c = (omega (arith, c.loop-k-test.true), c.full-r.auto.w ∙ c.loop-k.invariant.1, ways.many-next ((walks_f c.args.d).full c.args.p) c.args.i c.loop-k.k c.args.n c.loop-k.invariant.2 (sym c.next.ensures.0 ∙ c.in-At.is) c.full-r.ensures, codes.low-got c.next.ensures.1 c.in-At.is)
 

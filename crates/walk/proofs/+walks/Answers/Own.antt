@@ -44,14 +44,8 @@ own-catch-requires t c = (omega (arith, c.decreases), c.requires)
 pub own-case-requires : goal.own-case-requires
 own-case-requires t c = (omega (arith, c.decreases), c.requires)
 
-pub own-pats-requires : goal.own-pats-requires
-own-pats-requires t c = c.requires
-
 pub own-unary-requires : goal.own-unary-requires
 own-unary-requires t c = (omega (arith, c.decreases), c.requires)
-
-pub own-update-requires : goal.own-update-requires
-own-update-requires t c = c.requires
 
 pub own-assign-requires : goal.own-assign-requires
 own-assign-requires t c = (omega (arith, c.decreases), c.requires)

@@ -13,9 +13,6 @@ use Rattle.walk.proofs.+walks.Goals as goal
 pub params-returns-then-n-eq0 : goal.params-returns-then-n-eq0
 params-returns-then-n-eq0 t c = codes.did_at (codes.low-here c.requires) (ways.but-none ((walks_f c.args.d).full c.args.p) ((walks_f c.args.d).inner c.args.p) c.args.n c.args.i c.if-n-eq0.true c.requires.planted)
 
-pub params-overflow_sub-n : goal.params-overflow_sub-n
-params-overflow_sub-n t c = omega (arith, c.if-n-eq0.false)
-
 pub params-many-r-requires : goal.params-many-r-requires
 params-many-r-requires t c = (omega (arith, c.decreases), heres.here-less c.requires)
 
@@ -24,9 +21,6 @@ params-returns-in_default t c = ways.but-stop ((walks_f c.args.d).full c.args.p)
 
 pub params-returns-then-d-eq0 : goal.params-returns-then-d-eq0
 params-returns-then-d-eq0 t c = ways.did-as (sym c.refused.ensures) (ways.but-then ((walks_f c.args.d).full c.args.p) ((walks_f c.args.d).inner c.args.p) c.args.n c.args.i c.if-n-eq0.false (sym c.next.ensures.0 ∙ c.in-At.is) c.many-r.ensures (ways.inner-none c.args.p c.in-At.j c.args.d c.many-r.ensures.ok.planted c.if-d-eq0.true))
-
-pub params-overflow_sub-d : goal.params-overflow_sub-d
-params-overflow_sub-d t c = omega (arith, c.if-d-eq0.false)
 
 pub params-body-requires : goal.params-body-requires
 params-body-requires t c = (omega (arith, c.decreases, c.if-d-eq0.false), heres.here-up c.if-d-eq0.false (heres.here-behind (sim-each ((sims c.args.d).full c.args.p)) c.requires (sym c.next.ensures.0 ∙ c.in-At.is) (c.args.n - 1) (omega (arith, c.if-n-eq0.false)) c.many-r.ensures))

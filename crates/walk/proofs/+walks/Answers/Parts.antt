@@ -21,12 +21,6 @@ parts-kind_at-kind-requires t c = heres.at-node (heres.here-behind (sim-each (si
 pub parts-skip-at-requires : goal.parts-skip-at-requires
 parts-skip-at-requires t c = heres.at-skip (heres.here-behind (sim-each (sim-node (λ s c. eqb c.kind 17) (λ b. sim-if b ((sims c.args.d).full c.args.p) sim-skip))) c.requires refl c.loop-k.k c.loop-k-test.true c.loop-k.invariant.2)
 
-pub parts-overflow_add-k : goal.parts-overflow_add-k
-parts-overflow_add-k t c = omega (arith, c.loop-k-test.true, c.ranges.n)
-
-pub parts-loop-k-smaller-then-kind-ne17 : goal.parts-loop-k-smaller-then-kind-ne17
-parts-loop-k-smaller-then-kind-ne17 t c = omega (arith, c.loop-k-test.true)
-
 pub parts-loop-k-preserved-then-kind-ne17 : goal.parts-loop-k-preserved-then-kind-ne17
 parts-loop-k-preserved-then-kind-ne17 t c = (omega (arith, c.loop-k-test.true), c.loop-k.invariant.1, ways.many-next (clause_f (walks_f c.args.d) c.args.p) c.args.i c.loop-k.k c.args.n c.loop-k.invariant.2 refl (ways.iff-no _ _ (ways.kind-no (heres.here-behind (sim-each (sim-node (λ s c. eqb c.kind 17) (λ b. sim-if b ((sims c.args.d).full c.args.p) sim-skip))) c.requires refl c.loop-k.k c.loop-k-test.true c.loop-k.invariant.2) 17 c.kind_at-kind.ensures c.if-kind-ne17.true) (ways.did-skip c.loop-k.at (heres.here-behind (sim-each (sim-node (λ s c. eqb c.kind 17) (λ b. sim-if b ((sims c.args.d).full c.args.p) sim-skip))) c.requires refl c.loop-k.k c.loop-k-test.true c.loop-k.invariant.2).planted c.skip-at.ensures.0)), codes.low_end (heres.here-behind (sim-each (sim-node (λ s c. eqb c.kind 17) (λ b. sim-if b ((sims c.args.d).full c.args.p) sim-skip))) c.requires refl c.loop-k.k c.loop-k-test.true c.loop-k.invariant.2).planted c.skip-at.ensures.2)
 
@@ -35,12 +29,6 @@ parts-full-r-requires t c = (omega (arith, c.decreases), (heres.here-behind (sim
 
 pub parts-returns-in_default : goal.parts-returns-in_default
 parts-returns-in_default t c = ways.many-stop (clause_f (walks_f c.args.d) c.args.p) c.args.i c.loop-k.k c.args.n c.loop-k.invariant.2 c.loop-k-test.true (sym c.next.ensures.0 ∙ c.in_default.is) (ways.iff-yes _ _ (ways.kind-yes (heres.here-behind (sim-each (sim-node (λ s c. eqb c.kind 17) (λ b. sim-if b ((sims c.args.d).full c.args.p) sim-skip))) c.requires refl c.loop-k.k c.loop-k-test.true c.loop-k.invariant.2) c.kind_at-kind.ensures c.if-kind-ne17.false) c.full-r.ensures)
-
-pub parts-overflow_add-k-in-loop-k : goal.parts-overflow_add-k-in-loop-k
-parts-overflow_add-k-in-loop-k t c = omega (arith, c.loop-k-test.true, c.ranges.n)
-
-pub parts-loop-k-smaller : goal.parts-loop-k-smaller
-parts-loop-k-smaller t c = omega (arith, c.loop-k-test.true)
 
 pub parts-loop-k-preserved : goal.parts-loop-k-preserved
 parts-loop-k-preserved t c = (omega (arith, c.loop-k-test.true), c.full-r.auto.w ∙ c.loop-k.invariant.1, ways.many-next (clause_f (walks_f c.args.d) c.args.p) c.args.i c.loop-k.k c.args.n c.loop-k.invariant.2 (sym c.next.ensures.0 ∙ c.in-At.is) (ways.iff-yes _ _ (ways.kind-yes (heres.here-behind (sim-each (sim-node (λ s c. eqb c.kind 17) (λ b. sim-if b ((sims c.args.d).full c.args.p) sim-skip))) c.requires refl c.loop-k.k c.loop-k-test.true c.loop-k.invariant.2) c.kind_at-kind.ensures c.if-kind-ne17.false) c.full-r.ensures), codes.low-got c.next.ensures.1 c.in-At.is)

@@ -8,26 +8,17 @@ use Rattle.walk_laws.proofs.Heres as heres
 use Rattle.walk_laws.proofs.Ways as ways
 use Rattle.walk.proofs.+walks.Goals as goal
 
-pub stmts-bounds-w-6 : goal.stmts-bounds-w-6
-stmts-bounds-w-6 t c = omega (arith, c.requires.planted.good.long)
-
 pub stmts-many-requires : goal.stmts-many-requires
 stmts-many-requires t c = (omega (arith, c.decreases), c.requires)
 
 pub stmts-returns-then-w-eq0 : goal.stmts-returns-then-w-eq0
 stmts-returns-then-w-eq0 t c = ways.stmts-once (walks_f c.args.d) c.args.p c.args.n c.args.i c.if-w-eq0.true c.many.ensures
 
-pub stmts-set_inlining-requires : goal.stmts-set_inlining-requires
-stmts-set_inlining-requires t c = c.requires.planted
-
 pub stmts-many-r-requires : goal.stmts-many-r-requires
 stmts-many-r-requires t c = (omega (arith, c.decreases), (heres.here-turn c.set_inlining.ensures c.requires))
 
 pub stmts-returns-in_default : goal.stmts-returns-in_default
 stmts-returns-in_default t c = ways.stmts-stop (walks_f c.args.d) c.args.p c.args.n c.args.i c.if-w-eq0.false c.set_inlining.ensures (sym c.next.ensures.0 ∙ c.in_default.is) c.many-r.ensures
-
-pub stmts-set_inlining-requires-2 : goal.stmts-set_inlining-requires-2
-stmts-set_inlining-requires-2 t c = c.many-r.ensures.ok.planted
 
 pub stmts-many-requires-2 : goal.stmts-many-requires-2
 stmts-many-requires-2 t c = (omega (arith, c.decreases), (heres.here-turn c.set_inlining-2.ensures (heres.here-again (sim-each ((sims c.args.d).full c.args.p)) (heres.here-turn c.set_inlining.ensures c.requires) (sym c.next.ensures.0 ∙ c.in-At.is) c.many-r.ensures)))

@@ -15,9 +15,6 @@ tail-returns-then-n-eq0 t c = codes.did_at (codes.low-here c.requires) (ways.spl
 pub tail-skip-j-requires : goal.tail-skip-j-requires
 tail-skip-j-requires t c = heres.at-skip (heres.here-one c.if-n-eq0.false c.requires)
 
-pub tail-overflow_sub-n : goal.tail-overflow_sub-n
-tail-overflow_sub-n t c = omega (arith, c.if-n-eq0.false)
-
 pub tail-many-requires : goal.tail-many-requires
 tail-many-requires t c = (omega (arith, c.decreases), heres.here-next sim-skip c.requires refl c.if-n-eq0.false (ways.did-skip c.args.i c.requires.planted c.skip-j.ensures.0))
 

@@ -43,9 +43,6 @@ tries-skip-j-requires t c = heres.at-skip (heres.here-one c.if-n-eq0.false (here
 pub tries-overflow_add-p : goal.tries-overflow_add-p
 tries-overflow_add-p t c = omega (arith, c.requires.depth, (heres.at-node c.requires).1)
 
-pub tries-overflow_sub-n : goal.tries-overflow_sub-n
-tries-overflow_sub-n t c = omega (arith, c.if-n-eq0.false)
-
 pub tries-parts-requires : goal.tries-parts-requires
 tries-parts-requires t c = (omega (arith, c.decreases), heres.here-next sim-skip (heres.here-tree (write_tree true) (c.args.i + 1) c.if-e-ne0.false c.write_tree-e.ensures (heres.here-kids c.requires c.arity_at-n.ensures)) refl c.if-n-eq0.false (ways.did-skip (c.args.i + 1) (heres.here-tree (write_tree true) (c.args.i + 1) c.if-e-ne0.false c.write_tree-e.ensures (heres.here-kids c.requires c.arity_at-n.ensures)).planted c.skip-j.ensures.0))
 

@@ -15,9 +15,6 @@ pub unary-returns-then-f-ne6 : goal.unary-returns-then-f-ne6
 unfolding visit_mut_unary_expr_f
 unary-returns-then-f-ne6 t c = ways.iff-no _ _ (ways.form-no c.requires 6 c.form_at-f.ensures c.if-f-ne6.true) c.kids.ensures
 
-pub unary-update-requires : goal.unary-update-requires
-unary-update-requires t c = c.requires
-
 pub unary-returns : goal.unary-returns
 unfolding visit_mut_unary_expr_f visit_mut_update_expr_f
 unary-returns t c = ways.iff-yes _ _ (ways.form-yes c.requires c.form_at-f.ensures c.if-f-ne6.false) c.update.ensures
