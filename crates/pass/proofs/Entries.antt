@@ -1,6 +1,6 @@
 -- The ends of the C function of the pass: row 1, rows 2 to 9, row 10, and the whole result. Assumes nothing.
 use mathlib.Core.Path.{◌≡◌, refl, sym, ap, ◌∙◌, subst}
-use mathlib.Core.Bool.{Bool, true, false, ◌&&◌, not}
+use mathlib.Core.Bool.{Bool, true, false, ◌&&◌}
 use mathlib.Core.List.{List, [], ◌∷◌, map}
 use Prim.Native.Nat.{ℕ, ◌≤◌}
 use native.Mathlib.Omega.{arith}
@@ -20,7 +20,6 @@ use Rattle.def_file.specs.Write.{file}
 use Rattle.laws_roundtrip.specs.Fits.{Bytes}
 use Rattle.file_read.specs.Idents.{Listed}
 use Rattle.file_write.specs.declared.Written.{Written}
-use Rattle.file_write.specs.declared.Written.TheVariants as Written
 use Rattle.file_write.specs.Written.{Answer as Said, refused as no_room, wrote, says, in_room, written as writes, left as leaves, result_bytes, Wrote}
 use Rattle.file_write.proofs.Tied.{wrote-file}
 use Rattle.def_pass.specs.Script.{root_of}
@@ -34,7 +33,6 @@ use Rattle.words_nodes.specs.Nodes.{Planted}
 use Rattle.words_nodes.proofs.Trees.{count-some, length-flat}
 use Rattle.file_copy.specs.Copy.{WordsAre}
 use Rattle.pass_run.specs.declared.Ran.{Ran}
-use Rattle.pass_run.specs.declared.Ran.TheVariants as Ran
 use Rattle.pass_answers.specs.declared.Inlined.{Inlined}
 use Rattle.pass_run.specs.Run.{outcome}
 use Rattle.pass_run.specs.Inline.{read_runs, Final, FileIs}
@@ -45,13 +43,11 @@ use Rattle.pass_run.proofs.Files.{node-count}
 differ : false ≡ true → ⊥
 differ q = let y : ◌≡◌ {A = ℕ} 0 1 = cc in omega arith
 
-pub refuses : {c : Bool} (b : Bool) → b ≡ c → not b ≡ true → c ≡ false
-refuses true e h = absurd (differ h)
-refuses false e h = sym e
+pub refuses : {c : Bool} (b : Bool) → b ≡ c → b ≡ false → c ≡ false
+refuses b e h = sym e ∙ h
 
-pub admits : {c : Bool} (b : Bool) → b ≡ c → not b ≡ false → c ≡ true
-admits true e h = sym e
-admits false e h = absurd (differ (sym h))
+pub admits : {c : Bool} (b : Bool) → b ≡ c → b ≡ true → c ≡ true
+admits b e h = sym e ∙ h
 
 pub long : (n words : ℕ) → enough n words ≡ true → 16384 ≤ words
 long n words e = go (leb 1 n) (leb n 16) e

@@ -12,7 +12,6 @@ use Rattle.def_file.specs.declared.Raw.{Raw}
 use Rattle.def_file.specs.Script.{zero_node}
 use Rattle.def_file.specs.Read.{Read, bad, script, read}
 use Rattle.file_write.specs.declared.Written.{Written}
-use Rattle.file_write.specs.declared.Written.TheVariants as Written
 use Rattle.def_pass.specs.Script.{Root, Answer, root_of, pass_file}
 use Rattle.def_pass.specs.Walk.{Rooted, root_marks}
 use Rattle.laws_flat.specs.WalkF.{OutcomeF, refused_f}
@@ -21,13 +20,11 @@ use Rattle.laws_flat.proofs.File.{file-same}
 use Rattle.words_scopes.specs.State.{stack}
 use Rattle.file_copy.specs.Copy.{WordsAre}
 use Rattle.pass_run.specs.declared.Ran.{Ran}
-use Rattle.pass_run.specs.declared.Ran.TheVariants as Ran
 use Rattle.pass_answers.specs.declared.Roots.{Roots}
 use Rattle.pass_run.specs.Inline.{read_runs, Final, FileIs}
 use Rattle.pass_answers.specs.Entry.{enough}
 use Rattle.pass_roots.specs.Listing.{Known, roots_in, Listing, refused, listed, in_room, left, SaysSo, WroteRoots}
 use Rattle.pass_roots.specs.declared.RootAt.{RootAt}
-use Rattle.pass_roots.specs.declared.RootAt.TheVariants as RootAt
 use Rattle.pass_roots.specs.Nth.{nth, nth_is}
 use Rattle.pass_answers.specs.declared.RootBinding.{RootBinding}
 use Rattle.pass_answers.specs.Roots.{said, over_roots, listing, numbers, RootsIs, NthRoot, stopped, given, nth_root, nth_numbers, RootIs}

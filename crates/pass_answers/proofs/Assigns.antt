@@ -1,5 +1,5 @@
 -- The assignments of the port's result bytes. Assumes nothing.
-use mathlib.Core.Path.{◌≡◌, refl, sym, ap, ◌∙◌, subst}
+use mathlib.Core.Path.{◌≡◌, refl, ap, ◌∙◌}
 use mathlib.Core.Bool.{Bool, true, false, ◌&&◌}
 use mathlib.Core.List.{List, ◌++◌}
 use Prim.Native.Nat.{ℕ}
@@ -7,7 +7,7 @@ use lib.Dec.{leb}
 use lib.ListN.{length, drop}
 use Rattle.def_file.specs.Script.{Script}
 use Rattle.def_file.specs.Read.{Read, bad, script, read}
-use Rattle.def_pass.specs.Script.{Answer, no!, yes!, pass, pass_read}
+use Rattle.def_pass.specs.Script.{Answer, no!, yes!, pass}
 use Rattle.def_pass.specs.Entry.{Entry, refused, passed, written, entry_read, entry}
 use Rattle.def_pass.specs.Paired.{file_of}
 use Rattle.laws_pass.specs.FromFile.{TreesIn, TreesOf}

@@ -1,24 +1,22 @@
 -- The sizes of a result: it is read again, with the script's texts. Assumes nothing.
-use mathlib.Core.Path.{◌≡◌, refl, sym, ap, ◌∙◌}
+use mathlib.Core.Path.{◌≡◌, refl, ap}
 use mathlib.Core.List.{List, [], ◌∷◌, ◌++◌, map}
-use Prim.Native.Nat.{ℕ, zero, suc, ◌+◌, ◌*◌, ◌≤◌}
+use Prim.Native.Nat.{ℕ, suc, ◌+◌, ◌*◌}
 use native.Mathlib.Omega.{arith}
 use lib.ListN.{length, drop, length-append}
-use Rattle.def_file.specs.declared.Raw.{Raw}
 use Rattle.def_file.specs.Script.{Script}
 use Rattle.def_file.specs.Read.{Read, bad, script, read, u32}
 use Rattle.def_file.specs.Write.{head_bytes, node_bytes, end_bytes, text_bytes, file}
-use Rattle.laws_roundtrip.specs.Fits.{Bytes}
 use Rattle.laws_roundtrip.proofs.Nodes.{node-bytes-length, nodes-length}
 use Rattle.laws_roundtrip.proofs.Texts.{end-bytes-length}
 use Rattle.laws_roundtrip.proofs.Round.{found, back}
-use Rattle.def_pass.specs.Script.{Out, Root, Answer, no!, yes!, pass_read}
+use Rattle.def_pass.specs.Script.{Out, Answer, no!, yes!, pass_read}
 use Rattle.def_pass.specs.Paired.{file_of}
 use Rattle.laws_pass.specs.Again.{outcome}
 use Rattle.laws_pass.specs.Once.{FewIn, FewOf}
 use Rattle.laws_pass.proofs.Names.{roots_few}
 use Rattle.pass_answers.specs.Again.{AgainIn, AgainOf}
-use Rattle.pass_answers.specs.Sizes.{Sizes, SizesIn, SizesOf, ResultSizes}
+use Rattle.pass_answers.specs.Sizes.{SizesIn, SizesOf, ResultSizes}
 use Rattle.pass_answers.proofs.Again.{reads-again}
 
 -- a file's length, by its nodes and texts

@@ -4,7 +4,7 @@ use mathlib.Core.Bool.{Bool, true, false}
 use mathlib.Core.List.{List, [], ◌∷◌, ◌++◌, map, map-append}
 use mathlib.Core.Logic.{⊎_elim}
 use mathlib.Core.Option.{Option, none, some}
-use Prim.Native.Nat.{ℕ, zero, suc, ◌+◌, ◌-◌, ◌*◌, ◌≤◌, ◌<◌}
+use Prim.Native.Nat.{ℕ, zero, suc, ◌+◌, ◌*◌, ◌≤◌, ◌<◌}
 use native.Mathlib.Nat.{eq-or-lt_of_le}
 use native.Mathlib.Omega.{arith}
 use borrow.Author.Tests.{le-leb, lt-leb}
@@ -19,7 +19,6 @@ use Rattle.def_file.specs.declared.Raw.{Raw}
 use Rattle.def_file.specs.Script.{zero_node}
 use Rattle.file_read.specs.Idents.{numbered, ids_of}
 use Rattle.file_write.specs.declared.Written.{Written}
-use Rattle.file_write.specs.declared.Written.TheVariants as Written
 use Rattle.file_write.proofs.Stores.{first, then}
 use Rattle.def_pass.specs.Scope.{VarInfo}
 use Rattle.def_pass.specs.Script.{Root}

@@ -1,5 +1,5 @@
 -- The root bindings: how they stand in the words, and what is written of each. Assumes nothing: these are definitions.
-use Rattle.std.specs.Prelude.{◌≡◌, Bool, true, false, List, [], ◌∷◌, ◌++◌, map, ℕ, ◌+◌, ◌*◌, ◌/◌, ◌%◌, ◌≤◌, leb, length, get_or, drop}
+use Rattle.std.specs.Prelude.{◌≡◌, true, false, List, [], ◌∷◌, ◌++◌, map, ℕ, ◌+◌, ◌*◌, ◌/◌, ◌%◌, ◌≤◌, leb, length, get_or, drop}
 use Rattle.def_tree.specs.Base.{to_nat}
 use Rattle.words.specs.Tab.{tab}
 use Rattle.words.specs.Layout.{yes}

@@ -12,7 +12,6 @@ use Rattle.def_tree.specs.Base.{to_nat}
 use Rattle.def_tree.specs.Tree.{Forest, Core, no_core, flat, first_t}
 use Rattle.def_tree.specs.Combine.{Flat}
 use Rattle.words.specs.Tab.{tab-ext}
-use Rattle.words.specs.Layout.{tree}
 use Rattle.words.specs.Moved.{Cleared}
 use Rattle.def_file.specs.declared.Raw.{Raw}
 use Rattle.def_file.specs.Script.{Script, is_lit, has_id, enter_all, idents, place_of, zero_node, is_arguments}
@@ -22,7 +21,6 @@ use Rattle.laws_roundtrip.proofs.Nodes.{nodes-length}
 use Rattle.laws_roundtrip.proofs.Round.{Found, found}
 use Rattle.file_read.specs.declared.header.Header.{Header}
 use Rattle.file_read.specs.declared.read.Answer.{Answer}
-use Rattle.file_read.specs.declared.read.Answer.TheVariants as Answer
 use Rattle.file_read.specs.Idents.{numbered, ids_of, Listed}
 use Rattle.file_read.specs.Load.{Kept}
 use Rattle.file_read.specs.Reading.{told, After, WordsAre, ReadIs}
@@ -38,7 +36,6 @@ use Rattle.words_nodes.specs.Nodes.{One}
 use Rattle.words_twice.specs.Twice.{Plain}
 use Rattle.words_state.specs.State.{abs}
 use Rattle.pass_run.specs.declared.Ran.{Ran}
-use Rattle.pass_run.specs.declared.Ran.TheVariants as Ran
 use Rattle.pass_run.specs.Run.{outcome, RunsIs}
 use Rattle.pass_run.specs.Start.{Loaded, Started}
 use Rattle.pass_run.specs.Inline.{begin, read_runs, FileIs}

@@ -2,7 +2,7 @@
 use mathlib.Core.Path.{◌≡◌, refl, sym, ap, ap₂, ◌∙◌}
 use mathlib.Core.Bool.{true, false}
 use mathlib.Core.List.{List, [], ◌∷◌}
-use Prim.Native.Nat.{ℕ, ◌≤◌, ◌<◌}
+use Prim.Native.Nat.{ℕ}
 use native.Mathlib.Omega.{arith}
 use lib.ListN.{length, get_or}
 use lib.Dec.{leb}
@@ -17,7 +17,7 @@ use Rattle.laws_flat.specs.PassF.{start_f, targets_l, flagged_l}
 use Rattle.words_scopes.specs.State.{Good, Becomes, heads, heads_at, stack, var_type_of, targeted}
 use Rattle.words_scopes.proofs.Index.{beside_none}
 use Rattle.words_scopes.proofs.Words.{targeted-same}
-use Rattle.words_targets.specs.Targets.{Script, Beside, Targeted}
+use Rattle.words_targets.specs.Targets.{Script, Targeted}
 use Rattle.words_targets.proofs.Targets.{beside-tree}
 use Rattle.scope_values.specs.declared.Step.{Step}
 use Rattle.scope_values.specs.declared.Step.TheVariants.{Done, Refused}

@@ -17,7 +17,6 @@ use Rattle.words_state.proofs.Fields.{ok-self, ok-then}
 use Rattle.walk_ident.specs.declared.Next.{Next}
 use Rattle.walk_ident.specs.declared.Next.TheVariants.{At, Refused}
 use Rattle.pass_run.specs.declared.Ran.{Ran}
-use Rattle.pass_run.specs.declared.Ran.TheVariants as Ran
 use Rattle.walk_laws.specs.Did.{Lands, Did}
 use Rattle.pass_run.specs.Run.{RunsIs}
 

@@ -3,7 +3,6 @@ use mathlib.Core.Path.{◌∙◌}
 use Prim.Native.Nat.{◌+◌}
 use native.Mathlib.Omega.{arith}
 use Rattle.pass_roots.proofs.Rooted as rooted
-use borrow.Author.Rules.{rules}
 use Rattle.pass_roots.proofs.ident.Goals as goal
 
 pub returns-then-words-i : goal.returns-then-words-i

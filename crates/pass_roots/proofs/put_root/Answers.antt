@@ -3,7 +3,6 @@ use mathlib.Core.Path.{refl}
 use native.Mathlib.Omega.{arith}
 use lib.ListN.{length-set}
 use Rattle.pass_roots.proofs.Rooted as rooted
-use borrow.Author.Rules.{rules}
 use Rattle.pass_roots.proofs.put_root.Goals as goal
 
 pub bounds-roots-at-2 : goal.bounds-roots-at-2

@@ -5,7 +5,6 @@ use native.Mathlib.Omega.{arith}
 use lib.ListN.{get_or}
 use Rattle.words_scopes.proofs.Words as laws
 use Rattle.pass_roots.proofs.Rooted as rooted
-use borrow.Author.Rules.{rules}
 use Rattle.pass_roots.proofs.root_at.Goals as goal
 
 pub returns-then-count-n : goal.returns-then-count-n

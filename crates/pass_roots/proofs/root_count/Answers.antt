@@ -1,7 +1,6 @@
 -- How many bindings the root has. Assumes nothing.
 use native.Mathlib.Omega.{arith}
 use Rattle.pass_roots.proofs.Rooted as rooted
-use borrow.Author.Rules.{rules}
 use Rattle.pass_roots.proofs.root_count.Goals as goal
 
 pub returns-then-w-le1 : goal.returns-then-w-le1

@@ -1,7 +1,6 @@
 -- The room, and all root bindings. Assumes nothing.
 use native.Mathlib.Omega.{arith}
 use Rattle.pass_roots.proofs.Rooted as rooted
-use borrow.Author.Rules.{rules}
 use Rattle.pass_roots.proofs.write_roots.Goals as goal
 
 pub root_count-n-requires : goal.root_count-n-requires

@@ -1,6 +1,5 @@
 -- A run: each phase is set, and the script walked in it. Assumes nothing.
 use Rattle.pass_run.proofs.Turns as runs
-use borrow.Author.Rules.{rules}
 use Rattle.pass_run.proofs.visit_mut_program.Goals as goal
 
 pub returns-in-At-last : goal.returns-in-At-last

@@ -1,7 +1,6 @@
 -- A file is read, or not; then the runs. Assumes nothing.
 use Rattle.file_copy.proofs.Ends.{was_read}
 use Rattle.pass_run.proofs.Files as files
-use borrow.Author.Rules.{rules}
 use Rattle.pass_run.proofs.inline.inline_file.Goals as goal
 
 pub start-requires : goal.start-requires

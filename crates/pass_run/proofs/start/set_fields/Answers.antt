@@ -1,6 +1,5 @@
 -- The fields before the first run. Assumes nothing.
 use Rattle.pass_run.proofs.Starts.{fields}
-use borrow.Author.Rules.{rules}
 use Rattle.pass_run.proofs.start.set_fields.Goals as goal
 
 pub returns : goal.returns

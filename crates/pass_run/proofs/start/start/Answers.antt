@@ -2,7 +2,6 @@
 use mathlib.Core.Path.{ap}
 use Rattle.scope_child.specs.Kinds.{kind_of}
 use Rattle.pass_run.proofs.Starts as starts
-use borrow.Author.Rules.{rules}
 use Rattle.pass_run.proofs.start.start.Goals as goal
 
 pub mark_targets-requires : goal.mark_targets-requires
