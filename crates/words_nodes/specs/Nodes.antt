@@ -1,16 +1,14 @@
 -- The tree's nodes in the working words: what the functions here keep, and what they turn the list of nodes into. `put_at` and `cut_at` are
 -- what `put` and `cut_first` with `set_arity` of the walk on the list do to the nodes. Assumes nothing: these are definitions.
-use Rattle.std.specs.Prelude.{◌≡◌, List, [], ◌++◌, ℕ, ◌+◌, ◌-◌, ◌≤◌, ◌<◌, ltb, length, get_or, take, drop, set}
+use Rattle.std.specs.Prelude.{◌≡◌, Option, Some, None, Result, Ok, Err, List, [], ◌++◌, ℕ, ◌+◌, ◌-◌, ◌≤◌, ◌<◌, ltb, length, get_or, take, drop, set}
 use Rattle.def_tree.specs.Base.{pick}
 use Rattle.def_tree.specs.Tree.{Tree, Forest, count, counts, Core, no_core, flat, flats, take_f, plant, first_t}
 use Rattle.def_tree.specs.Combine.{re_arity}
 use Rattle.def_pass.specs.Tree.{height}
 use Rattle.words.specs.Layout.{Agree, node_of, run, tree, beyond}
 use Rattle.words_scopes.specs.State.{Good, Others, stack}
-use Rattle.words_nodes.specs.declared.Tall.{Tall}
-use Rattle.words_nodes.specs.declared.Tall.TheVariants.{Behind, Over}
-use Rattle.words_nodes.specs.declared.Step.{Step}
-use Rattle.words_nodes.specs.declared.Step.TheVariants.{Done, Refused}
+use Rattle.refusal.specs.declared.Refusal.{Refusal}
+use Rattle.refusal.specs.Number.{number}
 
 -- how many nodes the tree has
 abbrev pub size : List ℕ → ℕ
@@ -84,17 +82,17 @@ abbrev pub refusal : ℕ → ℕ → Tree → Tree → ℕ
 refusal p n old new = pick (ltb 201 (p + height new)) 8 (pick (ltb 1024 (n + count new - count old)) 9 0)
 
 -- what is said of a tree t at i: where it ends if it is at most h high, else that it is not
-abbrev pub Measured : Tall → ℕ → ℕ → Tree → Type 0
-Measured (Behind j) i h t = (j ≡ i + count t) × (height t ≤ h)
-Measured Over i h t = h < height t
+abbrev pub Measured : Option ℕ → ℕ → ℕ → Tree → Type 0
+Measured (Some j) i h t = (j ≡ i + count t) × (height t ≤ h)
+Measured None i h t = h < height t
 
 -- a step that refuses by number n, and leaves the words alone, or makes xs of the nodes
-abbrev pub Stepped : Step → List ℕ → List ℕ → ℕ → List Core → Type 0
-Stepped Done w w' n xs = (n ≡ 0) × Replants w w' xs
-Stepped (Refused m) w w' n xs = (n ≡ m) × (0 < m) × (w' ≡ w)
+abbrev pub Stepped : Result Unit Refusal → List ℕ → List ℕ → ℕ → List Core → Type 0
+Stepped (Ok _) w w' n xs = (n ≡ 0) × Replants w w' xs
+Stepped (Err r) w w' n xs = (n ≡ number r) × (w' ≡ w)
 
 -- the tree at i, at depth p, gives way to e, or a row refuses
-abbrev pub Swapped : Step → List ℕ → List ℕ → ℕ → ℕ → Tree → Type 0
+abbrev pub Swapped : Result Unit Refusal → List ℕ → List ℕ → ℕ → ℕ → Tree → Type 0
 Swapped r w w' p i e = Stepped r w w' (refusal p (get_or w 0 0) (tree_from (tree w) i) e) (put_at (tree w) i e)
 
 -- the tree of the m nodes from `at` on of the store at word `base`

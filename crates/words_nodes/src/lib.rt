@@ -8,21 +8,8 @@ ghost use Rattle.words.specs.Layout.{tree, run};
 ghost use Rattle.words_scopes.specs.State.{Whole};
 ghost use Rattle.words_nodes.specs.Nodes.{Planted, Trees, Child, tree_from, value_from, put_at, cut_at, Measured, Swapped, Apart, NodePut, Slid, Replants, size};
 
+use refusal::Refusal;
 use words::{arity_at, kind_at, layout, put4, shift};
-
-// Where a tree ends, or that it is too high.
-#[derive(Clone, Copy)]
-pub enum Tall {
-    Behind(usize),
-    Over,
-}
-
-// A change of the tree that document 01's rows may refuse.
-#[derive(Clone, Copy)]
-pub enum Step {
-    Done,
-    Refused(u32),
-}
 
 // The index behind the subtree at i.
 pub fn skip(w: &[u32], i: usize) -> usize
@@ -65,25 +52,19 @@ pub fn has_this(w: &[u32], i: usize) -> bool
 }
 
 // Where the tree at node `at` of the store at word `base` ends, if it is at most `left` high. No call goes deeper than `left`.
-pub fn within_height(w: &[u32], base: usize, at: usize, end: usize, left: u32) -> Tall
+pub fn within_height(w: &[u32], base: usize, at: usize, end: usize, left: u32) -> Option<usize>
     requires { (base + end * 2 ≤ length w.now) × (at < end) × (Trees (drop at (run w.now base 0 end))) }
     ensures { Measured result at left (tree_from (run w.now base 0 end) at) }
 {
     if left == 0 {
-        return Tall::Over;
+        return None;
     }
     let n = w[base + at * 2] / 2048 % 65536;
-    let mut k: u32 = 0;
     let mut j = at + 1;
-    while k < n {
-        let r = within_height(w, base, j, end, left - 1);
-        let Tall::Behind(e) = r else {
-            return r;
-        };
-        j = e;
-        k += 1;
+    for _k in 0..n {
+        j = within_height(w, base, j, end, left - 1)?;
     }
-    Tall::Behind(j)
+    Some(j)
 }
 
 // Stores node k.
@@ -133,39 +114,43 @@ pub fn put_run(w: &mut [u32], i: usize, old: usize, base: usize, at: usize, m: u
 }
 
 // The subtree at i, at depth p, gives way to a recorded value, if rows 8 and 9 let it.
-pub fn replace_at(w: &mut [u32], i: usize, p: u32, base: usize, at: usize, m: usize) -> Step
+pub fn replace_at(
+    w: &mut [u32],
+    i: usize,
+    p: u32,
+    base: usize,
+    at: usize,
+    m: usize,
+) -> Result<(), Refusal>
     requires { (Planted w.old) × (i < size w.old) × (p ≤ 201) × (2064 ≤ base) × (base + (at + m) * 2 ≤ length w.old) × (0 < m) × (Whole (run w.old base at m)) }
     ensures { Swapped result w.old w.new p i (value_from w.old base at m) }
 {
     let n = w[layout::NODE_COUNT] as usize;
-    let r = within_height(w, base, at, at + m, 201 - p);
-    let Tall::Behind(_) = r else {
-        return Step::Refused(8);
-    };
+    within_height(w, base, at, at + m, 201 - p).ok_or(Refusal::Depth)?;
     let old = skip(w, i) - i;
     if 1024 + old < n + m {
-        return Step::Refused(9);
+        return Err(Refusal::Room);
     }
     put_run(w, i, old, base, at, m);
-    Step::Done
+    Ok(())
 }
 
 // The subtree at i, at depth p, gives way to `void 0`: kind 30 with one child, kind 22.
-pub fn put_void(w: &mut [u32], i: usize, p: u32) -> Step
+pub fn put_void(w: &mut [u32], i: usize, p: u32) -> Result<(), Refusal>
     requires { (Planted w.old) × (i < size w.old) }
     ensures { Swapped result w.old w.new p i void_zero }
 {
     if 199 < p {
-        return Step::Refused(8);
+        return Err(Refusal::Depth);
     }
     let n = w[layout::NODE_COUNT] as usize;
     let old = skip(w, i) - i;
     if 1024 + old < n + 2 {
-        return Step::Refused(9);
+        return Err(Refusal::Room);
     }
     slide(w, i, old, 2);
     put4(w, layout::NODES + i * 2, 2078, 0, 22, 0);
-    Step::Done
+    Ok(())
 }
 
 // The node at i, of a subtree of `old` nodes, gives way to its second child, m nodes at j.
@@ -178,18 +163,15 @@ fn lift(w: &mut [u32], i: usize, old: usize, j: usize, m: usize)
 }
 
 // The same at depth p, if row 8 lets it; row 9 does, since there are no more nodes than before.
-pub fn unwrap(w: &mut [u32], i: usize, j: usize, p: u32) -> Step
+pub fn unwrap(w: &mut [u32], i: usize, j: usize, p: u32) -> Result<(), Refusal>
     requires { (Planted w.old) × (Child (tree w.old) i 1 j) × (p ≤ 201) }
     ensures { Swapped result w.old w.new p i (tree_from (tree w.old) j) }
 {
     let n = w[layout::NODE_COUNT] as usize;
-    let r = within_height(w, 16, j, n, 201 - p);
-    let Tall::Behind(e) = r else {
-        return Step::Refused(8);
-    };
+    let e = within_height(w, 16, j, n, 201 - p).ok_or(Refusal::Depth)?;
     let old = skip(w, i) - i;
     lift(w, i, old, j, e - j);
-    Step::Done
+    Ok(())
 }
 
 // The node at q loses its second child, at i: 2048 in its first word is one child.
