@@ -1,10 +1,9 @@
 // The kinds 1 to 44 of document 01, "The tree file", with their forms, and what may stand below each.
 ghost use Rattle.std.specs.Prelude.{◌≡◌, ◌&&◌, ◌||◌, eqb, leb, ◌<◌, ◌≤◌};
-ghost use Rattle.def_tree.specs.Base.{pick};
 ghost use Rattle.def_file.specs.Kinds.{allows, is_stmt, is_expr, every, led, ended, for_row, try_row, case_row, new_row, function_row, head_row, arrow_row, no_row, row_of, form_ok, count_ok, child_of, uses_text, uses_bits};
 
 // What may stand at a place.
-#[derive(Clone, Copy)]
+#[derive(Clone, Copy, Debug, PartialEq, Eq)]
 pub enum Class {
     // 1
     Root,
@@ -36,7 +35,7 @@ pub enum Class {
 
 // What a kind asks of a node: its least and greatest form, its least and greatest number of children, and what these may be: an only
 // child, else the first, the last and those between.
-#[derive(Clone, Copy)]
+#[derive(Clone, Copy, Debug, PartialEq, Eq)]
 pub struct Row {
     pub from: usize,
     pub to: usize,
@@ -148,19 +147,16 @@ fn no_row() -> Row
     }
 }
 
-// One of two classes.
-fn either(b: bool, x: Class, y: Class) -> Class
-    ensures { result ≡ pick b x y }
-{
-    if b { x } else { y }
-}
-
 // 12: form bits 1, 2, 4: start (5 or e), test, update present; then s.
 fn for_row(f: usize) -> Row
     ensures { result ≡ for_row f }
 {
     let n = 1 + f % 2 + f / 2 % 2 + f / 4 % 2;
-    let first = either(f % 2 == 1, Class::Start, Class::Expression);
+    let first = if f % 2 == 1 {
+        Class::Start
+    } else {
+        Class::Expression
+    };
     Row {
         from: 0,
         to: 7,
@@ -194,7 +190,7 @@ fn try_row(f: usize) -> Row
     ensures { result ≡ try_row f }
 {
     let n = 1 + f % 2 + f / 2 % 2;
-    let last = either(f == 1, Class::Catch, Class::Block);
+    let last = if f == 1 { Class::Catch } else { Class::Block };
     Row {
         from: 1,
         to: 3,
@@ -211,7 +207,11 @@ fn try_row(f: usize) -> Row
 fn case_row(f: usize) -> Row
     ensures { result ≡ case_row f }
 {
-    let first = either(f == 1, Class::Expression, Class::Statement);
+    let first = if f == 1 {
+        Class::Expression
+    } else {
+        Class::Statement
+    };
     led(1, f, ANY, first, Class::Statement)
 }
 
@@ -237,7 +237,11 @@ fn function_row(f: usize) -> Row
 fn arrow_row(f: usize) -> Row
     ensures { result ≡ arrow_row f }
 {
-    let last = either(f == 1, Class::Expression, Class::Block);
+    let last = if f == 1 {
+        Class::Expression
+    } else {
+        Class::Block
+    };
     ended(1, 1, ANY, Class::Binding, last)
 }
 
@@ -397,9 +401,7 @@ pub fn child(r: Row, n: u16, i: u16) -> Class
     if i == 0 {
         return r.first;
     }
-    let next = i as usize + 1;
-    let count = n as usize;
-    if next == count {
+    if usize::from(i) + 1 == usize::from(n) {
         return r.last;
     }
     r.rest

@@ -4,11 +4,22 @@
 pub mod kinds;
 
 // A node as the file holds it. `bits`: context or number.
-#[derive(Clone, Copy)]
+#[derive(Clone, Copy, Debug, PartialEq, Eq)]
 pub struct Raw {
     pub kind: u8,
     pub form: u8,
     pub arity: u16,
     pub text: u32,
     pub bits: u64,
+}
+
+impl Raw {
+    // The number 0: what stands at node number 0.
+    pub const ZERO: Raw = Raw {
+        kind: 24,
+        form: 0,
+        arity: 0,
+        text: 0,
+        bits: 0,
+    };
 }
