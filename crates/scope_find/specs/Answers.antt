@@ -1,15 +1,14 @@
--- The answer that is an enum, and the parts of a write. Assumes nothing: these are definitions.
-use Rattle.std.specs.Prelude.{Bool, true, false, ◌||◌, not, ℕ, eqb}
+-- Answers that may be none, and the parts of a write. Assumes nothing: these are definitions.
+use Rattle.std.specs.Prelude.{Option as Answer, Some, None, Bool, true, false, ◌||◌, not, ℕ, eqb}
 use Rattle.std.proofs.Math.Option.{Option, none, some}
 use Rattle.def_tree.specs.Base.{pick}
 use Rattle.def_tree.specs.Tree.{Core}
 use Rattle.def_pass.specs.Scope.{Stack, v_var, change, defined, prevent_inline, scope_for, has_constant, append, fresh}
-use Rattle.scope_find.specs.declared.Count.{Count}
-use Rattle.scope_find.specs.declared.Count.TheVariants.{Nothing, Reads}
 
-abbrev pub count_of : Count → Option ℕ
-count_of Nothing = none
-count_of (Reads n) = some n
+-- an answer as the definition's option
+abbrev pub count_of : Answer ℕ → Option ℕ
+count_of None = none
+count_of (Some n) = some n
 
 -- the parts of add_write behind its marks: of an identifier that is bound, of one that is not, and both
 abbrev pub write_bound : ℕ → Bool → Stack → Stack

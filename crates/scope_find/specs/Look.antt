@@ -6,14 +6,27 @@ use Rattle.def_tree.specs.Tree.{Tree, kind, plant, first_t}
 use Rattle.def_pass.specs.Scope.{VarInfo, Scope, Stack, is_fn, find_in, idx_val, is_hoisted_prevented, prevent_param}
 use Rattle.words.specs.Tab.{tab}
 use Rattle.words.specs.Layout.{tree}
-use Rattle.words_scopes.specs.State.{bind_at, const_at, Head, head_at, heads_at, scope_of, split, index_in, place}
+use Rattle.words_scopes.specs.State.{Good, bind_at, const_at, Head, head_at, heads_at, scope_of, split, index_in, place}
+
+-- the words stand for a state, and it has scope k, binding k, node i
+abbrev pub HasScope : List ℕ → ℕ → Type 0
+HasScope w k = Good w × (k < get_or w 2 0)
+
+abbrev pub HasBinding : List ℕ → ℕ → Type 0
+HasBinding w k = Good w × (k < get_or w 1 0)
+
+abbrev pub HasNode : List ℕ → ℕ → Type 0
+HasNode w i = Good w × (i < get_or w 0 0)
 
 -- where the bindings and the constants of scope k begin; behind the last scope, where they end
+abbrev pub start : List ℕ → (k field count : ℕ) → ℕ
+start w k field count = pick (ltb k (get_or w 2 0)) (get_or w (7184 + k * 4 + field) 0) (get_or w count 0)
+
 unfoldable pub first : List ℕ → ℕ → ℕ
-first w k = pick (ltb k (get_or w 2 0)) (get_or w (7184 + k * 4 + 1) 0) (get_or w 1 0)
+first w k = start w k 1 1
 
 unfoldable pub cfirst : List ℕ → ℕ → ℕ
-cfirst w k = pick (ltb k (get_or w 2 0)) (get_or w (7184 + k * 4 + 2) 0) (get_or w 3 0)
+cfirst w k = start w k 2 3
 
 -- scope k, counted from the root; and the scopes before it, the innermost first
 unfoldable pub scope_at : List ℕ → ℕ → Scope
@@ -56,10 +69,10 @@ abbrev pub reads_o : Option VarInfo → Option ℕ
 reads_o none = none
 reads_o (some b) = some b.read_cnt
 
--- a value's kind, 0 where there is none
-abbrev pub kind_o : Option Tree → ℕ
-kind_o none = 0
-kind_o (some t) = kind t
+-- a value's kind
+abbrev pub kind_o : Option Tree → Option ℕ
+kind_o none = none
+kind_o (some t) = some (kind t)
 
 -- the tree whose first node is node i
 unfoldable pub node_tree : List ℕ → ℕ → Tree
