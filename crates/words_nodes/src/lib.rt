@@ -18,6 +18,7 @@ pub fn skip(w: &[u32], i: usize) -> usize
 {
     let mut at = i;
     let mut trees: usize = 1;
+    // A while: how many nodes it looks at depends on the nodes.
     while 0 < trees {
         trees = trees - 1 + arity_at(w, at) as usize;
         at += 1;
@@ -32,15 +33,13 @@ pub fn has_this(w: &[u32], i: usize) -> bool
 {
     let mut at = i;
     let mut more: usize = 1;
+    // A while: the index moves by a subtree's length.
     while 0 < more {
         let k = kind_at(w, at);
         if k == 26 {
             return true;
         }
-        if k == 39 {
-            at = skip(w, at);
-            more -= 1;
-        } else if k == 7 {
+        if k == 39 || k == 7 {
             at = skip(w, at);
             more -= 1;
         } else {

@@ -18,32 +18,33 @@ returns-then-left-eq0 t c =
     let a = c.args in
     omega (arith, node-height (run a.w.now a.base 0 a.end) a.at (rw store_length c.requires.1))
 
-pub loop-_k-init : goal.loop-_k-init
-loop-_k-init t c =
+pub loop-k-init : goal.loop-k-init
+loop-k-init t c =
     let a = c.args in
     measuring-none (run a.w.now a.base 0 a.end) a.at (a.left - 1)
 
 pub within_height-requires : goal.within_height-requires
 within_height-requires t c =
     let a = c.args in
-    let ch = measuring-child (rw store_length c.requires.1) c.loop-_k.invariant (rw (arity a.w.now a.base a.at a.end c.requires.1) c.loop-_k-test.true) (trees-whole c.requires.2) in
+    let ch = measuring-child (rw store_length c.requires.1) c.loop-k.invariant (rw (arity a.w.now a.base a.at a.end c.requires.1) c.loop-k-test.true) (trees-whole c.requires.2) in
     let lt = child-lt ch (trees-whole c.requires.2) in
-    (omega (arith, c.decreases), (c.requires.0, rw store_length at lt.1, whole-trees (drop c.loop-_k.j (run a.w.now a.base 0 a.end)) (child-whole ch (trees-whole c.requires.2))))
+    (omega (arith, c.decreases), (c.requires.0, rw store_length at lt.1, whole-trees (drop c.loop-k.j (run a.w.now a.base 0 a.end)) (child-whole ch (trees-whole c.requires.2))))
 
 pub returns-in_err-j : goal.returns-in_err-j
 returns-in_err-j t c =
     let a = c.args in
-    let m : a.left - 1 < height (tree_from (run a.w.now a.base 0 a.end) c.loop-_k.j) = c.in_err-j.ensures in
-    rw c.in_err-j.is (omega (arith, measuring-over (rw store_length c.requires.1) c.loop-_k.invariant (rw (arity a.w.now a.base a.at a.end c.requires.1) c.loop-_k-test.true) (trees-whole c.requires.2) m))
+    let m : a.left - 1 < height (tree_from (run a.w.now a.base 0 a.end) c.loop-k.j) = c.in_err-j.ensures in
+    let h : a.left < height (tree_from (run a.w.now a.base 0 a.end) a.at) = omega (arith, measuring-over (rw store_length c.requires.1) c.loop-k.invariant (rw (arity a.w.now a.base a.at a.end c.requires.1) c.loop-k-test.true) (trees-whole c.requires.2) m) in
+    rw c.from_residual.ensures h
 
-pub loop-_k-preserved : goal.loop-_k-preserved
-loop-_k-preserved t c =
+pub loop-k-preserved : goal.loop-k-preserved
+loop-k-preserved t c =
     let a = c.args in
     let m = c.in_ok-j.ensures in
-    measuring-more (rw store_length c.requires.1) c.loop-_k.invariant (rw (arity a.w.now a.base a.at a.end c.requires.1) c.loop-_k-test.true) (trees-whole c.requires.2) m.0 m.1
+    measuring-more (rw store_length c.requires.1) c.loop-k.invariant (rw (arity a.w.now a.base a.at a.end c.requires.1) c.loop-k-test.true) (trees-whole c.requires.2) m.0 m.1
 
 pub returns : goal.returns
 returns t c =
     let a = c.args in
-    let m = measuring-all (rw store_length c.requires.1) c.loop-_k.invariant (omega (arith, arity a.w.now a.base a.at a.end c.requires.1, c.loop-_k.invariant.few)) in
+    let m = measuring-all (rw store_length c.requires.1) c.loop-k.invariant (omega (arith, arity a.w.now a.base a.at a.end c.requires.1, c.loop-k.invariant.few)) in
     (m.0, omega (arith, m.1))

@@ -12,12 +12,12 @@ use Rattle.words_nodes.proofs.Rows.{row-8, row-9, row-0}
 use Rattle.words_nodes.proofs.put_void.Goals as goal
 
 pub returns-then-p-gt199 : goal.returns-then-p-gt199
-returns-then-p-gt199 c = (row-8 c.args.p (get_or c.args.w.now 0 0) (tree_from (tree c.args.w.now) c.args.i) void_zero (omega arith), omega arith, refl)
+returns-then-p-gt199 c = (row-8 c.args.p (get_or c.args.w.now 0 0) (tree_from (tree c.args.w.now) c.args.i) void_zero (omega arith), refl)
 
 pub returns-then-old-n : goal.returns-then-old-n
 returns-then-old-n c =
     let eo : c.skip.result - c.args.i ≡ count (tree_from (tree c.args.w.now) c.args.i) = omega (arith, c.skip.ensures.0) in
-    (row-9 c.args.p (get_or c.args.w.now 0 0) (tree_from (tree c.args.w.now) c.args.i) void_zero (omega arith) (omega arith), omega arith, refl)
+    (row-9 c.args.p (get_or c.args.w.now 0 0) (tree_from (tree c.args.w.now) c.args.i) void_zero (omega arith) (omega arith), refl)
 
 pub returns : goal.returns
 returns c =
