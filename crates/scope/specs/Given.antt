@@ -1,5 +1,5 @@
 -- What a caller of scope.rs gives: an init, a value. Assumes nothing: these are definitions.
-use Rattle.std.specs.Prelude.{◌≡◌, List, ℕ, ◌+◌, ◌≤◌, get_or}
+use Rattle.std.specs.Prelude.{◌≡◌, Option as Maybe, Some, None, List, ℕ, ◌+◌, ◌≤◌, get_or}
 use Rattle.std.proofs.Math.Option.{Option, none, some}
 use Rattle.def_tree.specs.Tree.{Tree, Core}
 use Rattle.def_pass.specs.Scope as def
@@ -8,13 +8,11 @@ use Rattle.words_scopes.specs.State.{value_of, run_of}
 use Rattle.scope_define.specs.declared.Init.{Init}
 use Rattle.scope_declare.specs.Inits.{init_from}
 use Rattle.scope_var_info.specs.Handles.{tree_o}
-use Rattle.scope.specs.declared.Value.{Value}
-use Rattle.scope.specs.declared.Value.TheVariants.{Nothing, At}
 
 -- a value that is given: none, or the tree at a node
-abbrev pub value_at : List Core → Value → Option Tree
-value_at xs Nothing = none
-value_at xs (At i) = tree_o xs i
+abbrev pub value_at : List Core → Maybe ℕ → Option Tree
+value_at xs None = none
+value_at xs (Some i) = tree_o xs i
 
 -- an init that is given, which is none without a tree
 abbrev pub init_o : Init → Option Tree → def.Init

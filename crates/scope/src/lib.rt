@@ -2,13 +2,13 @@
 // state. The look-ups are in crates/scope_var_info; a node or a value that the state has not is answered as none.
 #![tactic(auto)]
 
-ghost use Rattle.std.specs.Prelude.{◌≡◌, ◌&&◌, not, ◌∷◌, leb, length};
-ghost use Rattle.def_pass.specs.Scope.{new_scope, declare, is_var, add_const, change, defined, with_value};
+ghost use Rattle.std.specs.Prelude.{◌≡◌, ◌&&◌, not};
+ghost use Rattle.def_pass.specs.Scope.{declare, is_var, add_const, change, defined, with_value};
 ghost use Rattle.def_pass.specs.Walk.{declare_m};
 ghost use Rattle.words.specs.Layout.{tree};
-ghost use Rattle.words_scopes.specs.State.{Good, stack, scope_kind_of, targeted};
-ghost use Rattle.scope_values.specs.Steps.{Limited, Grown};
-ghost use Rattle.scope_define.specs.Kinds.{type_of};
+ghost use Rattle.words_scopes.specs.State.{Good, stack, targeted};
+ghost use Rattle.words_scopes.specs.Kinds.{type_of};
+ghost use Rattle.scope_values.specs.Steps.{Grown};
 ghost use Rattle.words_nodes.specs.Nodes.{Planted, tree_from, size};
 ghost use Rattle.words_state.specs.State.{rest};
 ghost use Rattle.scope_declare.specs.Inits.{init_from, Sited, has_none};
@@ -16,51 +16,26 @@ ghost use Rattle.scope_var_info.specs.Handles.{tree_o};
 ghost use Rattle.scope.specs.Given.{init_o, value_at, Runs};
 ghost use Rattle.scope.specs.Steps.{named, done_of, Moves};
 
-pub use scope_child::{Scope, ScopeKind, close, open_scope};
+use refusal::Refusal;
+pub use scope_child::{close, open_scope};
 use scope_declare::no_value;
-pub use scope_define::{Init, VarDeclKind, VarType};
+pub use scope_define::Init;
 pub use scope_find::{
-    Count, has_constant, ident_prevented, read_cnt, read_prevents_inlining, scope_for,
+    has_constant, ident_prevented, read_cnt, read_prevents_inlining, scope_for,
     should_prevent_inline_because_of_scope, write_prevents_inline,
 };
 pub use scope_marks::mark::{mark_this_sensitive, prevent_inline_of_params, store_inline_barrier};
 pub use scope_read_write::{add_read, add_write};
-use scope_values::Step;
 use scope_var_info::in_tree;
 pub use scope_var_info::{
     find_binding, find_binding_from_current, find_constant, has_same_this, idx_val,
     is_inline_prevented, is_param, is_undefined, put_constant, put_value, value_ident, value_kind,
     value_len, var_inline_prevented,
 };
-use words::layout;
+use words::{Run, layout};
 use words_nodes::skip;
-pub use words_scopes::prevent_inline;
-
-// A value that is recorded: none, or the tree that begins at a node.
-#[derive(Clone, Copy)]
-pub enum Value {
-    Nothing,
-    At(usize),
-}
-
-// The nodes of a value.
-#[derive(Clone, Copy)]
-struct Run {
-    at: usize,
-    len: usize,
-}
-
-// with_child, at its beginning: a scope of the kind that a word stands for.
-pub fn open_kind(w: &mut [u32], kind: u32) -> Step
-    requires { Good w.old }
-    ensures { Limited 8 (leb 32 (length (stack w.old))) w.old w.new (new_scope (scope_kind_of kind) ∷ stack w.old) result }
-{
-    if 32 <= w[layout::SCOPE_COUNT] {
-        return Step::Refused(8);
-    }
-    words_scopes::open(w, kind);
-    Step::Done
-}
+pub use words_scopes::{Scope, ScopeKind, VarDeclKind, VarType, prevent_inline};
+use words_state::var_decl_kind;
 
 // The init of a declaration, none if its tree is not in the state.
 fn sited(w: &[u32], v: Init, i: usize) -> Init
@@ -82,7 +57,7 @@ pub fn declare(
     i: usize,
     undefined: bool,
     kind: VarType,
-) -> Step
+) -> Result<(), Refusal>
     requires { Planted w.old }
     ensures { Grown w.old w.new (declare again x (init_o v (tree_o (tree w.old) i)) undefined (type_of kind) (stack w.old)) result }
 {
@@ -95,16 +70,10 @@ fn undefined_now(w: &[u32], v: Init, is_change: bool) -> bool
     requires { Good w.now }
     ensures { result ≡ (is_var (rest w.now).var_decl_kind && not is_change && has_none v && (rest w.now).inlining) }
 {
-    if w[layout::VAR_DECL_KIND] != 1 {
-        return false;
-    }
-    if is_change {
-        return false;
-    }
-    if no_value(v) {
-        return w[layout::INLINING] != 0;
-    }
-    false
+    var_decl_kind(w) == VarType::Declared(VarDeclKind::Var)
+        && !is_change
+        && no_value(v)
+        && w[layout::INLINING] != 0
 }
 
 // Inlining::declare, of a name with its form.
@@ -116,7 +85,7 @@ pub fn declare_m(
     i: usize,
     is_change: bool,
     kind: VarType,
-) -> Step
+) -> Result<(), Refusal>
     requires { Planted w.old }
     ensures { Moves w.old w.new (declare_m (named f x) (init_o v (tree_o (tree w.old) i)) is_change (type_of kind) (rest w.old)) (done_of result (rest w.new)) }
 {
@@ -125,52 +94,44 @@ pub fn declare_m(
     scope_declare::declare(w, 1 < f, x, e, i, undefined, kind)
 }
 
-// constants.insert: x is a constant of the current scope, without a value if that is an identifier that the script as read targets (request 8).
-pub fn add_const(w: &mut [u32], x: u8, v: Value) -> Step
+// constants.insert: x is a constant of the current scope, with the tree at a node as its value, if one is given; without it if that is an
+// identifier that the script as read targets (request 8).
+pub fn add_const(w: &mut [u32], x: u8, v: Option<usize>) -> Result<(), Refusal>
     requires { Planted w.old }
     ensures { Grown w.old w.new (add_const (targeted w.old) x (value_at (tree w.old) v) (stack w.old)) result }
 {
-    let e = run_of(w, v);
-    let at = e.at;
-    let len = e.len;
-    scope_constants::add_const(w, x, at, len)
+    let r = run_of(w, v);
+    scope_constants::add_const(w, x, r)
 }
 
-// The nodes of a value.
-fn run_of(w: &[u32], v: Value) -> Run
+// The nodes of a value: of none, or of the tree that begins at a node.
+fn run_of(w: &[u32], v: Option<usize>) -> Run
     requires { Planted w.now }
     ensures { Runs w.now (value_at (tree w.now) v) result.at result.len }
 {
-    match v {
-        Value::Nothing => Run { at: 0, len: 0 },
-        Value::At(i) => {
-            if in_tree(w, i) {
-                let e = skip(w, i);
-                return Run { at: i, len: e - i };
-            }
-            Run { at: 0, len: 0 }
-        }
+    if let Some(i) = v && in_tree(w, i) {
+        return Run {
+            at: i,
+            len: skip(w, i) - i,
+        };
     }
+    Run { at: 0, len: 0 }
 }
 
 // The innermost binding of x gets a value.
-pub fn record_value(w: &mut [u32], x: u8, v: Value) -> Step
+pub fn record_value(w: &mut [u32], x: u8, v: Option<usize>) -> Result<(), Refusal>
     requires { Planted w.old }
     ensures { Grown w.old w.new (change x (with_value (value_at (tree w.old) v)) (stack w.old)) result }
 {
-    let e = run_of(w, v);
-    let at = e.at;
-    let len = e.len;
-    scope_values::record_value(w, x, at, len)
+    let r = run_of(w, v);
+    scope_values::record_value(w, x, r)
 }
 
 // The innermost binding of x gets its first value.
-pub fn first_value(w: &mut [u32], x: u8, v: Value) -> Step
+pub fn first_value(w: &mut [u32], x: u8, v: Option<usize>) -> Result<(), Refusal>
     requires { Planted w.old }
     ensures { Grown w.old w.new (change x (λ c. defined (with_value (value_at (tree w.old) v) c)) (stack w.old)) result }
 {
-    let e = run_of(w, v);
-    let at = e.at;
-    let len = e.len;
-    scope_define::first_value(w, x, at, len)
+    let r = run_of(w, v);
+    scope_define::first_value(w, x, r)
 }

@@ -1,16 +1,15 @@
 -- What a caller of scope.rs holds: a binding by its number, a tree by its first node. Assumes nothing: these are definitions.
-use Rattle.std.specs.Prelude.{◌≡◌, List, [], ◌∷◌, ◌++◌, Bool, false, ℕ, zero, suc, ◌+◌, ◌≤◌, ◌<◌, ltb, length}
+use Rattle.std.specs.Prelude.{◌≡◌, Option as Maybe, Some, None, Result, Ok, List, [], ◌∷◌, ◌++◌, Bool, false, ℕ, zero, suc, ◌+◌, ◌≤◌, ◌<◌, ltb, length}
 use Rattle.std.proofs.Math.Option.{Option, none, some}
 use Rattle.std.proofs.Math.ListN.{get_elem?}
 use Rattle.def_tree.specs.Base.{pick}
-use Rattle.def_tree.specs.Tree.{Tree, node, nil, Core}
+use Rattle.def_tree.specs.Tree.{Tree, node, nil, Core, count, num}
 use Rattle.def_pass.specs.Scope.{VarInfo, Stack}
-use Rattle.def_pass.specs.Tree.{count_o}
+use Rattle.def_pass.specs.Tree.{count_o, is_ident}
 use Rattle.words.specs.Layout.{run}
 use Rattle.words_scopes.specs.State.{Whole}
 use Rattle.words_nodes.specs.Nodes.{tree_from, value_from, Swapped}
-use Rattle.words_nodes.specs.declared.Step.{Step}
-use Rattle.words_nodes.specs.declared.Step.TheVariants.{Done}
+use Rattle.refusal.specs.declared.Refusal.{Refusal}
 
 -- all bindings, the root's first, in each scope the oldest first
 abbrev pub bindings_of : Stack → List VarInfo
@@ -59,13 +58,22 @@ indexed [] r = none
 indexed (s ∷ st) zero = none
 indexed (s ∷ st) (suc j) = with_index j (get_elem? s.bindings j)
 
+-- of a value that there is: the identifier that it is, and how many nodes it has
+abbrev pub ident_o : Option Tree → Maybe ℕ
+ident_o none = None
+ident_o (some t) = pick (is_ident t) (Some (num t)) None
+
+abbrev pub counted_o : Option Tree → Maybe ℕ
+counted_o none = None
+counted_o (some t) = Some (count t)
+
 -- the tree of a value that there is
 abbrev pub held : Option Tree → Tree
 held none = node 0 0 0 nil
 held (some t) = t
 
 -- a value in the place of the tree at a node, or a row refuses; nothing where there is no node, or no value
-abbrev pub Puts : Step → List ℕ → List ℕ → ℕ → ℕ → Option Tree → Option Tree → Type 0
-Puts r w u p i none v = (r ≡ Done) × (u ≡ w)
-Puts r w u p i (some t) none = (r ≡ Done) × (u ≡ w)
+abbrev pub Puts : Result Unit Refusal → List ℕ → List ℕ → ℕ → ℕ → Option Tree → Option Tree → Type 0
+Puts r w u p i none v = (r ≡ Ok tt) × (u ≡ w)
+Puts r w u p i (some t) none = (r ≡ Ok tt) × (u ≡ w)
 Puts r w u p i (some t) (some e) = Swapped r w u p i e

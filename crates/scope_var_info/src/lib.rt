@@ -1,30 +1,29 @@
-// scope.rs's look-ups, as callers see them: a binding is held by its number, 0 for none; a number or a node that the state has not is answered
-// as none. A recorded value is named by its binding's number, or by its constant's name, and is put into the tree from here.
+// scope.rs's look-ups, as callers see them: a binding is held by its number, from 0 on; a number or a node that the state has not is answered as
+// none. A recorded value is named by its binding's number, or by its constant's name, and is put into the tree from here.
 #![tactic(auto)]
 
-ghost use Rattle.std.specs.Prelude.{◌≡◌, true, false, ◌-◌, ◌≤◌, ◌<◌, get_or, length};
+ghost use Rattle.std.specs.Prelude.{◌≡◌, true, false, suc, ◌≤◌, ◌<◌, get_or, length, IfSome};
 ghost use Rattle.std.proofs.Math.Option.{none, some};
 ghost use Rattle.def_pass.specs.Scope.{find_binding, find_binding_from_current, is_param, var_inline_prevented, value_o, prevented_o, has_same_this, find_constant, Free};
 ghost use Rattle.def_pass.specs.Tree.{count_o};
 ghost use Rattle.words.specs.Layout.{tree};
-ghost use Rattle.words_scopes.specs.State.{Good, stack, name_of, targeted};
-ghost use Rattle.scope_find.specs.Look.{kind_o, idx_here};
+ghost use Rattle.words.specs.Place.{placed};
+ghost use Rattle.words_scopes.specs.State.{Good, stack, targeted};
+ghost use Rattle.scope_find.specs.Look.{idx_here};
 ghost use Rattle.words_nodes.specs.Nodes.{Planted, value_from, size};
-ghost use Rattle.scope_var_info.specs.Handles.{bindings_of, numbered, indexed, of_binding, tree_o, Held, Sits, Puts};
+ghost use Rattle.scope_var_info.specs.Handles.{bindings_of, numbered, indexed, of_binding, tree_o, ident_o, counted_o, Held, Sits, Puts};
 
-use scope_values::Constant;
-use words::layout;
+use refusal::Refusal;
+use words::{Run, layout};
 use words_nodes::replace_at;
+use words_scopes::VarType;
 
 // Is b the number of a binding.
 fn known(w: &[u32], b: usize) -> bool
     requires { Good w.now }
-    ensures { (result ≡ true → (0 < b) × (b ≤ get_or w.now 1 0)) × (result ≡ false → numbered (stack w.now) b ≡ none) }
+    ensures { (result ≡ true → b < get_or w.now 1 0) × (result ≡ false → numbered (stack w.now) (suc b) ≡ none) }
 {
-    if b == 0 {
-        return false;
-    }
-    b <= w[layout::BINDING_COUNT] as usize
+    b < w[layout::BINDING_COUNT] as usize
 }
 
 // Is i a node of the tree.
@@ -35,24 +34,24 @@ pub fn in_tree(w: &[u32], i: usize) -> bool
     i < w[layout::NODE_COUNT] as usize
 }
 
-pub fn find_binding(w: &[u32], x: u8) -> usize
+pub fn find_binding(w: &[u32], x: u8) -> Option<usize>
     requires { Good w.now }
-    ensures { (find_binding x (stack w.now) ≡ numbered (stack w.now) result) × (result ≤ length (bindings_of (stack w.now))) }
+    ensures { (find_binding x (stack w.now) ≡ numbered (stack w.now) (placed result)) × (placed result ≤ length (bindings_of (stack w.now))) }
 {
     words_scopes::find_binding(w, x)
 }
 
-// 1 + the index of the binding of x in the current scope, 0 if there is none.
-pub fn idx_val(w: &[u32], x: u8) -> usize
+// The index of the binding of x in the current scope.
+pub fn idx_val(w: &[u32], x: u8) -> Option<usize>
     requires { Good w.now }
-    ensures { idx_here x (stack w.now) ≡ indexed (stack w.now) result }
+    ensures { idx_here x (stack w.now) ≡ indexed (stack w.now) (placed result) }
 {
     scope_find::idx_val(w, x)
 }
 
-pub fn find_binding_from_current(w: &[u32], x: u8) -> usize
+pub fn find_binding_from_current(w: &[u32], x: u8) -> Option<usize>
     requires { Good w.now }
-    ensures { (find_binding_from_current x (stack w.now) ≡ numbered (stack w.now) result) × (result ≤ length (bindings_of (stack w.now))) }
+    ensures { (find_binding_from_current x (stack w.now) ≡ numbered (stack w.now) (placed result)) × (placed result ≤ length (bindings_of (stack w.now))) }
 {
     scope_find::find_binding_from_current(w, x)
 }
@@ -80,66 +79,57 @@ pub fn has_same_this(w: &[u32], x: u8, i: usize) -> bool
 // VarInfo::is_param.
 pub fn is_param(w: &[u32], b: usize) -> bool
     requires { Good w.now }
-    ensures { result ≡ of_binding (λ v. is_param v.kind) (numbered (stack w.now) b) }
+    ensures { result ≡ of_binding (λ v. is_param v.kind) (numbered (stack w.now) (suc b)) }
 {
-    if known(w, b) {
-        return scope_find::var_type(w, b - 1) == 0;
-    }
-    false
+    known(w, b) && scope_find::var_type(w, b) == VarType::Param
 }
 
 // VarInfo::is_inline_prevented.
 pub fn var_inline_prevented(w: &[u32], b: usize) -> bool
     requires { Good w.now }
-    ensures { result ≡ of_binding var_inline_prevented (numbered (stack w.now) b) }
+    ensures { result ≡ of_binding var_inline_prevented (numbered (stack w.now) (suc b)) }
 {
-    if known(w, b) {
-        return scope_find::var_inline_prevented(w, b - 1);
-    }
-    false
+    known(w, b) && scope_find::var_inline_prevented(w, b)
 }
 
 // VarInfo's is_undefined.
 pub fn is_undefined(w: &[u32], b: usize) -> bool
     requires { Good w.now }
-    ensures { result ≡ of_binding (λ v. v.is_undefined) (numbered (stack w.now) b) }
+    ensures { result ≡ of_binding (λ v. v.is_undefined) (numbered (stack w.now) (suc b)) }
 {
-    if known(w, b) {
-        return scope_find::is_undefined(w, b - 1);
-    }
-    false
+    known(w, b) && scope_find::is_undefined(w, b)
 }
 
-// VarInfo's value: its kind, 0 if there is none.
-pub fn value_kind(w: &[u32], b: usize) -> u32
+// VarInfo's value: its kind.
+pub fn value_kind(w: &[u32], b: usize) -> Option<u32>
     requires { Good w.now }
-    ensures { result ≡ kind_o (value_o (numbered (stack w.now) b)) }
+    ensures { result ≡ kind_o (value_o (numbered (stack w.now) (suc b))) }
 {
     if known(w, b) {
-        return scope_find::value_kind(w, b - 1);
+        return scope_find::value_kind(w, b);
     }
-    0
+    None
 }
 
-// The identifier that it is, 256 if it is none.
-pub fn value_ident(w: &[u32], b: usize) -> u32
+// The identifier that it is.
+pub fn value_ident(w: &[u32], b: usize) -> Option<u32>
     requires { Good w.now }
-    ensures { result ≡ name_of (value_o (numbered (stack w.now) b)) }
+    ensures { result ≡ ident_o (value_o (numbered (stack w.now) (suc b))) }
 {
     if known(w, b) {
-        let at = words_scopes::offset(w, b - 1);
-        return words_scopes::named(w, b - 1, at);
+        let at = words_scopes::offset(w, b);
+        return words_scopes::named(w, b, at);
     }
-    256
+    None
 }
 
 // How many nodes it has, 0 if there is none.
 pub fn value_len(w: &[u32], b: usize) -> usize
     requires { Good w.now }
-    ensures { (result ≡ count_o (value_o (numbered (stack w.now) b))) × (result ≤ 512) }
+    ensures { (result ≡ count_o (value_o (numbered (stack w.now) (suc b)))) × (result ≤ 512) }
 {
     if known(w, b) {
-        return scope_find::value_len(w, b - 1);
+        return scope_find::value_len(w, b);
     }
     0
 }
@@ -147,60 +137,56 @@ pub fn value_len(w: &[u32], b: usize) -> usize
 // Where they stand among the values recorded for bindings.
 fn value_at(w: &[u32], b: usize) -> usize
     requires { Good w.now }
-    ensures { Sits w.now (value_o (numbered (stack w.now) b)) result }
+    ensures { Sits w.now (value_o (numbered (stack w.now) (suc b))) result }
 {
     if known(w, b) {
-        return words_scopes::offset(w, b - 1);
+        return words_scopes::offset(w, b);
     }
     0
 }
 
-// A recorded value, of m nodes of a store, takes the place of the tree at node i, at depth p, if rows 8 and 9 let it.
-fn put_held(w: &mut [u32], i: usize, p: u32, base: usize, at: usize, m: usize) -> words_nodes::Step
-    requires { (Planted w.old) × (2064 ≤ base) × (base ≤ 3088) × (Held w.old base at m) }
-    ensures { Puts result w.old w.new p i (tree_o (tree w.old) i) (some (value_from w.old base at m)) }
+// A recorded value, a run of nodes of a store, takes the place of the tree at node i, at depth p, if rows 8 and 9 let it.
+fn put_held(w: &mut [u32], i: usize, p: u32, base: usize, r: Run) -> Result<(), Refusal>
+    requires { (Planted w.old) × (2064 ≤ base) × (base ≤ 3088) × (Held w.old base r.at r.len) }
+    ensures { Puts result w.old w.new p i (tree_o (tree w.old) i) (some (value_from w.old base r.at r.len)) }
 {
     if in_tree(w, i) {
         if 201 < p {
-            return words_nodes::Step::Refused(8);
+            return Err(Refusal::Depth);
         }
-        return replace_at(w, i, p, base, at, m);
+        return replace_at(w, i, p, base, r);
     }
-    words_nodes::Step::Done
+    Ok(())
 }
 
 // The value of binding b, if it has one, takes the place of the tree at node i, at depth p, if rows 8 and 9 let it.
-pub fn put_value(w: &mut [u32], i: usize, p: u32, b: usize) -> words_nodes::Step
+pub fn put_value(w: &mut [u32], i: usize, p: u32, b: usize) -> Result<(), Refusal>
     requires { Planted w.old }
-    ensures { Puts result w.old w.new p i (tree_o (tree w.old) i) (value_o (numbered (stack w.old) b)) }
+    ensures { Puts result w.old w.new p i (tree_o (tree w.old) i) (value_o (numbered (stack w.old) (suc b))) }
 {
-    let m = value_len(w, b);
-    if m == 0 {
-        return words_nodes::Step::Done;
+    let len = value_len(w, b);
+    if len == 0 {
+        return Ok(());
     }
     let at = value_at(w, b);
-    put_held(w, i, p, layout::VALUES, at, m)
+    put_held(w, i, p, layout::VALUES, Run { at, len })
 }
 
-// How many nodes the value of the innermost constant of x that has one has, 0 if there is none; an identifier is none that the script as read
-// targets (request 8).
-pub fn find_constant(w: &[u32], x: u8) -> usize
+// How many nodes the value of the innermost constant of x that has one has; an identifier is none that the script as read targets (request 8).
+pub fn find_constant(w: &[u32], x: u8) -> Option<usize>
     requires { Good w.now }
-    ensures { (result ≡ count_o (find_constant x (stack w.now))) × (result ≤ 512) × (Free (targeted w.now) (find_constant x (stack w.now))) }
+    ensures { (result ≡ counted_o (find_constant x (stack w.now))) × (IfSome result (λ m. m ≤ 512)) × (Free (targeted w.now) (find_constant x (stack w.now))) }
 {
-    match scope_constants::find_constant(w, x) {
-        Constant::Unknown => 0,
-        Constant::At(_, m) => m,
-    }
+    scope_constants::find_constant(w, x).map(|r| r.len)
 }
 
 // That value, if there is one, takes the place of the tree at node i, at depth p, if rows 8 and 9 let it; an identifier is none that is targeted.
-pub fn put_constant(w: &mut [u32], i: usize, p: u32, x: u8) -> words_nodes::Step
+pub fn put_constant(w: &mut [u32], i: usize, p: u32, x: u8) -> Result<(), Refusal>
     requires { Planted w.old }
     ensures { (Puts result w.old w.new p i (tree_o (tree w.old) i) (find_constant x (stack w.old))) × (Free (targeted w.old) (find_constant x (stack w.old))) }
 {
-    match scope_constants::find_constant(w, x) {
-        Constant::Unknown => words_nodes::Step::Done,
-        Constant::At(at, m) => put_held(w, i, p, layout::CONSTANT_VALUES, at, m),
-    }
+    let Some(r) = scope_constants::find_constant(w, x) else {
+        return Ok(());
+    };
+    put_held(w, i, p, layout::CONSTANT_VALUES, r)
 }
