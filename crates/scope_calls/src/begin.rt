@@ -4,7 +4,8 @@ ghost use Rattle.def_tree.specs.Tree.{Core, core};
 ghost use Rattle.words_nodes.specs.Nodes.{Planted};
 ghost use Rattle.scope_calls.specs.Begun.{Begun};
 
-use scope_child::{Scope, ScopeKind, open_scope};
+use refusal::Refusal;
+use scope::{Scope, ScopeKind, open_scope};
 use words::clear;
 use words_nodes::add_node;
 
@@ -35,11 +36,11 @@ fn plant(w: &mut [u32])
     grow(w, 21, 0, 2);
 }
 
-pub fn begin(w: &mut [u32])
+pub fn begin(w: &mut [u32]) -> Result<(), Refusal>
     requires { 16384 ≤ length w.old }
     ensures { Planted w.new }
 {
     plant(w);
     let root = Scope::new(ScopeKind::DEFAULT);
-    open_scope(w, root);
+    open_scope(w, root)
 }

@@ -12,6 +12,7 @@ mod values;
 
 use begin::begin;
 use input::read_full;
+use refusal::Refusal;
 use show::{alike, show};
 use std::io;
 use steps::call;
@@ -20,20 +21,15 @@ use steps::call;
 fn byte(s: &[u8], i: usize) -> u8
     ensures { length s.now ≤ i → result ≡ 0 }
 {
-    if i < s.len() {
-        return s[i];
-    }
-    0
+    s.get(i).copied().unwrap_or(0)
 }
 
-// The call at a place, unless one was refused before; the number of the refusal.
-fn next(w: &mut [u32], s: &[u8], i: usize, no: u32) -> u32
+// The call at a place, unless one was refused before.
+fn next(w: &mut [u32], s: &[u8], i: usize, before: Result<(), Refusal>) -> Result<(), Refusal>
     requires { (Planted w.old) × (i < 65536) }
     ensures { Planted w.new }
 {
-    if no != 0 {
-        return no;
-    }
+    before?;
     call(
         w,
         byte(s, i),
@@ -48,16 +44,16 @@ fn play(rt: &impl Print, w: &mut [u32], s: &[u8], from: usize) -> io::Result<usi
     requires { (16384 ≤ length w.old) × (from < length s.now) × (length s.now ≤ 65536) }
     ensures { (IfOk result (λ i. from < i)) × (16384 ≤ length w.new) }
 {
-    begin(w);
-    let mut no: u32 = 0;
+    let mut done = begin(w);
     let mut same = true;
     let mut i = from;
+    // A call has four bytes.
     while byte(s, i) != 0 {
-        no = next(w, s, i, no);
+        done = next(w, s, i, done);
         same = alike(w, same);
         i += 4;
     }
-    show(rt, w, no, same)?;
+    show(rt, w, done, same)?;
     Ok(i + 1)
 }
 

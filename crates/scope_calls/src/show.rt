@@ -2,44 +2,49 @@
 ghost use Rattle.std.specs.Prelude.{◌<◌, ◌≤◌};
 ghost use Rattle.words_nodes.specs.Nodes.{Planted};
 
+use refusal::Refusal;
 use scope::{
-    Count, find_binding, find_binding_from_current, find_constant, has_same_this, ident_prevented,
+    find_binding, find_binding_from_current, find_constant, has_same_this, ident_prevented,
     idx_val, is_inline_prevented, read_cnt, read_prevents_inlining, scope_for,
     should_prevent_inline_because_of_scope, var_inline_prevented, write_prevents_inline,
 };
 use scope_find::{bound_here, in_loop};
-use scope_values::{Sum, live, recorded_nodes, stops_at};
+use scope_values::{live, recorded_nodes, stops_at};
+use std::fmt;
 use std::io;
 use std::num::wrapping_add_u32;
 use words::layout;
 use words_scopes::find_by_walk;
 
-fn letter(rt: &impl Print, c: char) -> io::Result<()> {
-    print!(rt; " {c}")
+// A word of the line, with a space before it.
+fn put<D: fmt::Display>(rt: &impl Print, d: D) -> io::Result<()> {
+    print!(rt; " {d}")
 }
 
-fn put(rt: &impl Print, n: u64) -> io::Result<()> {
-    print!(rt; " {n}")
-}
-
-fn put_word(rt: &impl Print, n: u32) -> io::Result<()> {
-    put(rt, n as u64)
-}
-
-fn put_size(rt: &impl Print, n: usize) -> io::Result<()> {
-    put(rt, n as u64)
-}
-
+// 1 for yes, 0 for no.
 fn put_bool(rt: &impl Print, b: bool) -> io::Result<()> {
-    if b { put(rt, 1) } else { put(rt, 0) }
+    put(rt, u32::from(b))
+}
+
+// A number from 0 on: 1 more, 0 for none.
+fn put_place(rt: &impl Print, k: Option<usize>) -> io::Result<()> {
+    put(rt, k.map_or(0, |k| k + 1))
+}
+
+// A number: 1 and the number, 0 for none.
+fn put_some<D: fmt::Display>(rt: &impl Print, n: Option<D>) -> io::Result<()> {
+    match n {
+        None => put(rt, 0),
+        Some(n) => {
+            put(rt, 1)?;
+            put(rt, n)
+        }
+    }
 }
 
 // Word i, 0 past the end.
 fn word(w: &[u32], i: usize) -> u32 {
-    if i < w.len() {
-        return w[i];
-    }
-    0
+    w.get(i).copied().unwrap_or(0)
 }
 
 // A word of binding k, of constant k, of scope k, of node k of the store at a word.
@@ -61,68 +66,57 @@ fn of_node(w: &[u32], base: u32, k: u32, f: u32) -> u32 {
 
 // The n nodes of a value from node `at` on: kinds and numbers.
 fn show_value(rt: &impl Print, w: &[u32], base: u32, at: u32, n: u32) -> io::Result<()> {
-    put_word(rt, n)?;
-    let mut j: u32 = 0;
-    while j < n {
+    put(rt, n)?;
+    for j in 0..n {
         let k = wrapping_add_u32(at, j);
-        put_word(rt, of_node(w, base, k, 0) % 64)?;
-        put_word(rt, of_node(w, base, k, 1))?;
-        j += 1;
+        put(rt, of_node(w, base, k, 0) % 64)?;
+        put(rt, of_node(w, base, k, 1))?;
     }
     Ok(())
 }
 
 // Binding k, whose value begins at node `at`; where the next one's begins.
 fn show_binding(rt: &impl Print, w: &[u32], k: u32, at: u32) -> io::Result<u32> {
-    letter(rt, 'b')?;
-    put_word(rt, of_binding(w, k, 0))?;
-    put_word(rt, of_binding(w, k, 1))?;
-    put_word(rt, of_binding(w, k, 2))?;
-    put_word(rt, of_binding(w, k, 3))?;
-    put_bool(rt, of_binding(w, k, 4) != 0)?;
-    put_bool(rt, of_binding(w, k, 5) != 0)?;
-    put_bool(rt, of_binding(w, k, 6) != 0)?;
-    put_bool(rt, of_binding(w, k, 7) != 0)?;
-    put_bool(rt, of_binding(w, k, 9) != 0)?;
+    put(rt, 'b')?;
+    for f in 0..4 {
+        put(rt, of_binding(w, k, f))?;
+    }
+    for f in [4, 5, 6, 7, 9] {
+        put_bool(rt, of_binding(w, k, f) != 0)?;
+    }
     let n = of_binding(w, k, 8);
     show_value(rt, w, layout::VALUES as u32, at, n)?;
     Ok(wrapping_add_u32(at, n))
 }
 
 fn show_bindings(rt: &impl Print, w: &[u32], a: u32, e: u32, at: u32) -> io::Result<u32> {
-    let mut k = a;
     let mut p = at;
-    while k < e {
+    for k in a..e {
         p = show_binding(rt, w, k, p)?;
-        k += 1;
     }
     Ok(p)
 }
 
 fn show_consts(rt: &impl Print, w: &[u32], a: u32, e: u32, at: u32) -> io::Result<u32> {
-    let mut k = a;
     let mut p = at;
-    while k < e {
-        letter(rt, 'c')?;
-        put_word(rt, of_const(w, k, 0))?;
+    for k in a..e {
+        put(rt, 'c')?;
+        put(rt, of_const(w, k, 0))?;
         let n = of_const(w, k, 1);
         show_value(rt, w, layout::CONSTANT_VALUES as u32, p, n)?;
         p = wrapping_add_u32(p, n);
-        k += 1;
     }
     Ok(p)
 }
 
 // Which of the first four identifiers are unresolved in scope k.
 fn show_unresolved(rt: &impl Print, w: &[u32], k: u32) -> io::Result<()> {
-    letter(rt, 'u')?;
-    let mut x: usize = 0;
-    while x < 4 {
+    put(rt, 'u')?;
+    for x in 0..4 {
         put_bool(
             rt,
-            word(w, layout::UNRESOLVED + k as usize * 8) >> x as u32 & 1 != 0,
+            word(w, layout::UNRESOLVED + k as usize * 8) >> x & 1 != 0,
         )?;
-        x += 1;
     }
     Ok(())
 }
@@ -138,17 +132,15 @@ fn end_of(w: &[u32], k: u32, f: u32, count: u32) -> u32 {
 
 fn show_scopes(rt: &impl Print, w: &[u32]) -> io::Result<()> {
     let d = word(w, 2);
-    let mut k: u32 = 0;
     let mut at: u32 = 0;
     let mut cat: u32 = 0;
-    while k < d {
-        letter(rt, 's')?;
-        put_word(rt, of_scope(w, k, 0))?;
+    for k in 0..d {
+        put(rt, 's')?;
+        put(rt, of_scope(w, k, 0))?;
         put_bool(rt, of_scope(w, k, 3) != 0)?;
         at = show_bindings(rt, w, of_scope(w, k, 1), end_of(w, k, 1, word(w, 1)), at)?;
         cat = show_consts(rt, w, of_scope(w, k, 2), end_of(w, k, 2, word(w, 3)), cat)?;
         show_unresolved(rt, w, k)?;
-        k += 1;
     }
     Ok(())
 }
@@ -157,19 +149,12 @@ fn show_scopes(rt: &impl Print, w: &[u32]) -> io::Result<()> {
 fn show_found(rt: &impl Print, w: &[u32], x: u8) -> io::Result<()>
     requires { Planted w.now }
 {
-    match read_cnt(w, x) {
-        Count::Nothing => put(rt, 0),
-        Count::Reads(n) => {
-            put(rt, 1)?;
-            put_word(rt, n)
-        }
-    }?;
-    let b = find_binding(w, x);
-    if 0 < b {
+    put_some(rt, read_cnt(w, x))?;
+    if let Some(b) = find_binding(w, x) {
         put_bool(rt, var_inline_prevented(w, b))?;
     }
-    put_bool(rt, find_binding_from_current(w, x) != 0)?;
-    put_size(rt, idx_val(w, x))?;
+    put_bool(rt, find_binding_from_current(w, x).is_some())?;
+    put_place(rt, idx_val(w, x))?;
     put_bool(rt, ident_prevented(w, x))
 }
 
@@ -179,7 +164,7 @@ fn show_scope_of(rt: &impl Print, w: &[u32], x: u8) -> io::Result<()>
 {
     put_bool(rt, scope::has_constant(w, x))?;
     put_bool(rt, scope_constants::has_constant(w, x))?;
-    put_size(rt, find_constant(w, x))?;
+    put(rt, find_constant(w, x).unwrap_or(0))?;
     let s = scope_for(w, x);
     put_bool(rt, s.bound)?;
     put_bool(rt, s.current)
@@ -188,7 +173,7 @@ fn show_scope_of(rt: &impl Print, w: &[u32], x: u8) -> io::Result<()>
 fn show_look(rt: &impl Print, w: &[u32], x: u8) -> io::Result<()>
     requires { Planted w.now }
 {
-    letter(rt, 'x')?;
+    put(rt, 'x')?;
     show_found(rt, w, x)?;
     show_scope_of(rt, w, x)?;
     put_bool(rt, write_prevents_inline(w, x))?;
@@ -202,62 +187,51 @@ fn show_look(rt: &impl Print, w: &[u32], x: u8) -> io::Result<()>
 fn show_stop(rt: &impl Print, w: &[u32], n: usize) -> io::Result<()>
     requires { (Planted w.now) × (n ≤ 1024) }
 {
-    match stops_at(w, n) {
-        Sum::Within => put(rt, 0),
-        Sum::Over(k) => {
-            put(rt, 1)?;
-            put_size(rt, k)
-        }
-    }
+    put_some(rt, stops_at(w, n))
 }
 
 fn show_stops(rt: &impl Print, w: &[u32]) -> io::Result<()>
     requires { Planted w.now }
 {
-    letter(rt, 'o')?;
-    show_stop(rt, w, 100)?;
-    show_stop(rt, w, 500)?;
-    show_stop(rt, w, 512)?;
-    show_stop(rt, w, 513)
+    put(rt, 'o')?;
+    for n in [100, 500, 512, 513] {
+        show_stop(rt, w, n)?;
+    }
+    Ok(())
 }
 
 fn show_counts(rt: &impl Print, w: &[u32]) -> io::Result<()>
     requires { Planted w.now }
 {
-    letter(rt, 'n')?;
+    put(rt, 'n')?;
     put_bool(rt, in_loop(w))?;
-    put_size(rt, bound_here(w))?;
-    put_size(rt, recorded_nodes(w))?;
-    put_size(rt, live(w))?;
-    put_bool(rt, is_inline_prevented(w, 1))?;
-    put_bool(rt, is_inline_prevented(w, 3))?;
-    put_bool(rt, is_inline_prevented(w, 4))?;
-    put_bool(rt, is_inline_prevented(w, 6))?;
-    put_bool(rt, is_inline_prevented(w, 9))
+    put(rt, bound_here(w))?;
+    put(rt, recorded_nodes(w))?;
+    put(rt, live(w))?;
+    for i in [1, 3, 4, 6, 9] {
+        put_bool(rt, is_inline_prevented(w, i))?;
+    }
+    Ok(())
 }
 
-// Where the innermost binding of x is, by the index and by a walk: 1 more than its number, 0 if there is none.
-fn put_place(rt: &impl Print, w: &[u32], x: u8) -> io::Result<()>
+// Where the innermost binding of x is, by the index and by a walk.
+fn put_places(rt: &impl Print, w: &[u32], x: u8) -> io::Result<()>
     requires { Planted w.now }
 {
-    put_size(rt, words_scopes::find_binding(w, x))?;
-    put_size(rt, find_by_walk(w, x))
+    put_place(rt, words_scopes::find_binding(w, x))?;
+    put_place(rt, find_by_walk(w, x))
 }
 
 // The same of the first four identifiers, and of each binding's.
 fn show_places(rt: &impl Print, w: &[u32]) -> io::Result<()>
     requires { Planted w.now }
 {
-    letter(rt, 'p')?;
-    put_place(rt, w, 0)?;
-    put_place(rt, w, 1)?;
-    put_place(rt, w, 2)?;
-    put_place(rt, w, 3)?;
-    let n = word(w, 1);
-    let mut k: u32 = 0;
-    while k < n {
-        put_place(rt, w, (of_binding(w, k, 0) % 256) as u8)?;
-        k += 1;
+    put(rt, 'p')?;
+    for x in 0..4 {
+        put_places(rt, w, x)?;
+    }
+    for k in 0..word(w, 1) {
+        put_places(rt, w, (of_binding(w, k, 0) % 256) as u8)?;
     }
     Ok(())
 }
@@ -266,12 +240,10 @@ fn show_places(rt: &impl Print, w: &[u32]) -> io::Result<()>
 pub fn alike(w: &[u32], before: bool) -> bool
     requires { Planted w.now }
 {
-    let mut x: u32 = 0;
-    while x < 256 {
-        if words_scopes::find_binding(w, x as u8) != find_by_walk(w, x as u8) {
+    for x in 0..=255 {
+        if words_scopes::find_binding(w, x) != find_by_walk(w, x) {
             return false;
         }
-        x += 1;
     }
     before
 }
@@ -280,27 +252,31 @@ fn show_all(rt: &impl Print, w: &[u32]) -> io::Result<()>
     requires { Planted w.now }
 {
     show_scopes(rt, w)?;
-    show_look(rt, w, 0)?;
-    show_look(rt, w, 1)?;
-    show_look(rt, w, 2)?;
-    show_look(rt, w, 3)?;
+    for x in 0..4 {
+        show_look(rt, w, x)?;
+    }
     show_counts(rt, w)?;
     show_stops(rt, w)?;
     show_places(rt, w)
 }
 
 // A line: the number of a refusal, or the scopes; and whether index and walk were alike after each call.
-pub fn show(rt: &impl Print, w: &[u32], no: u32, same: bool) -> io::Result<()>
+pub fn show(
+    rt: &impl Print,
+    w: &[u32],
+    done: Result<(), Refusal>,
+    same: bool,
+) -> io::Result<()>
     requires { Planted w.now }
 {
-    if no == 0 {
-        rt.print("scopes")?;
-        show_all(rt, w)?;
-    } else {
-        rt.print("refused")?;
-        put_word(rt, no)?;
+    match done {
+        Ok(()) => {
+            rt.print("scopes")?;
+            show_all(rt, w)?;
+        }
+        Err(refusal) => print!(rt; "refused {refusal}")?,
     }
-    letter(rt, 'i')?;
+    put(rt, 'i')?;
     put_bool(rt, same)?;
     rt.println("")
 }

@@ -1,23 +1,15 @@
-// The calls, by their numbers. Each answers the number of its refusal, 0 if it is done.
+// The calls, by their numbers.
 ghost use Rattle.std.specs.Prelude.{◌<◌, ◌≤◌};
 ghost use Rattle.words_nodes.specs.Nodes.{Planted};
 
 use super::values::{node_of, value_of};
+use refusal::Refusal;
 use scope::{
     Init, Scope, ScopeKind, VarDeclKind, VarType, add_const, add_read, add_write, close, declare,
     first_value, mark_this_sensitive, open_scope, prevent_inline, prevent_inline_of_params,
     record_value, store_inline_barrier,
 };
 use scope_define::define;
-use scope_values::Step;
-
-// The number of a step's refusal.
-fn number(s: Step) -> u32 {
-    match s {
-        Step::Done => 0,
-        Step::Refused(n) => n,
-    }
-}
 
 fn scope_kind(k: u8) -> ScopeKind {
     match k {
@@ -29,7 +21,7 @@ fn scope_kind(k: u8) -> ScopeKind {
     }
 }
 
-fn var_kind(k: u32) -> VarType {
+fn var_kind(k: u8) -> VarType {
     match k {
         0 => VarType::Param,
         1 => VarType::Declared(VarDeclKind::Var),
@@ -39,14 +31,11 @@ fn var_kind(k: u32) -> VarType {
 }
 
 // Opens a scope of kind m.
-fn opens(w: &mut [u32], m: u8) -> u32
+fn opens(w: &mut [u32], m: u8) -> Result<(), Refusal>
     requires { Planted w.old }
     ensures { Planted w.new }
 {
-    let k = scope_kind(m);
-    let s = Scope::new(k);
-    let r = open_scope(w, s);
-    number(r)
+    open_scope(w, Scope::new(scope_kind(m)))
 }
 
 // The init by value v and mark m: none for value 0, else recorded, or only seen.
@@ -61,53 +50,22 @@ fn init_of(v: u8, m: u8) -> Init {
 }
 
 // m: the type, and from bit 2 on whether it is undefined, whether its value is only seen, and whether it is flagged.
-fn declares(w: &mut [u32], x: u8, v: u8, m: u8) -> u32
+fn declares(w: &mut [u32], x: u8, v: u8, m: u8) -> Result<(), Refusal>
     requires { Planted w.old }
     ensures { Planted w.new }
 {
-    let kind = var_kind((m % 4) as u32);
+    let kind = var_kind(m % 4);
     let undefined = m / 4 % 2 == 1;
     let again = m / 16 % 2 == 1;
-    let n = init_of(v, m);
-    let i = node_of(v);
-    let r = declare(w, again, x, n, i, undefined, kind);
-    number(r)
+    declare(w, again, x, init_of(v, m), node_of(v), undefined, kind)
 }
 
 // m: the name is `arguments`; the write is forced.
-fn write(w: &mut [u32], x: u8, m: u8) -> u32
+fn write(w: &mut [u32], x: u8, m: u8) -> Result<(), Refusal>
     requires { Planted w.old }
     ensures { Planted w.new }
 {
-    let r = add_write(w, x, m % 2 == 1, m / 2 % 2 == 1);
-    number(r)
-}
-
-fn record(w: &mut [u32], x: u8, v: u8) -> u32
-    requires { Planted w.old }
-    ensures { Planted w.new }
-{
-    let e = value_of(v);
-    let r = record_value(w, x, e);
-    number(r)
-}
-
-fn first(w: &mut [u32], x: u8, v: u8) -> u32
-    requires { Planted w.old }
-    ensures { Planted w.new }
-{
-    let e = value_of(v);
-    let r = first_value(w, x, e);
-    number(r)
-}
-
-fn constant(w: &mut [u32], x: u8, v: u8) -> u32
-    requires { Planted w.old }
-    ensures { Planted w.new }
-{
-    let e = value_of(v);
-    let r = add_const(w, x, e);
-    number(r)
+    add_write(w, x, m % 2 == 1, m / 2 % 2 == 1)
 }
 
 // The calls that are never refused.
@@ -115,25 +73,21 @@ fn mark(w: &mut [u32], c: u8, x: u8, m: u8)
     requires { Planted w.old }
     ensures { Planted w.new }
 {
-    if c == 7 {
-        close(w);
-    } else if c == 8 {
-        add_read(w, x, m % 2 == 1);
-    } else if c == 9 {
-        prevent_inline(w, x);
-    } else if c == 10 {
-        mark_this_sensitive(w, x);
-    } else if c == 11 {
-        store_inline_barrier(w);
-    } else if c == 12 {
-        prevent_inline_of_params(w);
-    } else {
-        define(w, x);
+    match c {
+        7 => {
+            close(w);
+        }
+        8 => add_read(w, x, m % 2 == 1),
+        9 => prevent_inline(w, x),
+        10 => mark_this_sensitive(w, x),
+        11 => store_inline_barrier(w),
+        12 => prevent_inline_of_params(w),
+        _ => define(w, x),
     }
 }
 
 // Call c, with identifier x, value v and mark m.
-pub fn call(w: &mut [u32], c: u8, x: u8, v: u8, m: u8) -> u32
+pub fn call(w: &mut [u32], c: u8, x: u8, v: u8, m: u8) -> Result<(), Refusal>
     requires { Planted w.old }
     ensures { Planted w.new }
 {
@@ -141,12 +95,12 @@ pub fn call(w: &mut [u32], c: u8, x: u8, v: u8, m: u8) -> u32
         1 => opens(w, m),
         2 => declares(w, x, v, m),
         3 => write(w, x, m),
-        4 => record(w, x, v),
-        5 => first(w, x, v),
-        6 => constant(w, x, v),
+        4 => record_value(w, x, value_of(v)),
+        5 => first_value(w, x, value_of(v)),
+        6 => add_const(w, x, value_of(v)),
         _ => {
             mark(w, c, x, m);
-            0
+            Ok(())
         }
     }
 }

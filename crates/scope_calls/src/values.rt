@@ -1,6 +1,4 @@
 // The values of a script: where each begins in the tree that they are taken from.
-use scope::Value;
-
 // The first node of value v: two identifiers, a literal, a member of an identifier, an array, a call, the whole tree; 8 begins behind its last node.
 pub fn node_of(v: u8) -> usize {
     match v {
@@ -16,9 +14,9 @@ pub fn node_of(v: u8) -> usize {
 }
 
 // Value v, none for 0.
-pub fn value_of(v: u8) -> Value {
+pub fn value_of(v: u8) -> Option<usize> {
     if v == 0 {
-        return Value::Nothing;
+        return None;
     }
-    Value::At(node_of(v))
+    Some(node_of(v))
 }
