@@ -1,57 +1,21 @@
 // Scopes over the working words: opened, and closed, with what is hoisted then.
 #![tactic(auto)]
 
-ghost use Rattle.std.specs.Prelude.{◌≡◌, ℕ, ◌+◌, ◌-◌, ◌*◌, ◌%◌, ◌<◌, ◌≤◌, ◌||◌, [], ◌∷◌, length, nat_le, slice_index};
+ghost use Rattle.std.specs.Prelude.{◌≡◌, ℕ, ◌+◌, ◌-◌, ◌*◌, ◌%◌, ◌<◌, ◌≤◌, [], ◌∷◌, length, nat_le, slice_index};
 ghost use Rattle.def_pass.specs.Scope.{close, new_scope, wrap, ending, counts_in};
 ghost use Rattle.words.specs.Tab.{tab};
-ghost use Rattle.words.specs.Layout.{yes};
-ghost use Rattle.words_scopes.specs.State.{Good, Past, Becomes, stack, bind_at, scope_kind_of};
+ghost use Rattle.words_scopes.specs.State.{Good, Past, Becomes, stack, bind_at};
 ghost use Rattle.scope_values.specs.Steps.{Limited};
-ghost use Rattle.scope_child.specs.Kinds.{kind_of};
+ghost use Rattle.words_scopes.specs.Kinds.{kind_of};
 ghost use Rattle.scope_child.specs.Hoist.{record_at, hoist_one, hoist_up, end_one, end_up};
 
+use refusal::Refusal;
 use scope_redeclare::{own_binding, rewrite, set_count};
-use scope_values::{Step, set_run};
-use std::num::wrapping_add_u32;
-use words::{flag_at, layout, wipe};
-use words_scopes::{append_record, drop_scope, open};
+use scope_values::set_run;
+use words::{Run, flag_at, layout, wipe};
+use words_scopes::{Record, append_record, drop_scope, open, record_at};
 
-#[derive(Clone, Copy)]
-pub enum ScopeKind {
-    // If / Switch
-    Cond,
-    Loop,
-    Block,
-    Fn { named: bool },
-}
-
-impl ScopeKind {
-    pub const DEFAULT: ScopeKind = ScopeKind::Fn { named: false };
-}
-
-// A scope that has no records yet.
-#[derive(Clone, Copy)]
-pub struct Scope {
-    pub kind: ScopeKind,
-}
-
-impl Scope {
-    pub fn new(kind: ScopeKind) -> Scope
-        ensures { result.kind ≡ kind }
-    {
-        Scope { kind }
-    }
-}
-
-// A mark that stands if one of two does.
-fn either(a: u32, b: u32) -> u32
-    ensures { yes result ≡ (yes a || yes b) }
-{
-    if a == 0 {
-        return b;
-    }
-    1
-}
+pub use words_scopes::kinds::{Scope, ScopeKind};
 
 // What a `var` of a closed scope, whose record j is, leaves in the innermost scope: in place of its binding of the same name, whose count is
 // answered, or appended.
@@ -60,24 +24,25 @@ fn hoist_var(w: &mut [u32], j: usize) -> u32
     ensures { (Becomes w.old w.new (hoist_one (record_at w.old j) (stack w.old))) × (Past (j + 1) w.old w.new) × (slice_index w.new 1 ≤ j + 1) × (slice_index w.new 3 ≡ slice_index w.old 3) × (result ≡ end_one (record_at w.old j) (stack w.old)) }
 {
     let x = w[layout::BINDINGS + j * 10] as u8;
-    let alias = w[layout::BINDINGS + j * 10 + layout::ALIAS];
-    let reads = w[layout::BINDINGS + j * 10 + layout::READS];
-    let sensitive = w[layout::BINDINGS + j * 10 + layout::SENSITIVE];
+    let closed = record_at(w, j);
     let d = w[layout::SCOPE_COUNT] as usize - 1;
     let used = flag_at(w, layout::UNRESOLVED + d * 8, x);
-    let prevented = either(used, w[layout::BINDINGS + j * 10 + layout::PREVENTED]);
-    let n = w[layout::BINDING_COUNT] as usize;
     let count = w[layout::COUNTS + j];
-    let r = own_binding(w, x);
-    if r < n {
-        let old = w[layout::COUNTS + r];
-        set_run(w, r, 0, 0);
-        rewrite(w, r, 1, alias, reads, prevented, 0, sensitive, 1);
-        set_count(w, r, count);
-        return old;
-    }
-    append_record(w, x, 1, alias, reads, prevented, 0, sensitive, 1, count);
-    0
+    let hoisted = Record {
+        prevented: used || closed.prevented,
+        undefined: false,
+        hoisted: true,
+        ..closed
+    };
+    let Some(k) = own_binding(w, x) else {
+        append_record(w, x, hoisted, count);
+        return 0;
+    };
+    let old = w[layout::COUNTS + k];
+    set_run(w, k, Run { at: 0, len: 0 });
+    rewrite(w, k, hoisted);
+    set_count(w, k, count);
+    old
 }
 
 // A binding of a closed scope, whose record j is, goes up if it is a `var`. Answers the count that ends.
@@ -97,11 +62,9 @@ fn hoist_all(w: &mut [u32], a: usize, e: usize) -> u32
     ensures { (Becomes w.old w.new (hoist_up (λ j. record_at w.old j) a (e - a) (stack w.old))) × (result ≡ end_up (λ j. record_at w.old j) a (e - a) (stack w.old) % 4294967296) }
 {
     let mut ended: u32 = 0;
-    let mut j = a;
-    while j < e {
+    for j in a..e {
         let n = hoist_one(w, j);
-        ended = wrapping_add_u32(ended, n);
-        j += 1;
+        ended = ended.wrapping_add(n);
     }
     ended
 }
@@ -112,10 +75,8 @@ fn sum_counts(w: &[u32], a: usize, e: usize) -> u32
     ensures { result ≡ counts_in (tab (e - a) (λ j. bind_at w.now (a + j))) % 4294967296 }
 {
     let mut sum: u32 = 0;
-    let mut j = a;
-    while j < e {
-        sum = wrapping_add_u32(sum, w[layout::COUNTS + j]);
-        j += 1;
+    for j in a..e {
+        sum = sum.wrapping_add(w[layout::COUNTS + j]);
     }
     sum
 }
@@ -155,28 +116,14 @@ pub fn close(w: &mut [u32]) -> u32
     ended
 }
 
-// The word that stands for a case.
-fn scope_code(k: ScopeKind) -> u32
-    ensures { scope_kind_of result ≡ kind_of k }
-{
-    match k {
-        ScopeKind::Cond => 0,
-        ScopeKind::Loop => 1,
-        ScopeKind::Block => 2,
-        ScopeKind::Fn { named } => { if named { 4 } else { 3 } }
-    }
-}
-
 // Opens a scope.
-pub fn open_scope(w: &mut [u32], scope: Scope) -> Step
+pub fn open_scope(w: &mut [u32], scope: Scope) -> Result<(), Refusal>
     requires { Good w.old }
-    ensures { Limited 8 (nat_le 32 (length (stack w.old))) w.old w.new (new_scope (kind_of scope.kind) ∷ stack w.old) result }
+    ensures { Limited Refusal.Depth (nat_le 32 (length (stack w.old))) w.old w.new (new_scope (kind_of scope.kind) ∷ stack w.old) result }
 {
     if 32 <= w[layout::SCOPE_COUNT] {
-        return Step::Refused(8);
+        return Err(Refusal::Depth);
     }
-    let kind = scope.kind;
-    let k = scope_code(kind);
-    open(w, k);
-    Step::Done
+    open(w, scope.kind);
+    Ok(())
 }

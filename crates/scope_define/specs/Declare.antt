@@ -13,9 +13,9 @@ put_declared i v p u k al (s ∷ st) =
     let new = pick (is_some old) (change_in i (redeclare p u (v (value_o old))) s.bindings) (s.bindings ++ (fresh i k al p u (v none) ∷ [])) in
     on_bindings (λ bs. new) s ∷ st
 
--- all of it: e is the identifier that the init is, if it is one
-abbrev pub declare_with : ℕ → (Option Tree → Option Tree) → Option ℕ → Bool → Bool → VarType → Option VarType → Bool → Bool → Stack → Stack
-declare_with i v e p u k al looped barred st =
+-- all of it: where there is a barrier between i and the binding that the init names, `barred` is that binding
+abbrev pub declare_with : ℕ → (Option Tree → Option Tree) → Option ℕ → Bool → Bool → VarType → Option VarType → Bool → Stack → Stack
+declare_with i v barred p u k al looped st =
     let st₁ = put_declared i v p u k al st in
     let st₂ = pick looped (prevent_inline i st₁) st₁ in
-    pick barred (prevent_inline_o e (prevent_inline i st₂)) st₂
+    pick (is_some barred) (prevent_inline_o barred (prevent_inline i st₂)) st₂

@@ -1,13 +1,15 @@
 -- What a step on the records does, and what a step that may pass a limit answers. Assumes nothing: these are definitions.
-use Rattle.std.specs.Prelude.{◌≡◌, List, Bool, true, false, ◌||◌, ℕ, ◌+◌, ◌-◌, ◌*◌, ◌≤◌, ◌<◌, length, get_or, set, ltb}
+use Rattle.std.specs.Prelude.{◌≡◌, List, Bool, true, false, Result, Ok, Err, ◌||◌, ℕ, ◌+◌, ◌-◌, ◌*◌, ◌≤◌, ◌<◌, length, get_or, set, ltb}
 use Rattle.std.proofs.Math.Option.{Option, none, some}
 use Rattle.def_tree.specs.Tree.{Tree}
 use Rattle.def_pass.specs.Scope.{VarInfo, Stack, recorded_nodes, live}
-use Rattle.words.specs.Layout.{tree, beyond}
-use Rattle.words_scopes.specs.State.{split, var_type_of, alias_at, heads, flags, binds, consts, Good, Others, Becomes}
-use Rattle.words.specs.Layout.{yes}
-use Rattle.scope_values.specs.declared.Step.{Step}
-use Rattle.scope_values.specs.declared.Step.TheVariants.{Done, Refused}
+use Rattle.words.specs.Layout.{run, tree, beyond}
+use Rattle.words_scopes.specs.State.{split, heads, flags, binds, consts, value_of, run_of, Good, Others, Becomes}
+use Rattle.words_scopes.specs.Kinds.{type_of, alias_of}
+use Rattle.words.specs.declared.Run.{Run}
+use Rattle.words_scopes.specs.declared.Record.{Record}
+use Rattle.refusal.specs.declared.Refusal.{Refusal}
+use Rattle.refusal.specs.declared.Refusal.TheVariants.{Room}
 
 -- in a store of values at base: old nodes at `at` gave way to the m nodes of the tree from i on, and those behind, up to `end`, were shifted
 pub record Spliced (w w' : List ℕ) (base at old end i m : ℕ) : Type 0 where
@@ -32,14 +34,9 @@ pub record Listed (w w' : List ℕ) (bs : List VarInfo) (cs : List (ℕ × Optio
 abbrev pub put_at : List ℕ → ℕ → VarInfo → Stack
 put_at w k c = split (heads w) (flags w) (set (binds w) k c) (consts w)
 
--- a binding's words but its name and its value
-abbrev pub refill : (kind alias reads prevented undef sensitive hoisted : ℕ) → VarInfo → VarInfo
-refill k a r p u s h b = record { id = b.id; kind = var_type_of k; alias_of = alias_at a; read_cnt = r; inline_prevented = yes p; is_undefined = yes u; value = b.value; this_sensitive = yes s; hoisted = yes h; count = b.count }
-
--- the number of a refusal
-abbrev pub refusal_of : Step → Option ℕ
-refusal_of Done = none
-refusal_of (Refused n) = some n
+-- a binding whose words but its name, its value and its count are a record's
+abbrev pub refill : Record → VarInfo → VarInfo
+refill r b = record { id = b.id; kind = type_of r.kind; alias_of = alias_of r.alias; read_cnt = r.reads; inline_prevented = r.prevented; is_undefined = r.undefined; value = b.value; this_sensitive = r.this_sensitive; hoisted = r.hoisted; count = b.count }
 
 -- row 9 is passed
 abbrev pub over : Stack → Bool
@@ -52,11 +49,20 @@ pub record Still (w w' : List ℕ) : Type 0 where
   pub others : Others w w'
   pub rest : beyond w' ≡ beyond w
 
--- a step to st that is refused by n where a test holds
-abbrev pub Limited : ℕ → Bool → List ℕ → List ℕ → Stack → Step → Type 0
-Limited n test w w' st Done = Becomes w w' st × (test ≡ false)
-Limited n test w w' st (Refused r) = (r ≡ n) × (test ≡ true) × Still w w'
+-- a step to st that is refused where a test holds
+abbrev pub Limited : Refusal → Bool → List ℕ → List ℕ → Stack → Result Unit Refusal → Type 0
+Limited n test w w' st (Ok _) = Becomes w w' st × (test ≡ false)
+Limited n test w w' st (Err r) = (r ≡ n) × (test ≡ true) × Still w w'
 
 -- definition's `grow`
-abbrev pub Grown : List ℕ → List ℕ → Stack → Step → Type 0
-Grown w w' st r = Limited 9 (over st) w w' st r
+abbrev pub Grown : List ℕ → List ℕ → Stack → Result Unit Refusal → Type 0
+Grown w w' st r = Limited Room (over st) w w' st r
+
+-- the value that a run of the tree's nodes is, none if it is empty
+abbrev pub run_value : List ℕ → Run → Option Tree
+run_value w r = value_of (run w 16 r.at r.len)
+
+-- a run stands in the tree, and is one tree or none: it may become a value
+pub record Offered (w : List ℕ) (r : Run) : Type 0 where
+  pub inside : r.at + r.len ≤ get_or w 0 0
+  pub one : run_of (run_value w r) ≡ run w 16 r.at r.len

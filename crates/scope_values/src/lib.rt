@@ -2,37 +2,15 @@
 #![tactic(auto)]
 
 ghost use Rattle.std.specs.Prelude.{◌≡◌, ℕ, ◌+◌, ◌*◌, ◌-◌, ◌≤◌, ◌<◌, ◌||◌, get_or, length, set, ltb};
-ghost use Rattle.std.proofs.Math.Option.{none};
 ghost use Rattle.def_pass.specs.Scope.{recorded_nodes, live, change, with_value};
 ghost use Rattle.words.specs.Tab.{sum};
-ghost use Rattle.words.specs.Layout.{run};
-ghost use Rattle.words_scopes.specs.State.{Good, Past, stack, binds, consts, bind_at, off, coff, value_of, run_of};
-ghost use Rattle.scope_values.specs.Outwards.{stop_of, stops_at};
-ghost use Rattle.scope_values.specs.Steps.{Spliced, Listed, Grown};
+ghost use Rattle.words_scopes.specs.State.{Good, Past, stack, binds, consts, bind_at, off, coff};
+ghost use Rattle.scope_values.specs.Outwards.{stops_at};
+ghost use Rattle.scope_values.specs.Steps.{Spliced, Listed, Grown, Offered, run_value};
 
-use words::{layout, shift};
+use refusal::Refusal;
+use words::{Run, layout, shift};
 use words_scopes::{find_binding, offset, offset_from};
-
-// What a step that may pass a limit answers: the number of its refusal.
-#[derive(Clone, Copy)]
-pub enum Step {
-    Done,
-    Refused(u32),
-}
-
-// Where the value of a constant stands in the constants' store: its first node, and how many.
-#[derive(Clone, Copy)]
-pub enum Constant {
-    Unknown,
-    At(usize, usize),
-}
-
-// Whether a sum of recorded nodes comes to more than row 9 allows: after how many scopes.
-#[derive(Clone, Copy)]
-pub enum Sum {
-    Within,
-    Over(usize),
-}
 
 // The sum of words a up to e of those from p on, each s behind the one before.
 fn lengths(w: &[u32], p: usize, s: usize, a: usize, e: usize) -> usize
@@ -40,41 +18,24 @@ fn lengths(w: &[u32], p: usize, s: usize, a: usize, e: usize) -> usize
     ensures { sum (λ j. get_or w.now (p + j * s) 0) a + result ≡ sum (λ j. get_or w.now (p + j * s) 0) e }
 {
     let mut at: usize = 0;
-    let mut j = a;
-    while j < e {
+    for j in a..e {
         at += w[p + j * s] as usize;
-        j += 1;
     }
     at
 }
 
-// The first of the places from a up to e whose word is x, e if there is none; word 0 stands at p, and each s behind the one before.
-pub fn first_at(w: &[u32], p: usize, s: usize, a: usize, e: usize, x: u8) -> usize
-    requires { (16384 ≤ length w.now) × (a ≤ e) × (e ≤ 256) × (s ≤ 10) × (p ≤ 8192) }
-    ensures { (a ≤ result) × (result ≤ e) × (result < e → get_or w.now (p + result * s) 0 ≡ x) × ((j : ℕ) → a ≤ j → j < result → get_or w.now (p + j * s) 0 ≡ x → ⊥) }
-{
-    let mut k = a;
-    while k < e {
-        if w[p + k * s] == x as u32 {
-            return k;
-        }
-        k += 1;
-    }
-    k
-}
-
-// In a store of values: the m nodes of the tree from node i on take the place of the old nodes at a place; those behind are shifted.
-pub fn splice(w: &mut [u32], base: usize, at: usize, old: usize, end: usize, i: usize, m: usize)
-    requires { (16384 ≤ length w.old) × (2064 ≤ base) × (base ≤ 3088) × (i + m ≤ 1024) × (at + old ≤ end) × (end ≤ 512) × (m + end ≤ 512 + old) }
-    ensures { Spliced w.old w.new base at old end i m }
+// In a store of values: a run of the tree's nodes takes the place of the old nodes at a place; those behind are shifted.
+pub fn splice(w: &mut [u32], base: usize, at: usize, old: usize, end: usize, r: Run)
+    requires { (16384 ≤ length w.old) × (2064 ≤ base) × (base ≤ 3088) × (r.at + r.len ≤ 1024) × (at + old ≤ end) × (end ≤ 512) × (r.len + end ≤ 512 + old) }
+    ensures { Spliced w.old w.new base at old end r.at r.len }
 {
     shift(
         w,
         base + (at + old) * 2,
-        base + (at + m) * 2,
+        base + (at + r.len) * 2,
         (end - at - old) * 2,
     );
-    shift(w, layout::NODES + i * 2, base + at * 2, m * 2);
+    shift(w, layout::NODES + r.at * 2, base + at * 2, r.len * 2);
 }
 
 // How many nodes the values before constant k have.
@@ -113,10 +74,11 @@ fn nodes_in(w: &[u32], k: usize, e: usize, c: usize) -> usize
     lengths(w, 4120, 10, a, e) + lengths(w, 6673, 2, b, c)
 }
 
-// Adds to n nodes those recorded, scope by scope from the current one outwards, and stops once they are more than row 9 allows.
-pub fn stops_at(w: &[u32], n: usize) -> Sum
+// Adds to n nodes those recorded, scope by scope from the current one outwards, and stops once they are more than row 9 allows: after how many
+// scopes.
+pub fn stops_at(w: &[u32], n: usize) -> Option<usize>
     requires { (Good w.now) × (n ≤ 1024) }
-    ensures { stop_of result ≡ stops_at n (stack w.now) }
+    ensures { result ≡ stops_at n (stack w.now) }
 {
     let d = w[layout::SCOPE_COUNT] as usize;
     let mut sum = n;
@@ -125,7 +87,7 @@ pub fn stops_at(w: &[u32], n: usize) -> Sum
     let mut i: usize = 0;
     while sum <= 512 {
         if i == d {
-            return Sum::Within;
+            return None;
         }
         let k = d - 1 - i;
         sum += nodes_in(w, k, e, c);
@@ -133,7 +95,7 @@ pub fn stops_at(w: &[u32], n: usize) -> Sum
         c = w[layout::SCOPES + k * 4 + layout::FIRST_CONSTANT] as usize;
         i += 1;
     }
-    Sum::Over(i)
+    Some(i)
 }
 
 // Are there more nodes than row 9 allows once old nodes give way to m: there can be only where m are more.
@@ -141,13 +103,7 @@ fn nodes_pass(w: &[u32], old: usize, m: usize) -> bool
     requires { (Good w.now) × (old ≤ recorded_nodes (stack w.now)) × (m ≤ 1024) }
     ensures { result ≡ ltb 512 (recorded_nodes (stack w.now) - old + m) }
 {
-    if m <= old {
-        return false;
-    }
-    match stops_at(w, m - old) {
-        Sum::Within => false,
-        Sum::Over(_) => true,
-    }
+    old < m && stops_at(w, m - old).is_some()
 }
 
 // Is row 9 passed once old nodes give way to m, and there are `more` records more.
@@ -155,39 +111,34 @@ pub fn passes(w: &[u32], old: usize, m: usize, more: usize) -> bool
     requires { (Good w.now) × (old ≤ recorded_nodes (stack w.now)) × (m ≤ 1024) × (more ≤ 1) }
     ensures { result ≡ (ltb 512 (recorded_nodes (stack w.now) - old + m) || ltb 256 (live (stack w.now) + more)) }
 {
-    if nodes_pass(w, old, m) {
-        return true;
-    }
-    256 < live(w) + more
+    nodes_pass(w, old, m) || 256 < live(w) + more
 }
 
-// Binding k gets as its value the m nodes of the tree from node i on, which are one tree or none.
-pub fn set_run(w: &mut [u32], k: usize, i: usize, m: usize)
-    requires { (Good w.old) × (k < get_or w.old 1 0) × (i + m ≤ get_or w.old 0 0) × (m + (off w.old (get_or w.old 1 0) + coff w.old (get_or w.old 3 0)) ≤ 512 + get_or w.old (4112 + k * 10 + 8) 0) × (run_of (value_of (run w.old 16 i m)) ≡ run w.old 16 i m) }
-    ensures { (Listed w.old w.new (set (binds w.old) k (with_value (value_of (run w.old 16 i m)) (bind_at w.old k))) (consts w.old)) × (Past (k + 1) w.old w.new) }
+// Binding k gets a run of the tree's nodes as its value, which are one tree or none.
+pub fn set_run(w: &mut [u32], k: usize, r: Run)
+    requires { (Good w.old) × (k < get_or w.old 1 0) × (Offered w.old r) × (r.len + (off w.old (get_or w.old 1 0) + coff w.old (get_or w.old 3 0)) ≤ 512 + get_or w.old (4112 + k * 10 + 8) 0) }
+    ensures { (Listed w.old w.new (set (binds w.old) k (with_value (run_value w.old r) (bind_at w.old k))) (consts w.old)) × (Past (k + 1) w.old w.new) }
 {
     let n = w[layout::BINDING_COUNT] as usize;
     let at = offset(w, k);
     let end = offset_from(w, k, at, n);
     let old = w[layout::BINDINGS + k * 10 + layout::LENGTH] as usize;
-    splice(w, layout::VALUES, at, old, end, i, m);
-    w[layout::BINDINGS + k * 10 + layout::LENGTH] = m as u32;
+    splice(w, layout::VALUES, at, old, end, r);
+    w[layout::BINDINGS + k * 10 + layout::LENGTH] = r.len as u32;
 }
 
-// The innermost binding of x gets the m nodes of the tree from node i on as its value, none if m is 0.
-pub fn record_value(w: &mut [u32], x: u8, i: usize, m: usize) -> Step
-    requires { (Good w.old) × (i + m ≤ get_or w.old 0 0) × (run_of (value_of (run w.old 16 i m)) ≡ run w.old 16 i m) }
-    ensures { Grown w.old w.new (change x (with_value (value_of (run w.old 16 i m))) (stack w.old)) result }
+// The innermost binding of x gets a run of the tree's nodes as its value, none if it is empty.
+pub fn record_value(w: &mut [u32], x: u8, r: Run) -> Result<(), Refusal>
+    requires { (Good w.old) × (Offered w.old r) }
+    ensures { Grown w.old w.new (change x (with_value (run_value w.old r)) (stack w.old)) result }
 {
-    let k1 = find_binding(w, x);
-    if k1 == 0 {
-        return Step::Done;
-    }
-    let k = k1 - 1;
+    let Some(k) = find_binding(w, x) else {
+        return Ok(());
+    };
     let old = w[layout::BINDINGS + k * 10 + layout::LENGTH] as usize;
-    if passes(w, old, m, 0) {
-        return Step::Refused(9);
+    if passes(w, old, r.len, 0) {
+        return Err(Refusal::Room);
     }
-    set_run(w, k, i, m);
-    Step::Done
+    set_run(w, k, r);
+    Ok(())
 }
