@@ -21,20 +21,11 @@ returns-then-k-eq26 c = sought-found (tree-whole c.requires.0) c.loop-more.invar
 pub skip-at-requires : goal.skip-at-requires
 skip-at-requires c = (c.requires.0, in_tree c.requires.0 c.loop-more.invariant.still (omega arith))
 
-pub loop-more-smaller-then-k-eq39 : goal.loop-more-smaller-then-k-eq39
-loop-more-smaller-then-k-eq39 c = omega (arith, in_tree c.requires.0 c.loop-more.invariant.still (omega arith), c.skip-at.ensures.1)
-
-pub loop-more-preserved-then-k-eq39 : goal.loop-more-preserved-then-k-eq39
-loop-more-preserved-then-k-eq39 c = sought-past (tree-whole c.requires.0) c.loop-more.invariant (omega arith) (c.kind_at-k.ensures ∙ ap (λ (x : Core). x.kind) (node-here c.requires.0 c.loop-more.invariant.still (omega arith))) c.if-k-eq26.false (inl c.if-k-eq39.true) c.skip-at.ensures.0
-
-pub skip-at-requires-then-k-eq7 : goal.skip-at-requires-then-k-eq7
-skip-at-requires-then-k-eq7 c = (c.requires.0, in_tree c.requires.0 c.loop-more.invariant.still (omega arith))
-
 pub loop-more-smaller-then-k-eq7 : goal.loop-more-smaller-then-k-eq7
-loop-more-smaller-then-k-eq7 c = omega (arith, in_tree c.requires.0 c.loop-more.invariant.still (omega arith), c.skip-at-then-k-eq7.ensures.1)
+loop-more-smaller-then-k-eq7 c = omega (arith, in_tree c.requires.0 c.loop-more.invariant.still (omega arith), c.skip-at.ensures.1)
 
 pub loop-more-preserved-then-k-eq7 : goal.loop-more-preserved-then-k-eq7
-loop-more-preserved-then-k-eq7 c = sought-past (tree-whole c.requires.0) c.loop-more.invariant (omega arith) (c.kind_at-k.ensures ∙ ap (λ (x : Core). x.kind) (node-here c.requires.0 c.loop-more.invariant.still (omega arith))) c.if-k-eq26.false (inr c.if-k-eq7.true) c.skip-at-then-k-eq7.ensures.0
+loop-more-preserved-then-k-eq7 c = sought-past (tree-whole c.requires.0) c.loop-more.invariant (omega arith) (c.kind_at-k.ensures ∙ ap (λ (x : Core). x.kind) (node-here c.requires.0 c.loop-more.invariant.still (omega arith))) c.if-k-eq26.false (elim c.if-k-eq7.either [ inl a ↦ inl a | inr b ↦ inr b.1 ]) c.skip-at.ensures.0
 
 pub arity_at-requires : goal.arity_at-requires
 arity_at-requires c = (c.requires.0.good.long, omega (arith, in_tree c.requires.0 c.loop-more.invariant.still (omega arith), c.requires.0.good.nodes))
@@ -49,7 +40,7 @@ pub loop-more-smaller : goal.loop-more-smaller
 loop-more-smaller c = omega (arith, in_tree c.requires.0 c.loop-more.invariant.still (omega arith))
 
 pub loop-more-preserved : goal.loop-more-preserved
-loop-more-preserved c = sought-in (tree-whole c.requires.0) c.loop-more.invariant (omega arith) (c.kind_at-k.ensures ∙ ap (λ (x : Core). x.kind) (node-here c.requires.0 c.loop-more.invariant.still (omega arith))) c.if-k-eq26.false c.if-k-eq39.false c.if-k-eq7.false (c.arity_at.ensures ∙ ap (λ (x : Core). x.arity) (node-here c.requires.0 c.loop-more.invariant.still (omega arith)))
+loop-more-preserved c = sought-in (tree-whole c.requires.0) c.loop-more.invariant (omega arith) (c.kind_at-k.ensures ∙ ap (λ (x : Core). x.kind) (node-here c.requires.0 c.loop-more.invariant.still (omega arith))) c.if-k-eq26.false c.if-k-eq7.false.0 c.if-k-eq7.false.1 (c.arity_at.ensures ∙ ap (λ (x : Core). x.arity) (node-here c.requires.0 c.loop-more.invariant.still (omega arith)))
 
 pub returns : goal.returns
 returns c = sought-all (omega arith) c.loop-more.invariant
