@@ -1,5 +1,5 @@
 -- What a caller of scope.rs holds: a binding by its number, a tree by its first node. Assumes nothing: these are definitions.
-use Rattle.std.specs.Prelude.{◌≡◌, Option as Maybe, Some, None, Result, Ok, List, [], ◌∷◌, ◌++◌, Bool, false, ℕ, zero, suc, ◌+◌, ◌≤◌, ◌<◌, ltb, length}
+use Rattle.std.specs.Prelude.{◌≡◌, Result, Ok, List, [], ◌∷◌, ◌++◌, Bool, false, ℕ, zero, suc, ◌+◌, ◌≤◌, ◌<◌, ltb, length}
 use Rattle.std.proofs.Math.Option.{Option, none, some}
 use Rattle.std.proofs.Math.ListN.{get_elem?}
 use Rattle.def_tree.specs.Base.{pick}
@@ -59,13 +59,13 @@ indexed (s ∷ st) zero = none
 indexed (s ∷ st) (suc j) = with_index j (get_elem? s.bindings j)
 
 -- of a value that there is: the identifier that it is, and how many nodes it has
-abbrev pub ident_o : Option Tree → Maybe ℕ
-ident_o none = None
-ident_o (some t) = pick (is_ident t) (Some (num t)) None
+abbrev pub ident_o : Option Tree → Option ℕ
+ident_o none = none
+ident_o (some t) = pick (is_ident t) (some (num t)) none
 
-abbrev pub counted_o : Option Tree → Maybe ℕ
-counted_o none = None
-counted_o (some t) = Some (count t)
+abbrev pub counted_o : Option Tree → Option ℕ
+counted_o none = none
+counted_o (some t) = some (count t)
 
 -- the tree of a value that there is
 abbrev pub held : Option Tree → Tree

@@ -9,7 +9,8 @@ ghost use Rattle.def_pass.specs.Tree.{count_o};
 ghost use Rattle.words.specs.Layout.{tree};
 ghost use Rattle.words.specs.Place.{placed};
 ghost use Rattle.words_scopes.specs.State.{Good, stack, targeted};
-ghost use Rattle.scope_find.specs.Look.{idx_here};
+ghost use Rattle.scope_find.specs.Look.{idx_here, kind_o};
+ghost use Rattle.scope_find.specs.Answers.{count_of};
 ghost use Rattle.words_nodes.specs.Nodes.{Planted, value_from, size};
 ghost use Rattle.scope_var_info.specs.Handles.{bindings_of, numbered, indexed, of_binding, tree_o, ident_o, counted_o, Held, Sits, Puts};
 
@@ -103,7 +104,7 @@ pub fn is_undefined(w: &[u32], b: usize) -> bool
 // VarInfo's value: its kind.
 pub fn value_kind(w: &[u32], b: usize) -> Option<u32>
     requires { Good w.now }
-    ensures { result ≡ kind_o (value_o (numbered (stack w.now) (suc b))) }
+    ensures { count_of result ≡ kind_o (value_o (numbered (stack w.now) (suc b))) }
 {
     if known(w, b) {
         return scope_find::value_kind(w, b);
@@ -114,7 +115,7 @@ pub fn value_kind(w: &[u32], b: usize) -> Option<u32>
 // The identifier that it is.
 pub fn value_ident(w: &[u32], b: usize) -> Option<u32>
     requires { Good w.now }
-    ensures { result ≡ ident_o (value_o (numbered (stack w.now) (suc b))) }
+    ensures { count_of result ≡ ident_o (value_o (numbered (stack w.now) (suc b))) }
 {
     if known(w, b) {
         let at = words_scopes::offset(w, b);
@@ -175,7 +176,7 @@ pub fn put_value(w: &mut [u32], i: usize, p: u32, b: usize) -> Result<(), Refusa
 // How many nodes the value of the innermost constant of x that has one has; an identifier is none that the script as read targets (request 8).
 pub fn find_constant(w: &[u32], x: u8) -> Option<usize>
     requires { Good w.now }
-    ensures { (result ≡ counted_o (find_constant x (stack w.now))) × (IfSome result (λ m. m ≤ 512)) × (Free (targeted w.now) (find_constant x (stack w.now))) }
+    ensures { (count_of result ≡ counted_o (find_constant x (stack w.now))) × (IfSome result (λ m. m ≤ 512)) × (Free (targeted w.now) (find_constant x (stack w.now))) }
 {
     scope_constants::find_constant(w, x).map(|r| r.len)
 }
