@@ -19,15 +19,13 @@ pub fn rising_ok(file: &[u8], ends: usize, t: usize, b: usize) -> bool
     requires { (ends ≤ 100000) × (t ≤ 256) × (ends + 4 * t ≤ length file.now) }
     ensures { result ≡ rising 0 (ends_from t (drop ends file.now)) b }
 {
-    let mut at: usize = 0;
-    let mut k: usize = 0;
-    while k < t {
+    let mut at = 0;
+    for k in 0..t {
         let e = end_at(file, ends, k);
         if e < at {
             return false;
         }
         at = e;
-        k += 1;
     }
     at == b
 }
@@ -60,17 +58,7 @@ pub fn text(file: &[u8], ends: usize, bytes: usize, k: usize) -> &[u8]
 pub fn same_text(a: &[u8], b: &[u8]) -> bool
     ensures { result ≡ same_text a.now b.now }
 {
-    if a.len() != b.len() {
-        return false;
-    }
-    let mut i: usize = 0;
-    while i < a.len() {
-        if a[i] != b[i] {
-            return false;
-        }
-        i += 1;
-    }
-    true
+    a == b
 }
 
 // Is text i one of those behind it.
@@ -78,12 +66,10 @@ fn any_text(file: &[u8], ends: usize, bytes: usize, t: usize, i: usize) -> bool
     requires { Placed file.now ends bytes t × (i < t) }
     ensures { result ≡ any_text (text_in file.now ends bytes i) (drop (i + 1) (texts_of file.now ends bytes t)) }
 {
-    let mut j = i + 1;
-    while j < t {
+    for j in i + 1..t {
         if same_text(text(file, ends, bytes, i), text(file, ends, bytes, j)) {
             return true;
         }
-        j += 1;
     }
     false
 }
@@ -93,12 +79,10 @@ pub fn distinct_ok(file: &[u8], ends: usize, bytes: usize, t: usize) -> bool
     requires { Placed file.now ends bytes t }
     ensures { result ≡ distinct (texts_of file.now ends bytes t) }
 {
-    let mut i: usize = 0;
-    while i < t {
+    for i in 0..t {
         if any_text(file, ends, bytes, t, i) {
             return false;
         }
-        i += 1;
     }
     true
 }

@@ -3,28 +3,33 @@
 #![tactic(auto)]
 
 ghost use Rattle.std.specs.Prelude.{◌≡◌, Bool, true, ◌&&◌, ◌||◌, ℕ, ◌+◌, ◌*◌, ◌<◌, ◌≤◌, eqb, ltb, length, drop, get_or, [], ◌∷◌};
-ghost use Rattle.def_tree.specs.Base.{pick};
 ghost use Rattle.def_file.specs.Kinds.{allows, row_of, form_ok, count_ok};
 ghost use Rattle.def_file.specs.Script.{zero_node};
 ghost use Rattle.def_file.specs.Read.{Place, fields_ok, node_ok, fills, nodes_from};
-ghost use Rattle.file_preorder.specs.Child.{place, root_place, Filled};
+ghost use Rattle.file_preorder.specs.Child.{behind, place, root_place, Filled};
 
 use def_file::Raw;
 use def_file::kinds::{Class, allows, child, count_ok, form_ok, row_of, uses_bits, uses_text};
 use file_fields::fields::raw_at;
+use refusal::Refusal;
 
-// What reading a node and all below it gives: a binding, or another node, and the index behind it; or a refusal's number.
-#[derive(Clone, Copy)]
+// What was read with all below it, a binding or another node, and the index behind it.
+#[derive(Clone, Copy, Debug, PartialEq, Eq)]
 pub enum Child {
     Binding(usize),
     Other(usize),
-    Refused(u32),
 }
 
-fn choose(b: bool, x: bool, y: bool) -> bool
-    ensures { result ≡ pick b x y }
-{
-    if b { x } else { y }
+impl Child {
+    // The index behind it.
+    fn behind(self) -> usize
+        ensures { result ≡ behind self }
+    {
+        match self {
+            Child::Binding(j) => j,
+            Child::Other(j) => j,
+        }
+    }
 }
 
 // Unused fields are 0, and a text number is one of t.
@@ -33,7 +38,7 @@ fn fields_ok(x: Raw, t: usize) -> bool
 {
     let k = x.kind as usize;
     let text = x.text as usize;
-    let known = choose(uses_text(k), text < t, text == 0);
+    let known = if uses_text(k) { text < t } else { text == 0 };
     known & (uses_bits(k) | (x.bits == 0))
 }
 
@@ -50,7 +55,14 @@ fn node_ok(x: Raw, c: Class, t: usize) -> bool
 
 // The children of the node at index `at`, which fills a place of class c with `left` levels.
 #[cycle(children_declarator_node)]
-fn children(file: &[u8], n: usize, t: usize, at: usize, c: Class, left: usize) -> Child
+fn children(
+    file: &[u8],
+    n: usize,
+    t: usize,
+    at: usize,
+    c: Class,
+    left: usize,
+) -> Result<Child, Refusal>
     requires { (n ≤ 1024) × (32 + 16 * n ≤ length file.now) × (left ≤ 200) × (at < n) × (node_ok t (place c left) (get_or (nodes_from n (drop 32 file.now)) at zero_node) ≡ true) }
     ensures { Filled t (nodes_from n (drop 32 file.now)) (place c left) at result }
 {
@@ -58,70 +70,61 @@ fn children(file: &[u8], n: usize, t: usize, at: usize, c: Class, left: usize) -
     let row = row_of(x.kind, x.form);
     let count = x.arity;
     let mut next = at + 1;
-    let mut i: u16 = 0;
-    while i < count {
+    for i in 0..count {
         let class = child(row, count, i);
-        let answer = node(file, n, t, next, class, left - 1);
-        match answer {
-            Child::Binding(j) => next = j,
-            Child::Other(j) => next = j,
-            Child::Refused(r) => return Child::Refused(r),
-        }
-        i += 1;
+        let answer = node(file, n, t, next, class, left - 1)?;
+        next = answer.behind();
     }
-    let kind = x.kind;
-    if kind == 20 {
-        Child::Binding(next)
+    if x.kind == 20 {
+        Ok(Child::Binding(next))
     } else {
-        Child::Other(next)
+        Ok(Child::Other(next))
     }
 }
 
 // 6 declarator b [e]: a first child that is no binding is refused.
 #[cycle(children_declarator_node)]
-fn declarator(file: &[u8], n: usize, t: usize, at: usize, c: Class, left: usize) -> Child
+fn declarator(
+    file: &[u8],
+    n: usize,
+    t: usize,
+    at: usize,
+    c: Class,
+    left: usize,
+) -> Result<Child, Refusal>
     requires { (n ≤ 1024) × (32 + 16 * n ≤ length file.now) × (left ≤ 200) × (at < n) × (node_ok t (place c left) (get_or (nodes_from n (drop 32 file.now)) at zero_node) ≡ true) × ((get_or (nodes_from n (drop 32 file.now)) at zero_node).kind ≡ 6) }
     ensures { Filled t (nodes_from n (drop 32 file.now)) (place c left) at result }
 {
     let x = raw_at(file, 32 + 16 * at);
-    let name = node(file, n, t, at + 1, Class::Binding, left - 1);
+    let name = node(file, n, t, at + 1, Class::Binding, left - 1)?;
     let Child::Binding(next) = name else {
-        return Child::Refused(6);
+        return Err(Refusal::Nodes);
     };
-    let count = x.arity;
-    if count == 1 {
-        return Child::Other(next);
+    if x.arity == 1 {
+        return Ok(Child::Other(next));
     }
-    let init = node(file, n, t, next, Class::Expression, left - 1);
-    match init {
-        Child::Binding(j) => Child::Other(j),
-        Child::Other(j) => Child::Other(j),
-        Child::Refused(r) => Child::Refused(r),
-    }
+    let init = node(file, n, t, next, Class::Expression, left - 1)?;
+    Ok(Child::Other(init.behind()))
 }
 
 // The node at index `at` and all below it, at a place of class c with `left` levels.
 #[cycle(children_declarator_node)]
-fn node(file: &[u8], n: usize, t: usize, at: usize, c: Class, left: usize) -> Child
+fn node(file: &[u8], n: usize, t: usize, at: usize, c: Class, left: usize) -> Result<Child, Refusal>
     requires { (n ≤ 1024) × (32 + 16 * n ≤ length file.now) × (left ≤ 200) }
     ensures { Filled t (nodes_from n (drop 32 file.now)) (place c left) at result }
 {
-    if n <= at {
-        return Child::Refused(6);
-    }
-    if left == 0 {
-        return Child::Refused(6);
+    if n <= at || left == 0 {
+        return Err(Refusal::Nodes);
     }
     let x = raw_at(file, 32 + 16 * at);
-    let ok = node_ok(x, c, t);
-    if ok {
-        let kind = x.kind;
-        if kind == 6 {
-            return declarator(file, n, t, at, c, left);
-        }
-        return children(file, n, t, at, c, left);
+    if !node_ok(x, c, t) {
+        return Err(Refusal::Nodes);
     }
-    Child::Refused(6)
+    if x.kind == 6 {
+        declarator(file, n, t, at, c, left)
+    } else {
+        children(file, n, t, at, c, left)
+    }
 }
 
 // Row 6: the n nodes are one script in preorder, against the kinds, with t texts.
@@ -129,10 +132,8 @@ pub fn nodes_ok(file: &[u8], n: usize, t: usize) -> bool
     requires { (n ≤ 1024) × (32 + 16 * n ≤ length file.now) }
     ensures { result ≡ fills t (root_place ∷ []) (nodes_from n (drop 32 file.now)) }
 {
-    let answer = node(file, n, t, 0, Class::Root, 200);
-    match answer {
-        Child::Binding(j) => j == n,
-        Child::Other(j) => j == n,
-        Child::Refused(_) => false,
+    match node(file, n, t, 0, Class::Root, 200) {
+        Ok(root) => root.behind() == n,
+        Err(_) => false,
     }
 }

@@ -1,14 +1,14 @@
 -- What reading the header promises. Assumes nothing: these are definitions.
-use Rattle.std.specs.Prelude.{◌≡◌, List, ℕ, ◌+◌, ◌*◌, ◌≤◌, length}
+use Rattle.std.specs.Prelude.{◌≡◌, List, ℕ, ◌+◌, ◌*◌, ◌≤◌, length, Result, Ok, Err}
 use Rattle.def_file.specs.Read.{Read, bad, u32, header}
+use Rattle.refusal.specs.declared.Refusal.{Refusal}
+use Rattle.refusal.specs.Number.{number}
 use Rattle.file_read.specs.declared.header.Header.{Header}
-use Rattle.file_read.specs.declared.header.Head.{Head}
-use Rattle.file_read.specs.declared.header.Head.TheVariants.{Found, Refused}
 
 -- what reading gives after the header, by what `rest` gives
-abbrev pub headed : Head → Read → Read
-headed (Found h) rest = rest
-headed (Refused n) rest = bad n
+abbrev pub headed : Result Header Refusal → Read → Read
+headed (Ok h) rest = rest
+headed (Err r) rest = bad (number r)
 
 -- the counts of a header that was found
 pub record Counts (bs : List ℕ) (h : Header) : Type 0 where
@@ -21,10 +21,10 @@ pub record Counts (bs : List ℕ) (h : Header) : Type 0 where
   pub few_bytes : h.bytes ≤ 4096
   pub size : length bs ≡ 32 + 16 * h.nodes + 4 * h.texts + h.bytes
 
-abbrev pub Headed : List ℕ → Head → Type 0
-Headed bs (Found h) = Counts bs h
-Headed bs (Refused n) = Unit {0}
+abbrev pub Headed : List ℕ → Result Header Refusal → Type 0
+Headed bs (Ok h) = Counts bs h
+Headed bs (Err r) = Unit {0}
 
-pub record HeadIs (bs : List ℕ) (r : Head) : Type 0 where
+pub record HeadIs (bs : List ℕ) (r : Result Header Refusal) : Type 0 where
   pub is : (rest : Read) → header bs rest ≡ headed r rest
   pub counts : Headed bs r

@@ -1,14 +1,12 @@
 -- The identifiers of a script in the working words: how many in word 4, and of each, from word 15504 on, the number of the first node that has it;
 -- from word 15760 on, for each text number, where among them the search for an identifier of this text begins.
 -- Assumes nothing: these are definitions.
-use Rattle.std.specs.Prelude.{◌≡◌, List, ℕ, ◌+◌, ◌-◌, ◌*◌, ◌≤◌, ◌<◌, get_or, length, drop}
+use Rattle.std.specs.Prelude.{◌≡◌, false, List, ℕ, ◌+◌, ◌-◌, ◌*◌, ◌≤◌, ◌<◌, Option, Some, None, get_or, length, drop}
 use Rattle.words.specs.Tab.{tab}
 use Rattle.def_file.specs.declared.Raw.{Raw}
-use Rattle.def_file.specs.Script.{place_of, enter}
+use Rattle.def_file.specs.Script.{known, place_of, enter}
 use Rattle.def_file.specs.Read.{raw_of}
 use Rattle.words.specs.Layout.{Agree}
-use Rattle.file_read.specs.declared.idents.Entered.{Entered}
-use Rattle.file_read.specs.declared.idents.Entered.TheVariants.{At, Full}
 
 -- the node number m of a file
 abbrev pub numbered : List ℕ → ℕ → Raw
@@ -31,6 +29,11 @@ pub record Texted (bs w : List ℕ) : Type 0 where
   pub first : (i : ℕ) → i < get_or w 4 0 → get_or w (15760 + (numbered bs (get_or w (15504 + i) 0)).text) 0 ≤ i + 1
   pub high : (t : ℕ) → t < 256 → get_or w (15760 + t) 0 ≤ get_or w 4 0
 
+-- the place of the identifier of x among those listed, or that it is none of them
+abbrev pub Found : Raw → List Raw → Option ℕ → Type 0
+Found x ids (Some j) = (j < length ids) × (j ≡ place_of x ids)
+Found x ids None = known x ids ≡ false
+
 -- the word of text t is v where it was 0, and all else is kept
 pub record FirstSet (w w' : List ℕ) (t v : ℕ) : Type 0 where
   pub size : length w' ≡ length w
@@ -39,12 +42,12 @@ pub record FirstSet (w w' : List ℕ) (t v : ℕ) : Type 0 where
   pub old : 0 < get_or w (15760 + t) 0 → get_or w' (15760 + t) 0 ≡ get_or w (15760 + t) 0
 
 -- what entering the identifier of the node x gives: its number and the longer list, or that this would have over 256
-abbrev pub Case : List ℕ → List ℕ → List ℕ → ℕ → Raw → Entered → Type 0
-Case bs w w' n x (At j) = (ids_of bs w' ≡ enter (ids_of bs w) x) × (j ≡ place_of x (enter (ids_of bs w) x)) × Listed w' n × Texted bs w'
-Case bs w w' n x Full = 256 < length (enter (ids_of bs w) x)
+abbrev pub Case : List ℕ → List ℕ → List ℕ → ℕ → Raw → Option ℕ → Type 0
+Case bs w w' n x (Some j) = (ids_of bs w' ≡ enter (ids_of bs w) x) × (j ≡ place_of x (enter (ids_of bs w) x)) × Listed w' n × Texted bs w'
+Case bs w w' n x None = 256 < length (enter (ids_of bs w) x)
 
 -- all other words are as they were
-pub record Enters (bs w w' : List ℕ) (n : ℕ) (x : Raw) (r : Entered) : Type 0 where
+pub record Enters (bs w w' : List ℕ) (n : ℕ) (x : Raw) (r : Option ℕ) : Type 0 where
   pub size : length w' ≡ length w
   pub first : Agree 0 4 w w'
   pub mid : Agree 5 15504 w w'

@@ -1,5 +1,7 @@
 -- What loading a script's core into the words promises. Assumes nothing: these are definitions.
-use Rattle.std.specs.Prelude.{◌≡◌, Bool, true, false, List, [], ◌∷◌, ◌++◌, ℕ, ◌+◌, ◌*◌, ◌≤◌, ◌<◌, length, get_or, drop, take}
+use Rattle.std.specs.Prelude.{◌≡◌, true, List, [], ◌∷◌, ◌++◌, ℕ, ◌+◌, ◌*◌, ◌≤◌, ◌<◌, length, get_or, drop, take, Result, Ok, Err}
+use Rattle.refusal.specs.declared.Refusal.{Refusal}
+use Rattle.refusal.specs.declared.Refusal.TheVariants as Row
 use Rattle.def_tree.specs.Tree.{Core}
 use Rattle.words.specs.Layout.{Agree, tree, beyond}
 use Rattle.def_file.specs.Script.{Script, has_id, enter_all, idents}
@@ -51,15 +53,15 @@ pub record Kept (w w' : List ℕ) : Type 0 where
   pub rest : beyond w' ≡ beyond w
 
 -- one node more, or row 7
-abbrev pub Next : List ℕ → List ℕ → ℕ → ℕ → ℕ → Bool → Type 0
-Next bs w n t k true = Loaded bs w n t k
-Next bs w n t k false = 256 < length (idents (script_of bs n t))
+abbrev pub Next : List ℕ → List ℕ → ℕ → ℕ → ℕ → Result Unit Refusal → Type 0
+Next bs w n t k (Ok u) = Loaded bs w n t k
+Next bs w n t k (Err r) = (r ≡ Row.Idents) × (256 < length (idents (script_of bs n t)))
 
-pub record Step (bs w w' : List ℕ) (n t k : ℕ) (r : Bool) : Type 0 where
+pub record Step (bs w w' : List ℕ) (n t k : ℕ) (r : Result Unit Refusal) : Type 0 where
   pub kept : Kept w w'
   pub next : Next bs w' n t (k + 1) r
 
 -- all nodes, or row 7
-pub record Done (bs w w' : List ℕ) (n t : ℕ) (r : Bool) : Type 0 where
+pub record Done (bs w w' : List ℕ) (n t : ℕ) (r : Result Unit Refusal) : Type 0 where
   pub kept : Kept w w'
   pub next : Next bs w' n t n r

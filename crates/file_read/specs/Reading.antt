@@ -1,22 +1,21 @@
 -- What reading a file promises: the answer is the definition's, and so are the words. Assumes nothing: these are definitions.
-use Rattle.std.specs.Prelude.{◌≡◌, Bool, true, false, List, ℕ, leb, length, get_or}
+use Rattle.std.specs.Prelude.{◌≡◌, Bool, true, false, List, ℕ, leb, length, get_or, Result, Ok, Err}
+use Rattle.refusal.specs.declared.Refusal.{Refusal}
+use Rattle.refusal.specs.Number.{number}
 use Rattle.words.specs.Layout.{tree}
 use Rattle.words.specs.Moved.{Cleared}
 use Rattle.def_file.specs.Script.{Script, idents}
 use Rattle.def_file.specs.Core.{core_nodes}
 use Rattle.def_file.specs.Read.{Read, bad, script, read, u32}
 use Rattle.file_read.specs.declared.header.Header.{Header}
-use Rattle.file_read.specs.declared.header.Head.{Head}
-use Rattle.file_read.specs.declared.header.Head.TheVariants.{Found, Refused as NoHead}
-use Rattle.file_read.specs.declared.read.Answer.{Answer}
 use Rattle.file_read.specs.Idents.{ids_of, Listed}
 use Rattle.file_read.specs.Head.{Counts}
 use Rattle.file_read.specs.Load.{Kept, script_of, Readable}
 
 -- rows 2 to 6: what `read` gives, or what is still to be tested of the script
-abbrev pub CheckIs : List ℕ → Head → Type 0
-CheckIs bs (NoHead m) = read bs ≡ bad m
-CheckIs bs (Found h) = Counts bs h × Readable bs h.nodes h.texts
+abbrev pub CheckIs : List ℕ → Result Header Refusal → Type 0
+CheckIs bs (Err r) = read bs ≡ bad (number r)
+CheckIs bs (Ok h) = Counts bs h × Readable bs h.nodes h.texts
     × (read bs ≡ elim (leb (length (idents (script_of bs h.nodes h.texts))) 256) [ false ↦ bad 7 | true ↦ script (script_of bs h.nodes h.texts) ])
 
 -- the words hold the core of a script, with its identifiers
@@ -30,24 +29,24 @@ pub record Held (bs w : List ℕ) (s : Script) : Type 0 where
 abbrev pub counts_of : List ℕ → Script → Header
 counts_of bs s = record { nodes = length s.nodes; texts = length s.texts; bytes = u32 bs 28 }
 
--- the answer to what was read
-abbrev pub told : List ℕ → Read → Answer
-told bs (bad m) = Answer.Refused m
-told bs (script s) = Answer.Script (counts_of bs s)
+-- the answer to what was read: a script by its counts, a refusal by its number
+abbrev pub Told : List ℕ → Read → Result Header Refusal → Type 0
+Told bs x (Ok h) = (s : Script) × (x ≡ script s) × (h ≡ counts_of bs s)
+Told bs x (Err r) = x ≡ bad (number r)
 
 -- and the words: a script's core, or anything in the first 16,384
 abbrev pub Left : List ℕ → List ℕ → Read → Type 0
 Left bs w (bad m) = Unit {0}
 Left bs w (script s) = Held bs w s
 
-pub record LoadIs (bs w w' : List ℕ) (r : Answer) : Type 0 where
-  pub answer : r ≡ told bs (read bs)
+pub record LoadIs (bs w w' : List ℕ) (r : Result Header Refusal) : Type 0 where
+  pub answer : Told bs (read bs) r
   pub words : Left bs w' (read bs)
   pub kept : Kept w w'
 
 -- row 1, then the others
-abbrev pub answer_of : ℕ → List ℕ → Answer
-answer_of words bs = elim (leb 16384 words) [ false ↦ Answer.Refused 1 | true ↦ told bs (read bs) ]
+abbrev pub answer_of : ℕ → List ℕ → Read
+answer_of words bs = elim (leb 16384 words) [ false ↦ bad 1 | true ↦ read bs ]
 
 -- the first 16,384 words are 0 after a refusal, and hold the script's core otherwise; those past them are kept
 abbrev pub After : List ℕ → List ℕ → List ℕ → Read → Type 0
@@ -58,6 +57,6 @@ abbrev pub WordsAre : List ℕ → List ℕ → List ℕ → Bool → Type 0
 WordsAre bs w w' false = w' ≡ w
 WordsAre bs w w' true = After bs w w' (read bs)
 
-pub record ReadIs (bs w w' : List ℕ) (r : Answer) : Type 0 where
-  pub answer : r ≡ answer_of (length w) bs
+pub record ReadIs (bs w w' : List ℕ) (r : Result Header Refusal) : Type 0 where
+  pub answer : Told bs (answer_of (length w) bs) r
   pub words : WordsAre bs w w' (leb 16384 (length w))

@@ -1,76 +1,53 @@
 // Reading a tree file: rows 1 to 7 in checking order, then the script's core in the working words.
-ghost use Rattle.std.specs.Prelude.{◌≡◌, length, ◌≤◌};
+ghost use Rattle.std.specs.Prelude.{length, ◌≤◌};
 ghost use Rattle.file_read.specs.Reading.{CheckIs, LoadIs, ReadIs};
 
-use crate::header::{Head, Header, read_header};
+use crate::header::{Header, read_header};
 use crate::load::load;
 use file_fields::texts::{distinct_ok, rising_ok};
 use file_preorder::nodes_ok;
-
-// A script, by its counts, or a refusal's number.
-#[derive(Clone, Copy)]
-pub enum Answer {
-    Script(Header),
-    Refused(u32),
-}
+use refusal::Refusal;
 
 // Rows 2 to 6.
-fn check(file: &[u8]) -> Head
+fn check(file: &[u8]) -> Result<Header, Refusal>
     ensures { CheckIs file.now result }
 {
-    let head = read_header(file);
-    let Head::Found(h) = head else {
-        return head;
-    };
-    let n = h.nodes;
-    let t = h.texts;
-    let b = h.bytes;
-    let ends = 32 + 16 * n;
-    let bytes = ends + 4 * t;
-    if rising_ok(file, ends, t, b) {
-        if distinct_ok(file, ends, bytes, t) {
-            if nodes_ok(file, n, t) {
-                return Head::Found(h);
-            }
-            return Head::Refused(6);
-        }
-        return Head::Refused(5);
+    let h = read_header(file)?;
+    let ends = 32 + 16 * h.nodes;
+    let bytes = ends + 4 * h.texts;
+    if !rising_ok(file, ends, h.texts, h.bytes) {
+        return Err(Refusal::Texts);
     }
-    Head::Refused(5)
+    if !distinct_ok(file, ends, bytes, h.texts) {
+        return Err(Refusal::Texts);
+    }
+    if !nodes_ok(file, h.nodes, h.texts) {
+        return Err(Refusal::Nodes);
+    }
+    Ok(h)
 }
 
 // Rows 2 to 7; a refusal leaves the first 16,384 words as they may be.
-fn load_file(file: &[u8], words: &mut [u32]) -> Answer
+fn load_file(file: &[u8], words: &mut [u32]) -> Result<Header, Refusal>
     requires { 16384 ≤ length words.old }
     ensures { LoadIs file.now words.old words.new result }
 {
-    let head = check(file);
-    match head {
-        Head::Found(h) => {
-            let n = h.nodes;
-            let t = h.texts;
-            if load(file, words, n, t) {
-                return Answer::Script(h);
-            }
-            Answer::Refused(7)
-        }
-        Head::Refused(m) => Answer::Refused(m),
-    }
+    let h = check(file)?;
+    load(file, words, h.nodes, h.texts)?;
+    Ok(h)
 }
 
-// Rows 1 to 7. After row 1 the words are unchanged; after the others the first 16,384 are 0; the words past them never change.
-pub fn read(file: &[u8], words: &mut [u32]) -> Answer
+// Rows 1 to 7: a script, by its counts. After row 1 the words are unchanged; after the others the first 16,384 are 0; the words past
+// them never change.
+pub fn read(file: &[u8], words: &mut [u32]) -> Result<Header, Refusal>
     ensures { ReadIs file.now words.old words.new result }
 {
     if words.len() < 16384 {
-        return Answer::Refused(1);
+        return Err(Refusal::Call);
     }
     let answer = load_file(file, words);
-    match answer {
-        Answer::Script(h) => Answer::Script(h),
-        Answer::Refused(m) => {
-            words::clear(words);
-            Answer::Refused(m)
-        }
+    if answer.is_err() {
+        words::clear(words);
     }
+    answer
 }
