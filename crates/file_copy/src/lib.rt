@@ -2,18 +2,43 @@
 #![tactic(auto)]
 
 ghost use Rattle.std.specs.Prelude.{◌≡◌};
-ghost use Rattle.file_copy.specs.Copy.{CopyIs};
+ghost use Rattle.refusal.specs.Number.{number};
+ghost use Rattle.file_write.specs.Written.{refused, says};
+ghost use Rattle.file_copy.specs.Copy.{CopyIs, numbers};
 
-use file_read::read::{Answer, read};
-use file_write::{Written, write};
+use file_read::read::read;
+use file_write::write;
+use refusal::Refusal;
 use words::clear;
 
 // A refusal's number, or 0 and the length of what was written.
 #[repr(C)]
-#[derive(Clone, Copy)]
+#[derive(Clone, Copy, Debug, PartialEq, Eq)]
 pub struct Copied {
     pub refused: u32,
     pub length: usize,
+}
+
+// A refusal's number, and else nothing.
+impl From<Refusal> for Copied {
+    ghost from_gives = { λ r c. c ≡ numbers (refused (number r)) };
+
+    fn from(refusal: Refusal) -> Copied {
+        Copied {
+            refused: u32::from(refusal),
+            length: 0,
+        }
+    }
+}
+
+// The same, with the words cleared.
+fn copy(file: &[u8], res: &mut [u8], words: &mut [u32]) -> Result<usize, Refusal>
+    ensures { CopyIs file.now res.old res.new words.old words.new (numbers (says result)) }
+{
+    read(file, words)?;
+    let written = write(file, words, res);
+    clear(words);
+    written
 }
 
 // Rows 1 to 7, then row 10. What is written is the file itself.
@@ -21,16 +46,8 @@ pub struct Copied {
 pub extern "C" fn negbosun_copy(file: &[u8], res: &mut [u8], words: &mut [u32]) -> Copied
     ensures { CopyIs file.now res.old res.new words.old words.new result }
 {
-    let answer = read(file, words);
-    match answer {
-        Answer::Script(_) => {
-            let written = write(file, words, res);
-            clear(words);
-            match written {
-                Written::Done(length) => Copied { refused: 0, length },
-                Written::Refused(refused) => Copied { refused, length: 0 },
-            }
-        }
-        Answer::Refused(refused) => Copied { refused, length: 0 },
+    match copy(file, res, words) {
+        Ok(length) => Copied { refused: 0, length },
+        Err(refusal) => Copied::from(refusal),
     }
 }

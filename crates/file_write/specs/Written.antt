@@ -1,9 +1,11 @@
 -- What writing a result answers, and what it leaves in the result buffer. Assumes nothing: these are definitions.
-use Rattle.std.specs.Prelude.{◌≡◌, true, false, ◌&&◌, List, [], ◌++◌, map, ℕ, ◌+◌, ◌*◌, ◌≤◌, leb, length, drop, get_or}
+use Rattle.std.specs.Prelude.{◌≡◌, true, false, ◌&&◌, List, [], ◌++◌, map, ℕ, ◌+◌, ◌*◌, ◌≤◌, leb, length, drop, get_or, Result, Ok, Err}
 use Rattle.def_file.specs.Read.{Read, bad, script, u32, header}
 use Rattle.def_file.specs.Write.{head_bytes, node_bytes}
 use Rattle.words.specs.Layout.{tree}
-use Rattle.file_write.specs.declared.Written.{Written}
+use Rattle.refusal.specs.declared.Refusal.{Refusal}
+use Rattle.refusal.specs.Number.{number}
+use Rattle.file_read.specs.declared.header.Header.{Header}
 use Rattle.file_write.specs.Back.{back_in, Source}
 
 -- document 01's number of a refusal, or the result's length
@@ -11,9 +13,9 @@ pub data Answer : Type 0 where
   refused : ℕ → Answer
   wrote : ℕ → Answer
 
-abbrev pub says : Written → Answer
-says (Written.Done n) = wrote n
-says (Written.Refused k) = refused k
+abbrev pub says : Result ℕ Refusal → Answer
+says (Ok n) = wrote n
+says (Err r) = refused (number r)
 
 -- the length of the result: its nodes, and the file's texts
 abbrev pub total : List ℕ → List ℕ → ℕ
@@ -55,15 +57,15 @@ abbrev pub left : List ℕ → List ℕ → Answer → List ℕ
 left out r (wrote n) = out ++ drop n r
 left out r (refused k) = r
 
-pub record Wrote (out r r' : List ℕ) (a : Answer) (x : Written) : Type 0 where
+pub record Wrote (out r r' : List ℕ) (a : Answer) (x : Result ℕ Refusal) : Type 0 where
   pub is : says x ≡ a
   pub leaves : r' ≡ left out r a
 
--- a file's counts, and words enough
-pub record Counted (bs w : List ℕ) (n t b : ℕ) : Type 0 where
-  pub source : Source bs w n
-  pub texts : t ≡ u32 bs 16
-  pub bytes : b ≡ u32 bs 28
-  pub few : t ≤ 256
-  pub small : b ≤ 4096
-  pub size : length bs ≡ 32 + 16 * n + 4 * t + b
+-- the counts of the file's header, and words enough
+pub record Counted (bs w : List ℕ) (h : Header) : Type 0 where
+  pub source : Source bs w h.nodes
+  pub texts : h.texts ≡ u32 bs 16
+  pub bytes : h.bytes ≡ u32 bs 28
+  pub few : h.texts ≤ 256
+  pub small : h.bytes ≤ 4096
+  pub size : length bs ≡ 32 + 16 * h.nodes + 4 * h.texts + h.bytes

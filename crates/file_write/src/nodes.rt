@@ -1,7 +1,6 @@
 // The nodes of a result: a node of the words' tree turned back into a node of the file.
 ghost use Rattle.std.specs.Prelude.{◌≡◌, map, ◌*◌, ◌≤◌, ◌<◌, length, get_or};
 ghost use Rattle.std.proofs.lemmas.List.Edits.{sets};
-ghost use Rattle.def_file.specs.Script.{zero_node};
 ghost use Rattle.def_file.specs.Write.{node_bytes};
 ghost use Rattle.words.specs.Layout.{node_of, tree};
 ghost use Rattle.file_write.specs.Back.{Source, node_in, ident_in, text_in, back_in};
@@ -11,29 +10,15 @@ use def_file::Raw;
 use file_fields::fields::raw_at;
 use words::{arity_at, form_at, kind_at, layout, num_at};
 
-// The number 0.
-fn zero_node() -> Raw
-    ensures { result ≡ zero_node }
-{
-    Raw {
-        kind: 24,
-        form: 0,
-        arity: 0,
-        text: 0,
-        bits: 0,
-    }
-}
-
 // Node number m of a file of n nodes; the number 0 where there is none.
 fn node_in(file: &[u8], words: &[u32], n: usize, m: usize) -> Raw
     requires { Source file.now words.now n }
     ensures { result ≡ node_in file.now m }
 {
-    let there = (1 <= m) & (m <= n);
-    if there {
+    if 1 <= m && m <= n {
         return raw_at(file, 32 + 16 * (m - 1));
     }
-    zero_node()
+    Raw::ZERO
 }
 
 // Identifier i, by the first node that has it.
@@ -42,11 +27,11 @@ fn ident_in(file: &[u8], words: &[u32], n: usize, i: u32) -> Raw
     ensures { result ≡ ident_in file.now words.now i }
 {
     if words[layout::IDENT_COUNT] <= i {
-        return zero_node();
+        return Raw::ZERO;
     }
     let at = layout::IDENTS + i as usize;
     if words.len() <= at {
-        return zero_node();
+        return Raw::ZERO;
     }
     node_in(file, words, n, words[at] as usize)
 }
@@ -56,10 +41,8 @@ fn text_in(file: &[u8], words: &[u32], n: usize, kind: u32, m: usize) -> u32
     requires { Source file.now words.now n }
     ensures { result ≡ text_in file.now kind m }
 {
-    let kept = (kind == 29) | (kind == 37);
-    if kept {
-        let x = node_in(file, words, n, m);
-        return x.text;
+    if kind == 29 || kind == 37 {
+        return node_in(file, words, n, m).text;
     }
     0
 }
@@ -72,12 +55,10 @@ fn back(file: &[u8], words: &[u32], n: usize, k: usize) -> Raw
     let kind = kind_at(words, k);
     let arity = arity_at(words, k);
     let num = num_at(words, k);
-    let literal = (22 <= kind) & (kind <= 25);
-    if literal {
+    if 22 <= kind && kind <= 25 {
         return node_in(file, words, n, num as usize);
     }
-    let name = (kind == 20) | (kind == 21);
-    if name {
+    if kind == 20 || kind == 21 {
         let x = ident_in(file, words, n, num);
         return Raw {
             kind: kind as u8,
@@ -102,10 +83,8 @@ pub fn put_nodes(file: &[u8], n: usize, words: &[u32], out: &mut [u8])
     ensures { out.new ≡ sets out.old 0 (node_bytes (map (back_in file.now words.now) (tree words.now))) }
 {
     let count = words[layout::NODE_COUNT] as usize;
-    let mut k: usize = 0;
-    while k < count {
+    for k in 0..count {
         let x = back(file, words, n, k);
         put_raw(out, 16 * k, x);
-        k += 1;
     }
 }

@@ -2,15 +2,14 @@
 #![tactic(auto)]
 
 ghost use Rattle.std.specs.Prelude.{◌≡◌};
-ghost use Rattle.def_tree.specs.Base.{to_nat};
-ghost use Rattle.pass_answers.specs.Entry.{enough, InlineIs};
-ghost use Rattle.pass_answers.specs.Roots.{RootsIs, RootIs};
+ghost use Rattle.pass_answers.specs.Entry.{enough, inlined, InlineIs};
+ghost use Rattle.pass_answers.specs.Roots.{listed_roots, bound, RootsIs, RootIs};
 
-use file_write::{Written, write};
+use file_write::write;
 use pass_answers::{Inlined, RootBinding, Roots};
-use pass_roots::{RootAt, root_at, write_roots};
-use pass_run::Ran;
+use pass_roots::{Root, root_at, write_roots};
 use pass_run::inline::inline_file;
+use refusal::Refusal;
 use words::clear;
 
 // Row 1: 1 to 16 runs, and at least 16,384 words.
@@ -20,10 +19,58 @@ fn enough(runs: u32, words: usize) -> bool
     (1 <= runs) & (runs <= 16) & (16384 <= words)
 }
 
-fn number(b: bool) -> u32
-    ensures { result ≡ to_nat b }
+// The result's length, the runs done, and whether the last one left the mark.
+fn inline(
+    file: &[u8],
+    res: &mut [u8],
+    words: &mut [u32],
+    runs: u32,
+) -> Result<Inlined, Refusal>
+    ensures { InlineIs file.now res.old res.new words.old words.new runs (inlined result) }
 {
-    if b { 1 } else { 0 }
+    if !enough(runs, words.len()) {
+        return Err(Refusal::Call);
+    }
+    let ran = inline_file(file, words, runs)?;
+    let written = write(file, words, res);
+    clear(words);
+    Ok(Inlined {
+        refused: 0,
+        length: written?,
+        runs: ran.runs,
+        changed: u32::from(ran.changed),
+    })
+}
+
+// How many root bindings there are.
+fn list(
+    file: &[u8],
+    roots: &mut [u32],
+    words: &mut [u32],
+    runs: u32,
+) -> Result<usize, Refusal>
+    ensures { RootsIs file.now roots.old roots.new words.old words.new runs (listed_roots result) }
+{
+    if !enough(runs, words.len()) {
+        return Err(Refusal::Call);
+    }
+    inline_file(file, words, runs)?;
+    let written = write_roots(file, words, roots);
+    clear(words);
+    written
+}
+
+// The n-th root binding, if there is one.
+fn find(file: &[u8], words: &mut [u32], runs: u32, n: u32) -> Result<Option<Root>, Refusal>
+    ensures { RootIs file.now words.old words.new runs n (bound result) }
+{
+    if !enough(runs, words.len()) {
+        return Err(Refusal::Call);
+    }
+    inline_file(file, words, runs)?;
+    let root = root_at(file, words, n as usize);
+    clear(words);
+    Ok(root)
 }
 
 // Rows 1 to 10. What is written is the result's file.
@@ -36,40 +83,9 @@ pub extern "C" fn negbosun_inline(
 ) -> Inlined
     ensures { InlineIs file.now res.old res.new words.old words.new runs result }
 {
-    if !enough(runs, words.len()) {
-        return Inlined {
-            refused: 1,
-            length: 0,
-            runs: 0,
-            changed: 0,
-        };
-    }
-    let ran = inline_file(file, words, runs);
-    match ran {
-        Ran::Done { runs, changed } => {
-            let written = write(file, words, res);
-            clear(words);
-            match written {
-                Written::Done(length) => Inlined {
-                    refused: 0,
-                    length,
-                    runs,
-                    changed: number(changed),
-                },
-                Written::Refused(refused) => Inlined {
-                    refused,
-                    length: 0,
-                    runs: 0,
-                    changed: 0,
-                },
-            }
-        }
-        Ran::Refused(refused) => Inlined {
-            refused,
-            length: 0,
-            runs: 0,
-            changed: 0,
-        },
+    match inline(file, res, words, runs) {
+        Ok(answer) => answer,
+        Err(refusal) => Inlined::from(refusal),
     }
 }
 
@@ -84,26 +100,9 @@ pub extern "C" fn negbosun_roots(
 ) -> Roots
     ensures { RootsIs file.now roots.old roots.new words.old words.new runs result }
 {
-    if !enough(runs, words.len()) {
-        return Roots {
-            refused: 1,
-            count: 0,
-        };
-    }
-    let ran = inline_file(file, words, runs);
-    match ran {
-        Ran::Done {
-            runs: _,
-            changed: _,
-        } => {
-            let written = write_roots(file, words, roots);
-            clear(words);
-            match written {
-                Written::Done(count) => Roots { refused: 0, count },
-                Written::Refused(refused) => Roots { refused, count: 0 },
-            }
-        }
-        Ran::Refused(refused) => Roots { refused, count: 0 },
+    match list(file, roots, words, runs) {
+        Ok(count) => Roots { refused: 0, count },
+        Err(refusal) => Roots::from(refusal),
     }
 }
 
@@ -112,55 +111,8 @@ pub extern "C" fn negbosun_roots(
 pub extern "C" fn negbosun_root(file: &[u8], words: &mut [u32], runs: u32, n: u32) -> RootBinding
     ensures { RootIs file.now words.old words.new runs n result }
 {
-    if !enough(runs, words.len()) {
-        return RootBinding {
-            refused: 1,
-            found: 0,
-            context: 0,
-            text: 0,
-            prevented: 0,
-            count: 0,
-        };
-    }
-    let ran = inline_file(file, words, runs);
-    match ran {
-        Ran::Done {
-            runs: _,
-            changed: _,
-        } => {
-            let root = root_at(file, words, n as usize);
-            clear(words);
-            match root {
-                RootAt::Found {
-                    text,
-                    context,
-                    prevented,
-                    count,
-                } => RootBinding {
-                    refused: 0,
-                    found: 1,
-                    context,
-                    text,
-                    prevented: number(prevented),
-                    count,
-                },
-                RootAt::Nothing => RootBinding {
-                    refused: 0,
-                    found: 0,
-                    context: 0,
-                    text: 0,
-                    prevented: 0,
-                    count: 0,
-                },
-            }
-        }
-        Ran::Refused(refused) => RootBinding {
-            refused,
-            found: 0,
-            context: 0,
-            text: 0,
-            prevented: 0,
-            count: 0,
-        },
+    match find(file, words, runs, n) {
+        Ok(root) => RootBinding::from(root),
+        Err(refusal) => RootBinding::from(refusal),
     }
 }

@@ -1,8 +1,10 @@
 -- What the C function of the pass answers, and what it leaves in both buffers, by the definition's entry. Assumes nothing: these are definitions.
-use Rattle.std.specs.Prelude.{◌≡◌, Bool, ◌&&◌, List, ◌++◌, ℕ, leb, length, drop}
+use Rattle.std.specs.Prelude.{◌≡◌, Bool, ◌&&◌, List, ◌++◌, ℕ, leb, length, drop, Result, Ok, Err}
 use Rattle.def_tree.specs.Base.{to_nat}
 use Rattle.def_pass.specs.Entry.{Entry, refused, passed, entry}
 use Rattle.file_copy.specs.Copy.{WordsAre}
+use Rattle.refusal.specs.declared.Refusal.{Refusal}
+use Rattle.refusal.specs.Number.{number}
 use Rattle.pass_answers.specs.declared.Inlined.{Inlined}
 
 -- row 1
@@ -13,6 +15,11 @@ enough runs words = leb 1 runs && leb runs 16 && leb 16384 words
 abbrev pub numbers : Entry → Inlined
 numbers (refused m) = record { refused = m; length = 0; runs = 0; changed = 0 }
 numbers (passed n k c out rs) = record { refused = 0; length = n; runs = k; changed = to_nat c }
+
+-- an answer, or the number of the refusal in its place
+abbrev pub inlined : Result Inlined Refusal → Inlined
+inlined (Ok c) = c
+inlined (Err r) = record { refused = number r; length = 0; runs = 0; changed = 0 }
 
 -- the result buffer r after an answer: a refusal leaves it as it was, and the bytes behind the result stay
 abbrev pub left : List ℕ → Entry → List ℕ

@@ -1,11 +1,14 @@
 -- What the C functions that tell the root bindings promise, by the definition's pass over a file: all of them, or the one of a number. Assumes nothing: these are definitions.
-use Rattle.std.specs.Prelude.{◌≡◌, true, false, List, ℕ, length}
+use Rattle.std.specs.Prelude.{◌≡◌, true, false, List, ℕ, length, Result, Ok, Err, Option as Maybe, Some, None}
 use Rattle.std.proofs.Math.Option.{Option, none, some}
 use Rattle.def_pass.specs.Script.{Root, Answer, no!, yes!, pass_file}
 use Rattle.def_tree.specs.Base.{to_nat}
 use Rattle.file_copy.specs.Copy.{WordsAre}
 use Rattle.pass_roots.specs.Listing.{Listing, refused, listed, in_room, left}
 use Rattle.pass_roots.specs.Nth.{nth}
+use Rattle.pass_roots.specs.declared.Root.{Root as Binding}
+use Rattle.refusal.specs.declared.Refusal.{Refusal}
+use Rattle.refusal.specs.Number.{number}
 use Rattle.pass_answers.specs.declared.Roots.{Roots}
 use Rattle.pass_answers.specs.declared.RootBinding.{RootBinding}
 use Rattle.pass_answers.specs.Entry.{enough}
@@ -29,6 +32,11 @@ abbrev pub numbers : Listing → Roots
 numbers (refused m) = record { refused = m; count = 0 }
 numbers (listed rs) = record { refused = 0; count = length rs }
 
+-- how many root bindings there are, or the number of the refusal
+abbrev pub listed_roots : Result ℕ Refusal → Roots
+listed_roots (Ok n) = record { refused = 0; count = n }
+listed_roots (Err r) = record { refused = number r; count = 0 }
+
 -- for all arguments; the words are kept by row 1, and after all else the first 16,384 are 0 and those past them kept
 pub record RootsIs (bs r r' w w' : List ℕ) (runs : ℕ) (c : Roots) : Type 0 where
   pub answer : c ≡ numbers (listing runs (length w) bs (length r))
@@ -49,6 +57,12 @@ abbrev pub nth_numbers : NthRoot → RootBinding
 nth_numbers (stopped m) = record { refused = m; found = 0; context = 0; text = 0; prevented = 0; count = 0 }
 nth_numbers (given none) = record { refused = 0; found = 0; context = 0; text = 0; prevented = 0; count = 0 }
 nth_numbers (given (some r)) = record { refused = 0; found = 1; context = r.key.bits; text = r.key.text; prevented = to_nat r.mark; count = r.count }
+
+-- a root binding, that there is none, or the number of the refusal
+abbrev pub bound : Result (Maybe Binding) Refusal → RootBinding
+bound (Err r) = record { refused = number r; found = 0; context = 0; text = 0; prevented = 0; count = 0 }
+bound (Ok None) = record { refused = 0; found = 0; context = 0; text = 0; prevented = 0; count = 0 }
+bound (Ok (Some b)) = record { refused = 0; found = 1; context = b.context; text = b.text; prevented = to_nat b.prevented; count = b.count }
 
 -- for all arguments
 pub record RootIs (bs w w' : List ℕ) (runs n : ℕ) (c : RootBinding) : Type 0 where

@@ -1,15 +1,16 @@
 -- The root bindings: how they stand in the words, and what is written of each. Assumes nothing: these are definitions.
-use Rattle.std.specs.Prelude.{◌≡◌, true, false, List, [], ◌∷◌, ◌++◌, map, ℕ, ◌+◌, ◌*◌, ◌/◌, ◌%◌, ◌≤◌, leb, length, get_or, drop}
+use Rattle.std.specs.Prelude.{◌≡◌, true, false, List, [], ◌∷◌, ◌++◌, map, ℕ, ◌+◌, ◌*◌, ◌/◌, ◌%◌, ◌≤◌, leb, length, get_or, drop, Result, Ok, Err}
 use Rattle.def_tree.specs.Base.{to_nat}
 use Rattle.words.specs.Tab.{tab}
 use Rattle.words.specs.Layout.{yes}
 use Rattle.def_file.specs.Script.{zero_node}
 use Rattle.file_read.specs.Idents.{ids_of, Listed}
-use Rattle.file_write.specs.declared.Written.{Written}
-use Rattle.file_write.specs.declared.Written.TheVariants.{Done, Refused}
+use Rattle.refusal.specs.declared.Refusal.{Refusal}
+use Rattle.refusal.specs.Number.{number}
 use Rattle.def_pass.specs.Script.{Root}
 use Rattle.def_pass.specs.Walk.{Rooted, root_marks}
 use Rattle.words_scopes.specs.State.{stack}
+use Rattle.pass_roots.specs.declared.Root.{Root as Binding}
 
 -- the first n bindings of all scopes: identifier, mark and count
 abbrev pub marks_to : List ℕ → ℕ → List Rooted
@@ -29,9 +30,16 @@ pub record Known (bs w : List ℕ) : Type 0 where
   pub listed : Listed w nodes
   pub room : 32 + 16 * nodes ≤ length bs
 
+-- a binding as it is answered
+abbrev pub given : Root → Binding
+given r = record { text = r.key.text; context = r.key.bits; prevented = r.mark; count = r.count }
+
 -- text number, context's low and high half, mark, count (request 9)
+abbrev pub words_of : Binding → List ℕ
+words_of b = b.text ∷ b.context % 4294967296 ∷ b.context / 4294967296 ∷ to_nat b.prevented ∷ b.count ∷ []
+
 abbrev pub root_words : Root → List ℕ
-root_words r = r.key.text ∷ r.key.bits % 4294967296 ∷ r.key.bits / 4294967296 ∷ to_nat r.mark ∷ r.count ∷ []
+root_words r = words_of (given r)
 
 unfoldable pub root_list : List Root → List ℕ
 root_list [] = []
@@ -52,12 +60,12 @@ left r (refused m) = r
 left r (listed rs) = root_list rs ++ drop (5 * length rs) r
 
 -- what writing them answers
-abbrev pub SaysSo : Written → Listing → Type 0
-SaysSo (Done n) (refused m) = ⊥
-SaysSo (Done n) (listed rs) = n ≡ length rs
-SaysSo (Refused k) (refused m) = k ≡ m
-SaysSo (Refused k) (listed rs) = ⊥
+abbrev pub SaysSo : Result ℕ Refusal → Listing → Type 0
+SaysSo (Ok n) (refused m) = ⊥
+SaysSo (Ok n) (listed rs) = n ≡ length rs
+SaysSo (Err r) (refused m) = number r ≡ m
+SaysSo (Err r) (listed rs) = ⊥
 
-pub record WroteRoots (r r' : List ℕ) (z : Listing) (x : Written) : Type 0 where
+pub record WroteRoots (r r' : List ℕ) (z : Listing) (x : Result ℕ Refusal) : Type 0 where
   pub says : SaysSo x z
   pub leaves : r' ≡ left r z

@@ -1,33 +1,28 @@
 // The bindings of the root scope, oldest first: all of them, five words for each, and the one of a number.
 #![tactic(auto)]
 
-ghost use Rattle.std.specs.Prelude.{◌≡◌, ◌+◌, ◌*◌, ◌≤◌, length, get_or};
+ghost use Rattle.std.specs.Prelude.{◌≡◌, ◌+◌, ◌*◌, ◌<◌, ◌≤◌, length, get_or};
 ghost use Rattle.std.proofs.lemmas.List.Edits.{sets};
-ghost use Rattle.def_tree.specs.Base.{to_nat};
 ghost use Rattle.words.specs.Tab.{tab};
-ghost use Rattle.words.specs.Layout.{yes};
 ghost use Rattle.def_file.specs.Script.{zero_node};
 ghost use Rattle.file_read.specs.Idents.{ids_of};
 ghost use Rattle.def_pass.specs.Walk.{root_marks};
 ghost use Rattle.words_scopes.specs.State.{Good, stack};
-ghost use Rattle.pass_roots.specs.Listing.{Known, marks_to, root_at, root_words, root_list, roots_in, in_room, WroteRoots};
+ghost use Rattle.pass_roots.specs.Listing.{Known, marks_to, root_at, given, words_of, root_list, roots_in, in_room, WroteRoots};
 ghost use Rattle.pass_roots.specs.Nth.{nth, nth_is};
 
 use def_file::Raw;
 use file_fields::fields::raw_at;
-use file_write::Written;
+use refusal::Refusal;
 use words::layout;
 
-// A root binding: its text number, its context, its own prevented mark, and how often an identifier was replaced by its value; or that the root has none of that number.
-#[derive(Clone, Copy)]
-pub enum RootAt {
-    Found {
-        text: u32,
-        context: u64,
-        prevented: bool,
-        count: u32,
-    },
-    Nothing,
+// A root binding: its text number, its context, its own prevented mark, and how often an identifier was replaced by its value.
+#[derive(Clone, Copy, Debug, PartialEq, Eq)]
+pub struct Root {
+    pub text: u32,
+    pub context: u64,
+    pub prevented: bool,
+    pub count: u32,
 }
 
 // How many bindings the root has: those before the second scope's.
@@ -47,36 +42,38 @@ fn ident(file: &[u8], words: &[u32], i: usize) -> Raw
     ensures { result ≡ get_or (ids_of file.now words.now) i zero_node }
 {
     if words[layout::IDENT_COUNT] as usize <= i {
-        return Raw {
-            kind: 24,
-            form: 0,
-            arity: 0,
-            text: 0,
-            bits: 0,
-        };
+        return Raw::ZERO;
     }
     let m = words[layout::IDENTS + i] as usize;
     raw_at(file, 32 + 16 * (m - 1))
 }
 
-fn flag(v: u32) -> u32
-    ensures { result ≡ to_nat (yes v) }
+// Binding k.
+fn read_root(file: &[u8], words: &[u32], k: usize) -> Root
+    requires { Known file.now words.now × (k < 256) }
+    ensures { result ≡ given (root_at file.now words.now k) }
 {
-    if v == 0 { 0 } else { 1 }
+    let x = ident(file, words, words[layout::BINDINGS + k * 10] as usize);
+    Root {
+        text: x.text,
+        context: x.bits,
+        prevented: words[layout::BINDINGS + k * 10 + layout::PREVENTED] != 0,
+        count: words[layout::COUNTS + k],
+    }
 }
 
 // One binding: text number, context's low and high half, mark, count.
-fn put_root(roots: &mut [u32], at: usize, x: Raw, mark: u32, count: u32)
+fn put_root(roots: &mut [u32], at: usize, root: Root)
     requires { at + 5 ≤ length roots.old }
-    ensures { roots.new ≡ sets roots.old at (root_words (record { key = x; mark = yes mark; count = count })) }
+    ensures { roots.new ≡ sets roots.old at (words_of root) }
 {
-    let bits = x.bits;
-    let prevented = flag(mark);
-    roots[at] = x.text;
-    roots[at + 1] = (bits % 4294967296) as u32;
-    roots[at + 2] = (bits / 4294967296) as u32;
-    roots[at + 3] = prevented;
-    roots[at + 4] = count;
+    roots[at..at + 5].copy_from_slice(&[
+        root.text,
+        (root.context % 4294967296) as u32,
+        (root.context / 4294967296) as u32,
+        u32::from(root.prevented),
+        root.count,
+    ]);
 }
 
 // The first n bindings.
@@ -84,47 +81,32 @@ fn put_roots(file: &[u8], words: &[u32], roots: &mut [u32], n: usize)
     requires { Known file.now words.now × (n ≤ 256) × (5 * n ≤ length roots.old) }
     ensures { roots.new ≡ sets roots.old 0 (root_list (tab n (λ k. root_at file.now words.now k))) }
 {
-    let mut k: usize = 0;
-    while k < n {
-        let i = words[layout::BINDINGS + k * 10] as usize;
-        let x = ident(file, words, i);
-        let mark = words[layout::BINDINGS + k * 10 + layout::PREVENTED];
-        let count = words[layout::COUNTS + k];
-        put_root(roots, 5 * k, x, mark, count);
-        k += 1;
+    for k in 0..n {
+        let root = read_root(file, words, k);
+        put_root(roots, 5 * k, root);
     }
 }
 
-// All bindings of the root, or row 10.
-pub fn write_roots(file: &[u8], words: &[u32], roots: &mut [u32]) -> Written
+// All bindings of the root, or row 10; how many there are.
+pub fn write_roots(file: &[u8], words: &[u32], roots: &mut [u32]) -> Result<usize, Refusal>
     requires { Good words.now × Known file.now words.now }
     ensures { WroteRoots roots.old roots.new (in_room (length roots.old) (roots_in file.now words.now)) result }
 {
     let n = root_count(words);
     if roots.len() < 5 * n {
-        return Written::Refused(10);
+        return Err(Refusal::Buffer);
     }
     put_roots(file, words, roots, n);
-    Written::Done(n)
+    Ok(n)
 }
 
 // The n-th binding of the root, from 0, as its list stands.
-pub fn root_at(file: &[u8], words: &[u32], n: usize) -> RootAt
+pub fn root_at(file: &[u8], words: &[u32], n: usize) -> Option<Root>
     requires { Good words.now × Known file.now words.now }
     ensures { result ≡ nth_is (nth n (roots_in file.now words.now)) }
 {
-    let count = root_count(words);
-    if count <= n {
-        return RootAt::Nothing;
+    if root_count(words) <= n {
+        return None;
     }
-    let i = words[layout::BINDINGS + n * 10] as usize;
-    let x = ident(file, words, i);
-    let mark = words[layout::BINDINGS + n * 10 + layout::PREVENTED];
-    let times = words[layout::COUNTS + n];
-    RootAt::Found {
-        text: x.text,
-        context: x.bits,
-        prevented: mark != 0,
-        count: times,
-    }
+    Some(read_root(file, words, n))
 }

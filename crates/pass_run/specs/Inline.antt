@@ -1,5 +1,5 @@
 -- What reading a file and running the pass over it promise, rows 1 and 10 aside. Assumes nothing: these are definitions.
-use Rattle.std.specs.Prelude.{◌≡◌, List, ℕ, length}
+use Rattle.std.specs.Prelude.{◌≡◌, List, ℕ, length, Result, Ok, Err}
 use Rattle.def_tree.specs.Combine.{Flat}
 use Rattle.words.specs.Moved.{Cleared}
 use Rattle.def_file.specs.Script.{Script, idents}
@@ -12,7 +12,7 @@ use Rattle.laws_flat.specs.WalkF.{OutcomeF, refused_f, runs_f}
 use Rattle.laws_flat.specs.PassF.{start_f, targets_l, flagged_l}
 use Rattle.words_nodes.specs.Nodes.{Planted}
 use Rattle.pass_run.specs.declared.Ran.{Ran}
-use Rattle.pass_run.specs.declared.Ran.TheVariants.{Done, Refused}
+use Rattle.refusal.specs.declared.Refusal.{Refusal}
 use Rattle.pass_run.specs.Run.{outcome}
 
 -- a script before its first run
@@ -33,10 +33,10 @@ pub record Final (bs w u : List ℕ) : Type 0 where
   pub listed : Listed u (length script.nodes)
   pub kept : Kept w u
 
-abbrev pub Leaves : List ℕ → List ℕ → List ℕ → Ran → Type 0
-Leaves bs w u (Done k c) = Final bs w u
-Leaves bs w u (Refused m) = Cleared w u
+abbrev pub Leaves : List ℕ → List ℕ → List ℕ → Result Ran Refusal → Type 0
+Leaves bs w u (Ok r) = Final bs w u
+Leaves bs w u (Err r) = Cleared w u
 
-pub record FileIs (bs w u : List ℕ) (n : ℕ) (r : Ran) : Type 0 where
+pub record FileIs (bs w u : List ℕ) (n : ℕ) (r : Result Ran Refusal) : Type 0 where
   pub is : outcome r u ≡ read_runs n (read bs)
   pub words : Leaves bs w u r

@@ -4,27 +4,20 @@ ghost use Rattle.pass_run.specs.Inline.{FileIs};
 
 use crate::start::start;
 use crate::{Ran, runs};
-use file_read::read::{Answer, read};
+use file_read::read::read;
+use refusal::Refusal;
 use words::clear;
 
 // Rows 2 to 9. The words hold the result, or after a refusal the first 16,384 are 0; the words past them never change.
-pub fn inline_file(file: &[u8], words: &mut [u32], limit: u32) -> Ran
+pub fn inline_file(file: &[u8], words: &mut [u32], limit: u32) -> Result<Ran, Refusal>
     requires { 16384 ≤ length words.old }
     ensures { FileIs file.now words.old words.new limit result }
 {
-    let answer = read(file, words);
-    match answer {
-        Answer::Script(_) => {
-            start(words);
-            let ran = runs(words, limit);
-            match ran {
-                Ran::Done { runs, changed } => Ran::Done { runs, changed },
-                Ran::Refused(n) => {
-                    clear(words);
-                    Ran::Refused(n)
-                }
-            }
-        }
-        Answer::Refused(n) => Ran::Refused(n),
+    read(file, words)?;
+    start(words);
+    let ran = runs(words, limit);
+    if ran.is_err() {
+        clear(words);
     }
+    ran
 }

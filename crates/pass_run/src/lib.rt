@@ -10,64 +10,49 @@ ghost use Rattle.words_state.specs.State.{abs};
 ghost use Rattle.walk_laws.specs.Did.{Did};
 ghost use Rattle.pass_run.specs.Run.{RunsIs};
 
+use refusal::Refusal;
 use walk::program;
-use walk_ident::Next;
 use words::layout;
 use words_state::{set_changed, set_inlining, set_is_first_run};
 
-// Runs done and the last one's mark, or a refusal's number.
-#[derive(Clone, Copy)]
-pub enum Ran {
-    Done { runs: u32, changed: bool },
-    Refused(u32),
+// Runs done, and whether the last one left the mark.
+#[derive(Clone, Copy, Debug, PartialEq, Eq)]
+pub struct Ran {
+    pub runs: u32,
+    pub changed: bool,
 }
 
 // One run: Analysis, then Inlining.
-pub fn visit_mut_program(w: &mut [u32]) -> Next
+pub fn visit_mut_program(w: &mut [u32]) -> Result<usize, Refusal>
     requires { Planted w.old }
     ensures { Did w.old w.new result (run_f 0 (abs w.old)) }
 {
-    set_inlining(w, 0);
-    let first = program(w);
-    match first {
-        Next::At(_) => {
-            set_inlining(w, 1);
-            let last = program(w);
-            match last {
-                Next::At(j) => {
-                    set_inlining(w, 0);
-                    Next::At(j)
-                }
-                Next::Refused(n) => Next::Refused(n),
-            }
-        }
-        Next::Refused(n) => Next::Refused(n),
-    }
+    set_inlining(w, false);
+    program(w)?;
+    set_inlining(w, true);
+    let end = program(w)?;
+    set_inlining(w, false);
+    Ok(end)
 }
 
 // At most n runs, up to the first that leaves no mark.
-pub fn runs(w: &mut [u32], n: u32) -> Ran
+pub fn runs(w: &mut [u32], n: u32) -> Result<Ran, Refusal>
     requires { Planted w.old }
     ensures { RunsIs w.old w.new result (runs_f n 0 (abs w.old)) }
 {
-    let mut k: u32 = 0;
-    while k < n {
-        set_changed(w, 0);
-        let run = visit_mut_program(w);
-        if let Next::Refused(m) = run {
-            return Ran::Refused(m);
-        }
-        k += 1;
+    for k in 0..n {
+        set_changed(w, false);
+        visit_mut_program(w)?;
         if w[layout::CHANGED] == 0 {
-            return Ran::Done {
-                runs: k,
+            return Ok(Ran {
+                runs: k + 1,
                 changed: false,
-            };
+            });
         }
-        set_is_first_run(w, 0);
+        set_is_first_run(w, false);
     }
-    Ran::Done {
-        runs: k,
+    Ok(Ran {
+        runs: n,
         changed: true,
-    }
+    })
 }

@@ -28,6 +28,6 @@ pub fn start(w: &mut [u32])
     mark_targets(w);
     set_fields(w);
     let root = Scope::new(ScopeKind::DEFAULT);
-    open_scope(w, root);
+    open_scope(w, root).unwrap();
     flag_twice(w);
 }
