@@ -33,14 +33,14 @@ pub fn put_head(b: &mut [u8], n: u32, t: u32, s: u32)
     let nodes = 32;
     let ends = nodes + 16 * n;
     let texts = ends + 4 * t;
-    put_word(b, 0, 1);
-    put_word(b, 4, texts + s);
-    put_word(b, 8, n);
-    put_word(b, 12, nodes);
-    put_word(b, 16, t);
-    put_word(b, 20, ends);
-    put_word(b, 24, texts);
-    put_word(b, 28, s);
+    put(b, 0, 1u32.to_le_bytes());
+    put(b, 4, (texts + s).to_le_bytes());
+    put(b, 8, n.to_le_bytes());
+    put(b, 12, nodes.to_le_bytes());
+    put(b, 16, t.to_le_bytes());
+    put(b, 20, ends.to_le_bytes());
+    put(b, 24, texts.to_le_bytes());
+    put(b, 28, s.to_le_bytes());
 }
 
 // Copies n bytes of one slice, from `from` on, to another, from `at` on.
