@@ -2,3 +2,4 @@ pub mod Tab
 pub mod Layout
 pub mod Moved
 pub mod Flags
+pub mod Place

@@ -10,25 +10,12 @@ pub record Moved (w w' : List ℕ) (a b n : ℕ) : Type 0 where
   pub low : (j : ℕ) → j < b → get_or w' j 0 ≡ get_or w j 0
   pub high : (j : ℕ) → b + n ≤ j → get_or w' j 0 ≡ get_or w j 0
 
--- words from p on stored, and all else is kept
-pub record Put4 (w w' : List ℕ) (p a b c d : ℕ) : Type 0 where
+-- the words xs are stored from p on, and all else is kept
+pub record Put (w w' : List ℕ) (p : ℕ) (xs : List ℕ) : Type 0 where
   pub size : length w' ≡ length w
-  pub at0 : get_or w' p 0 ≡ a
-  pub at1 : get_or w' (p + 1) 0 ≡ b
-  pub at2 : get_or w' (p + 2) 0 ≡ c
-  pub at3 : get_or w' (p + 3) 0 ≡ d
+  pub here : (j : ℕ) → j < length xs → get_or w' (p + j) 0 ≡ get_or xs j 0
   pub low : (j : ℕ) → j < p → get_or w' j 0 ≡ get_or w j 0
-  pub high : (j : ℕ) → p + 4 ≤ j → get_or w' j 0 ≡ get_or w j 0
-
-pub record Put5 (w w' : List ℕ) (p a b c d e : ℕ) : Type 0 where
-  pub size : length w' ≡ length w
-  pub at0 : get_or w' p 0 ≡ a
-  pub at1 : get_or w' (p + 1) 0 ≡ b
-  pub at2 : get_or w' (p + 2) 0 ≡ c
-  pub at3 : get_or w' (p + 3) 0 ≡ d
-  pub at4 : get_or w' (p + 4) 0 ≡ e
-  pub low : (j : ℕ) → j < p → get_or w' j 0 ≡ get_or w j 0
-  pub high : (j : ℕ) → p + 5 ≤ j → get_or w' j 0 ≡ get_or w j 0
+  pub high : (j : ℕ) → p + length xs ≤ j → get_or w' j 0 ≡ get_or w j 0
 
 -- n words from p on are 0, and all else is kept
 pub record Zeroed (w w' : List ℕ) (p n : ℕ) : Type 0 where

@@ -1,12 +1,20 @@
-// The working words: functions that copy, store, wipe and read them. What stands where is in specs/Layout.antt.
+// The working words: functions that copy, store, wipe, read and search them. What stands where is in specs/Layout.antt.
 #![tactic(auto)]
 
 ghost use Rattle.std.specs.Prelude.{◌≡◌, ◌+◌, ◌≤◌, ◌<◌, length};
-ghost use Rattle.words.specs.Layout.{node_of};
+ghost use Rattle.words.specs.Layout.{yes, node_of};
 ghost use Rattle.words.specs.Flags.{flag_at, Flagged};
-ghost use Rattle.words.specs.Moved.{Moved, Put4, Put5, Zeroed, Merged, Cleared};
+ghost use Rattle.words.specs.Moved.{Moved, Put, Zeroed, Merged, Cleared};
+ghost use Rattle.words.specs.Place.{FirstAt};
 
 pub mod layout;
+
+// The nodes from `at` on, `len` of them, of a store of nodes.
+#[derive(Clone, Copy, Debug, PartialEq, Eq)]
+pub struct Run {
+    pub at: usize,
+    pub len: usize,
+}
 
 // The kind of node k of the tree.
 pub fn kind_at(w: &[u32], k: usize) -> u32
@@ -40,63 +48,20 @@ pub fn num_at(w: &[u32], k: usize) -> u32
     w[layout::NODES + k * 2 + 1]
 }
 
-// Copies n words from a to b, the first one first.
-pub fn down(w: &mut [u32], a: usize, b: usize, n: usize)
-    requires { (b ≤ a) × (a + n ≤ length w.old) }
-    ensures { Moved w.old w.new a b n }
-{
-    let mut i: usize = 0;
-    while i < n {
-        w[b + i] = w[a + i];
-        i += 1;
-    }
-}
-
-// The same, the last one first.
-pub fn up(w: &mut [u32], a: usize, b: usize, n: usize)
-    requires { (a ≤ b) × (b + n ≤ length w.old) }
-    ensures { Moved w.old w.new a b n }
-{
-    let mut i = n;
-    while 0 < i {
-        i -= 1;
-        w[b + i] = w[a + i];
-    }
-}
-
 // Copies n words from a to b; the two stretches may meet.
 pub fn shift(w: &mut [u32], a: usize, b: usize, n: usize)
     requires { (a + n ≤ length w.old) × (b + n ≤ length w.old) }
     ensures { Moved w.old w.new a b n }
 {
-    if b < a {
-        down(w, a, b, n);
-    } else {
-        up(w, a, b, n);
-    }
+    w.copy_within(a..a + n, b);
 }
 
-// Stores four words from p on.
-pub fn put4(w: &mut [u32], p: usize, a: u32, b: u32, c: u32, d: u32)
-    requires { p + 4 ≤ length w.old }
-    ensures { Put4 w.old w.new p a b c d }
+// Stores the words of an array from p on.
+pub fn put<const N: usize>(w: &mut [u32], p: usize, a: [u32; N])
+    requires { p + N ≤ length w.old }
+    ensures { Put w.old w.new p a.entry }
 {
-    w[p] = a;
-    w[p + 1] = b;
-    w[p + 2] = c;
-    w[p + 3] = d;
-}
-
-// Stores five words from p on.
-pub fn put5(w: &mut [u32], p: usize, a: u32, b: u32, c: u32, d: u32, e: u32)
-    requires { p + 5 ≤ length w.old }
-    ensures { Put5 w.old w.new p a b c d e }
-{
-    w[p] = a;
-    w[p + 1] = b;
-    w[p + 2] = c;
-    w[p + 3] = d;
-    w[p + 4] = e;
+    w[p..p + N].copy_from_slice(&a);
 }
 
 // Sets n words from p on to 0.
@@ -104,11 +69,7 @@ pub fn wipe(w: &mut [u32], p: usize, n: usize)
     requires { p + n ≤ length w.old }
     ensures { Zeroed w.old w.new p n }
 {
-    let mut i: usize = 0;
-    while i < n {
-        w[p + i] = 0;
-        i += 1;
-    }
+    w[p..p + n].fill(0);
 }
 
 // Sets the first 16,384 words to 0.
@@ -124,21 +85,19 @@ pub fn merge(w: &mut [u32], a: usize, b: usize, n: usize)
     requires { (b + n ≤ a) × (a + n ≤ length w.old) }
     ensures { Merged w.old w.new a b n }
 {
-    let mut i: usize = 0;
-    while i < n {
+    for i in 0..n {
         w[b + i] = w[a + i] | w[b + i];
-        i += 1;
     }
 }
 
-// 1 if x is in the set that stands in eight words from p on, a bit for each number, else 0.
-pub fn flag_at(w: &[u32], p: usize, x: u8) -> u32
+// Whether x is in the set that stands in eight words from p on, a bit for each number.
+pub fn flag_at(w: &[u32], p: usize, x: u8) -> bool
     requires { p + 8 ≤ length w.now }
-    ensures { result ≡ flag_at w.now p x }
+    ensures { result ≡ yes (flag_at w.now p x) }
 {
     let i = x as usize / 32;
     let k = x as u32 % 32;
-    (w[p + i] >> k) % 2
+    (w[p + i] >> k) % 2 != 0
 }
 
 // Puts x into such a set.
@@ -148,5 +107,18 @@ pub fn set_flag(w: &mut [u32], p: usize, x: u8)
 {
     let i = x as usize / 32;
     let k = x as u32 % 32;
-    w[p + i] = w[p + i] | (1 << k);
+    w[p + i] |= 1 << k;
+}
+
+// The first of the places from a up to e whose word is x, if there is one; word 0 stands at p, and each s behind the one before.
+pub fn first_at(w: &[u32], p: usize, s: usize, a: usize, e: usize, x: u8) -> Option<usize>
+    requires { (16384 ≤ length w.now) × (a ≤ e) × (e ≤ 256) × (s ≤ 10) × (p ≤ 8192) }
+    ensures { FirstAt w.now p s a e x result }
+{
+    for k in a..e {
+        if w[p + k * s] == u32::from(x) {
+            return Some(k);
+        }
+    }
+    None
 }

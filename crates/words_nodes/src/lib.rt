@@ -9,7 +9,7 @@ ghost use Rattle.words_scopes.specs.State.{Whole};
 ghost use Rattle.words_nodes.specs.Nodes.{Planted, Trees, Child, tree_from, value_from, put_at, cut_at, Measured, Swapped, Apart, NodePut, Slid, Replants, size};
 
 use refusal::Refusal;
-use words::{arity_at, kind_at, layout, put4, shift};
+use words::{arity_at, kind_at, layout, put, shift};
 
 // The index behind the subtree at i.
 pub fn skip(w: &[u32], i: usize) -> usize
@@ -148,7 +148,7 @@ pub fn put_void(w: &mut [u32], i: usize, p: u32) -> Result<(), Refusal>
         return Err(Refusal::Room);
     }
     slide(w, i, old, 2);
-    put4(w, layout::NODES + i * 2, 2078, 0, 22, 0);
+    put(w, layout::NODES + i * 2, [2078, 0, 22, 0]);
     Ok(())
 }
 

@@ -4,11 +4,11 @@
 ghost use Rattle.std.specs.Prelude.{◌≡◌, map};
 ghost use Rattle.words_prevent.specs.Mark.{prevent, marked};
 
-// A binding: its identifier, the identifier that its value is (a number that no identifier has: none), and its prevented mark.
-#[derive(Clone, Copy)]
+// A binding: its identifier, the identifier that its value is, if it is one, and its prevented mark.
+#[derive(Clone, Copy, Debug, PartialEq, Eq)]
 pub struct Binding {
     pub id: u32,
-    pub value: u32,
+    pub value: Option<u32>,
     pub prevented: bool,
 }
 
@@ -23,7 +23,7 @@ pub fn prevent(b: &mut Binding)
 pub fn mark(b: &mut Binding, x: u32)
     ensures { b.new ≡ marked x b.old }
 {
-    if (b.id == x) | (b.value == x) {
+    if b.id == x || b.value == Some(x) {
         prevent(b);
     }
 }
@@ -32,10 +32,8 @@ pub fn mark(b: &mut Binding, x: u32)
 pub fn mark_all(bs: &mut [Binding], x: u32)
     ensures { bs.new ≡ map (marked x) bs.old }
 {
-    let mut i: usize = 0;
-    while i < bs.len() {
-        mark(&mut bs[i], x);
-        i += 1;
+    for b in bs.iter_mut() {
+        mark(b, x);
     }
 }
 

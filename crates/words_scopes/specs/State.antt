@@ -1,33 +1,19 @@
 -- The scope state in the words (what stands where: `Layout` of the crate `words`): the decode into the definition's `Stack`, and what makes
 -- words good. Assumes nothing: these are definitions.
 use Rattle.std.specs.Prelude.{◌≡◌, ℕ, zero, suc, ◌+◌, ◌*◌, ◌<◌, ◌≤◌, Bool, true, false, ◌||◌, ◌⊎◌, List, [], ◌∷◌, length, get_or, take, drop, ◌==◌, slice_index, slice_index_or}
+use Rattle.std.specs.Prelude as std
 use Rattle.std.proofs.Math.Option.{Option, none, some}
 use Rattle.def_tree.specs.Tree.{Tree, Core, no_core, flat, plant, first_t}
 use Rattle.def_tree.specs.Base.{pick}
 use Rattle.def_pass.specs.Tree.{is_ident, num}
 use Rattle.words_prevent.specs.declared.Binding.{Binding}
-use Rattle.def_pass.specs.Scope.{VarType, param, v_var, v_let, v_const, ScopeKind, cond, loop, block, fn, VarInfo, Scope, Stack, Free, has_in, value_is}
+pub use Rattle.words_scopes.specs.Kinds.{var_type_of, alias_at, scope_kind_of}
+use Rattle.words_scopes.specs.Kinds.{type_of, alias_of}
+use Rattle.words_scopes.specs.declared.Record.{Record}
+use Rattle.def_pass.specs.Scope.{VarType, ScopeKind, VarInfo, Scope, Stack, Free, has_in, value_is}
 use Rattle.words.specs.Tab.{tab, sum}
 use Rattle.words.specs.Flags.{flag_at}
 use Rattle.words.specs.Layout.{yes, Agree, run, tree, beyond}
-
--- small numbers that stand for cases
-abbrev pub var_type_of : ℕ → VarType
-var_type_of zero = param
-var_type_of (suc zero) = v_var
-var_type_of (suc (suc zero)) = v_let
-var_type_of (suc (suc (suc n))) = v_const
-
-abbrev pub alias_at : ℕ → Option VarType
-alias_at zero = none
-alias_at (suc n) = some (var_type_of n)
-
-abbrev pub scope_kind_of : ℕ → ScopeKind
-scope_kind_of zero = cond
-scope_kind_of (suc zero) = loop
-scope_kind_of (suc (suc zero)) = block
-scope_kind_of (suc (suc (suc zero))) = fn false
-scope_kind_of (suc (suc (suc (suc n)))) = fn true
 
 -- a value: the run of its nodes, no node for none; and the way back
 abbrev pub value_of : List Core → Option Tree
@@ -65,6 +51,20 @@ bind_at w k = record {
 -- a binding without a value, by its words
 abbrev pub bare_of : (id kind alias reads prevented undef sensitive hoisted count : ℕ) → VarInfo
 bare_of i k a r p u s h c = record { id = i; kind = var_type_of k; alias_of = alias_at a; read_cnt = r; inline_prevented = yes p; is_undefined = yes u; value = none; this_sensitive = yes s; hoisted = yes h; count = c }
+
+-- a binding without a value, by its record
+abbrev pub recorded : ℕ → Record → ℕ → VarInfo
+recorded i r c = record { id = i; kind = type_of r.kind; alias_of = alias_of r.alias; read_cnt = r.reads; inline_prevented = r.prevented; is_undefined = r.undefined; value = none; this_sensitive = r.this_sensitive; hoisted = r.hoisted; count = c }
+
+-- r says what the words of record k say, whether it is a binding's or past the last
+pub record Recorded (w : List ℕ) (k : ℕ) (r : Record) : Type 0 where
+  pub kind : type_of r.kind ≡ var_type_of (slice_index w (4112 + k * 10 + 1))
+  pub alias : alias_of r.alias ≡ alias_at (slice_index w (4112 + k * 10 + 2))
+  pub reads : r.reads ≡ slice_index w (4112 + k * 10 + 3)
+  pub prevented : r.prevented ≡ yes (slice_index w (4112 + k * 10 + 4))
+  pub undefined : r.undefined ≡ yes (slice_index w (4112 + k * 10 + 5))
+  pub this_sensitive : r.this_sensitive ≡ yes (slice_index w (4112 + k * 10 + 6))
+  pub hoisted : r.hoisted ≡ yes (slice_index w (4112 + k * 10 + 7))
 
 -- its count alone changed
 abbrev pub with_count : ℕ → VarInfo → VarInfo
@@ -229,10 +229,10 @@ drop_inner (c ∷ s ∷ st) = record { kind = s.kind; inline_barriers = s.inline
 abbrev pub hit_at : List ℕ → ℕ → ℕ → Bool
 hit_at w k i = (bind_at w k).id == i || value_is i (bind_at w k).value
 
--- the identifier that a value is, 256 if it is none
-abbrev pub name_of : Option Tree → ℕ
-name_of none = 256
-name_of (some t) = pick (is_ident t) (num t) 256
+-- the identifier that a value is, if it is one
+abbrev pub name_of : Option Tree → std.Option ℕ
+name_of none = std.None
+name_of (some t) = pick (is_ident t) (std.Some (num t)) std.None
 
 -- a binding as the record that is marked
 abbrev pub record_at : List ℕ → ℕ → Binding
@@ -240,7 +240,7 @@ record_at w k = record { id = (bind_at w k).id; value = name_of (bind_at w k).va
 
 -- what a read past the end would give
 abbrev pub no_record : Binding
-no_record = record { id = 0; value = 0; prevented = false }
+no_record = record { id = 0; value = std.None; prevented = false }
 
 -- the bindings from k on, changed by f, stand in bs as records, oldest first
 abbrev pub Window : (Binding → Binding) → List ℕ → ℕ → List Binding → Type 0

@@ -1,58 +1,59 @@
 // The scope state in lent words: leaf functions whose contracts speak of the definition's stack of scopes.
 #![tactic(auto)]
 
-ghost use Rattle.std.specs.Prelude.{◌≡◌, ℕ, ◌+◌, ◌-◌, ◌*◌, ◌<◌, ◌≤◌, not, ◌&&◌, ◌∷◌, length, ◌≢◌, slice_index};
+ghost use Rattle.std.specs.Prelude.{◌≡◌, ◌+◌, ◌-◌, ◌*◌, ◌<◌, ◌≤◌, not, ◌&&◌, ◌∷◌, length, slice_index, IfSome};
 ghost use Rattle.std.proofs.Math.Option.{none};
 ghost use Rattle.def_pass.specs.Scope.{prevent, count_one, change, prevent_one, prevent_inline, append, fresh, new_scope};
-ghost use Rattle.words.specs.Layout.{yes};
 ghost use Rattle.words_prevent.specs.Mark.{marked};
-ghost use Rattle.words_scopes.specs.State.{Good, Past, Becomes, stack, heads, binds, place, off, bind_at, name_of, hit_at, Window, var_type_of, alias_at, scope_kind_of, bare_of, drop_inner};
+ghost use Rattle.words.specs.Place.{placed};
+ghost use Rattle.words_scopes.specs.Kinds.{type_of, alias_of, kind_of};
+ghost use Rattle.words_scopes.specs.State.{Good, Past, Becomes, stack, heads, binds, place, off, bind_at, name_of, hit_at, Window, recorded, Recorded, drop_inner};
 ghost use Rattle.words_scopes.specs.Index.{Entered, Restored};
 
+use kinds::{ScopeKind, VarType, alias_from_word, alias_word};
 use std::num::wrapping_add_u32;
-use words::{layout, merge, put4, put5, wipe};
+use words::{first_at, layout, merge, put, wipe};
 use words_prevent::{Binding, all_marked};
 
-// The place of the first binding of x from a up to e, e if there is none.
-pub fn find_in(w: &[u32], a: usize, e: usize, x: u8) -> usize
-    requires { (16384 ≤ length w.now) × (a ≤ e) × (e ≤ 256) }
-    ensures { (a ≤ result) × (result ≤ e) × (result < e → slice_index w.now (4112 + result * 10) ≡ x) × ((j : ℕ) → a ≤ j → j < result → slice_index w.now (4112 + j * 10) ≢ x) }
-{
-    let mut k = a;
-    while k < e {
-        if w[layout::BINDINGS + k * 10] == x as u32 {
-            return k;
-        }
-        k += 1;
-    }
-    k
+pub mod kinds;
+
+// A binding without its identifier, its value and its count.
+#[derive(Clone, Copy, Debug, PartialEq, Eq)]
+pub struct Record {
+    pub kind: VarType,
+    pub alias: Option<VarType>,
+    pub reads: u32,
+    pub prevented: bool,
+    pub undefined: bool,
+    pub this_sensitive: bool,
+    pub hoisted: bool,
 }
 
-// 1 + the place of the innermost binding of x, 0 if there is none.
-pub fn find_binding(w: &[u32], x: u8) -> usize
+// The innermost binding of x, if there is one.
+pub fn find_binding(w: &[u32], x: u8) -> Option<usize>
     requires { Good w.now }
-    ensures { (result ≡ place x (heads w.now) (binds w.now)) × (result ≤ slice_index w.now 1) }
+    ensures place { placed result ≡ place x (heads w.now) (binds w.now) }
+    ensures bound { IfSome result (λ k. k < slice_index w.now 1) }
 {
-    w[layout::INDEX + x as usize] as usize
+    (w[layout::INDEX + x as usize] as usize).checked_sub(1)
 }
 
 // The same by a walk from the current scope to the root.
-pub fn find_by_walk(w: &[u32], x: u8) -> usize
+pub fn find_by_walk(w: &[u32], x: u8) -> Option<usize>
     requires { Good w.now }
-    ensures { (result ≡ place x (heads w.now) (binds w.now)) × (result ≤ slice_index w.now 1) }
+    ensures place { placed result ≡ place x (heads w.now) (binds w.now) }
+    ensures bound { IfSome result (λ k. k < slice_index w.now 1) }
 {
-    let mut k = w[layout::SCOPE_COUNT] as usize;
+    let d = w[layout::SCOPE_COUNT] as usize;
     let mut e = w[layout::BINDING_COUNT] as usize;
-    while 0 < k {
-        k -= 1;
+    for k in (0..d).rev() {
         let a = w[layout::SCOPES + k * 4 + layout::FIRST_BINDING] as usize;
-        let r = find_in(w, a, e, x);
-        if r < e {
-            return r + 1;
+        if let Some(r) = first_at(w, layout::BINDINGS, 10, a, e, x) {
+            return Some(r);
         }
         e = a;
     }
-    0
+    None
 }
 
 // Marks the innermost binding of x, if there is one.
@@ -60,11 +61,10 @@ pub fn prevent_found(w: &mut [u32], x: u8)
     requires { Good w.old }
     ensures { Becomes w.old w.new (change x prevent (stack w.old)) }
 {
-    let k = find_binding(w, x);
-    if k == 0 {
+    let Some(k) = find_binding(w, x) else {
         return;
-    }
-    w[layout::BINDINGS + (k - 1) * 10 + layout::PREVENTED] = 1;
+    };
+    w[layout::BINDINGS + k * 10 + layout::PREVENTED] = 1;
 }
 
 // Counts a replacement at the innermost binding of x, if there is one (request 9).
@@ -72,26 +72,25 @@ pub fn count_one(w: &mut [u32], x: u8)
     requires { Good w.old }
     ensures { Becomes w.old w.new (change x count_one (stack w.old)) }
 {
-    let k = find_binding(w, x);
-    if k == 0 {
+    let Some(k) = find_binding(w, x) else {
         return;
-    }
-    let n = w[layout::COUNTS + (k - 1)];
-    w[layout::COUNTS + (k - 1)] = wrapping_add_u32(n, 1);
+    };
+    let n = w[layout::COUNTS + k];
+    w[layout::COUNTS + k] = wrapping_add_u32(n, 1);
 }
 
-// The identifier that the value of binding k is, 256 if it is none; the value begins at node at of the store.
-pub fn named(w: &[u32], k: usize, at: usize) -> u32
+// The identifier that the value of binding k is, if it is one; the value begins at node at of the store.
+pub fn named(w: &[u32], k: usize, at: usize) -> Option<u32>
     requires { (Good w.now) × (k < slice_index w.now 1) × (at ≡ off w.now k) × (at + slice_index w.now (4112 + k * 10 + 8) ≤ 512) }
     ensures { result ≡ name_of (bind_at w.now k).value }
 {
     if w[layout::BINDINGS + k * 10 + layout::LENGTH] == 0 {
-        return 256;
+        return None;
     }
     if w[layout::VALUES + at * 2] % 64 == 21 {
-        return w[layout::VALUES + at * 2 + 1];
+        return Some(w[layout::VALUES + at * 2 + 1]);
     }
-    256
+    None
 }
 
 // Whether binding k, whose record begins at word p, gets a mark that it has not: it has none, and x is its identifier or its value, which begins at
@@ -100,27 +99,9 @@ fn to_mark(w: &[u32], k: usize, p: usize, at: usize, x: u8) -> bool
     requires { (Good w.now) × (k < slice_index w.now 1) × (p ≡ 4112 + k * 10) × (at ≡ off w.now k) }
     ensures { result ≡ (not (bind_at w.now k).inline_prevented && hit_at w.now k x) }
 {
-    if w[p + layout::PREVENTED] != 0 {
-        return false;
-    }
-    if w[p] == x as u32 {
-        return true;
-    }
-    if w[p + layout::LENGTH] == 0 {
-        return false;
-    }
-    let v = named(w, k, at);
-    v == x as u32
-}
-
-// n, at most 8.
-fn window(n: usize) -> usize
-    ensures { (result ≤ 8) × (result ≤ n) × ((j : ℕ) → j < 8 → j < n → j < result) }
-{
-    if n < 8 {
-        return n;
-    }
-    8
+    w[p + layout::PREVENTED] == 0
+        && (w[p] == u32::from(x)
+            || w[p + layout::LENGTH] != 0 && named(w, k, at) == Some(u32::from(x)))
 }
 
 // The bindings from k on as records, oldest first, as many as an array holds; the value of k begins at node at.
@@ -129,25 +110,21 @@ fn records(w: &[u32], k: usize, at: usize) -> [Binding; 8]
     ensures { (length result ≡ 8) × (Window (λ b. b) w.now k result) }
 {
     let n = w[layout::BINDING_COUNT] as usize;
-    let e = window(n - k);
+    let e = (n - k).min(8);
     let mut bs = [Binding {
         id: 256,
-        value: 256,
+        value: None,
         prevented: false,
     }; 8];
-    let mut i: usize = 0;
     let mut o = at;
-    while i < e {
+    for i in 0..e {
         let j = k + i;
-        let m = w[layout::BINDINGS + j * 10 + layout::LENGTH] as usize;
-        let v = named(w, j, o);
         bs[i] = Binding {
             id: w[layout::BINDINGS + j * 10],
-            value: v,
+            value: named(w, j, o),
             prevented: w[layout::BINDINGS + j * 10 + layout::PREVENTED] != 0,
         };
-        o += m;
-        i += 1;
+        o += w[layout::BINDINGS + j * 10 + layout::LENGTH] as usize;
     }
     bs
 }
@@ -175,15 +152,12 @@ pub fn prevent_inline(w: &mut [u32], x: u8)
         let m = w[p + layout::LENGTH] as usize;
         if to_mark(w, j, p, o, x) {
             let bs = marks_of(w, j, o, x);
-            let e = window(n - j);
-            let mut i: usize = 0;
-            while i < e {
+            for i in 0..(n - j).min(8) {
                 if bs[i].prevented {
                     w[layout::BINDINGS + j * 10 + layout::PREVENTED] = 1;
                 }
                 o += w[layout::BINDINGS + j * 10 + layout::LENGTH] as usize;
                 j += 1;
-                i += 1;
             }
             p = layout::BINDINGS + j * 10;
         } else {
@@ -200,10 +174,8 @@ pub fn offset_from(w: &[u32], k: usize, at: usize, e: usize) -> usize
     ensures { (result ≡ off w.now e) × (result ≤ 512) }
 {
     let mut sum = at;
-    let mut j = k;
-    while j < e {
+    for j in k..e {
         sum += w[layout::BINDINGS + j * 10 + layout::LENGTH] as usize;
-        j += 1;
     }
     sum
 }
@@ -233,74 +205,93 @@ fn restore(w: &mut [u32], a: usize)
     requires { (Good w.old) × (a ≤ slice_index w.old 1) }
     ensures { Restored w.old w.new a }
 {
-    let mut j = w[layout::BINDING_COUNT] as usize;
-    while a < j {
-        j -= 1;
+    let n = w[layout::BINDING_COUNT] as usize;
+    for j in (a..n).rev() {
         let x = w[layout::BINDINGS + j * 10] as usize;
         w[layout::INDEX + x] = w[layout::SHADOWED + j];
     }
 }
 
-// Appends a binding without a value, by its words, to the innermost scope.
-pub fn append_record(
-    w: &mut [u32],
-    id: u8,
-    kind: u32,
-    alias: u32,
-    reads: u32,
-    prevented: u32,
-    undef: u32,
-    sensitive: u32,
-    hoisted: u32,
-    count: u32,
-)
+// What the words of record k say, whether it is a binding's or past the last.
+pub fn record_at(w: &[u32], k: usize) -> Record
+    requires { (16384 ≤ length w.now) × (k < 256) }
+    ensures { Recorded w.now k result }
+{
+    let p = layout::BINDINGS + k * 10;
+    Record {
+        kind: VarType::from_word(w[p + layout::KIND]),
+        alias: alias_from_word(w[p + layout::ALIAS]),
+        reads: w[p + layout::READS],
+        prevented: w[p + layout::PREVENTED] != 0,
+        undefined: w[p + layout::UNDEFINED] != 0,
+        this_sensitive: w[p + layout::SENSITIVE] != 0,
+        hoisted: w[p + layout::HOISTED] != 0,
+    }
+}
+
+// Appends a binding without a value to the innermost scope.
+pub fn append_record(w: &mut [u32], id: u8, r: Record, count: u32)
     requires { (Good w.old) × (slice_index w.old 1 + slice_index w.old 3 < 256) × (0 < slice_index w.old 2) }
-    ensures { (Becomes w.old w.new (append (bare_of id kind alias reads prevented undef sensitive hoisted count) (stack w.old))) × (Past (slice_index w.old 1 + 1) w.old w.new) × (slice_index w.new 1 ≡ slice_index w.old 1 + 1) × (slice_index w.new 3 ≡ slice_index w.old 3) }
+    ensures { (Becomes w.old w.new (append (recorded id r count) (stack w.old))) × (Past (slice_index w.old 1 + 1) w.old w.new) × (slice_index w.new 1 ≡ slice_index w.old 1 + 1) × (slice_index w.new 3 ≡ slice_index w.old 3) }
 {
     let n = w[layout::BINDING_COUNT] as usize;
     let d = w[layout::SCOPE_COUNT] as usize - 1;
     let a = w[layout::SCOPES + d * 4 + layout::FIRST_BINDING] as usize;
     enter(w, n, id, a);
-    put5(
+    put(
         w,
         layout::BINDINGS + n * 10,
-        id as u32,
-        kind,
-        alias,
-        reads,
-        prevented,
-    );
-    put5(
-        w,
-        layout::BINDINGS + n * 10 + layout::UNDEFINED,
-        undef,
-        sensitive,
-        hoisted,
-        0,
-        0,
+        [
+            u32::from(id),
+            u32::from(r.kind),
+            alias_word(r.alias),
+            r.reads,
+            u32::from(r.prevented),
+            u32::from(r.undefined),
+            u32::from(r.this_sensitive),
+            u32::from(r.hoisted),
+            0,
+            0,
+        ],
     );
     w[layout::COUNTS + n] = count;
     w[layout::BINDING_COUNT] = (n + 1) as u32;
 }
 
 // Appends a binding that was not read yet.
-pub fn push(w: &mut [u32], id: u8, kind: u32, alias: u32, prevented: u32, undef: u32)
+pub fn push(
+    w: &mut [u32],
+    id: u8,
+    kind: VarType,
+    alias: Option<VarType>,
+    prevented: bool,
+    undefined: bool,
+)
     requires { (Good w.old) × (slice_index w.old 1 + slice_index w.old 3 < 256) × (0 < slice_index w.old 2) }
-    ensures { Becomes w.old w.new (append (fresh id (var_type_of kind) (alias_at alias) (yes prevented) (yes undef) none) (stack w.old)) }
+    ensures { Becomes w.old w.new (append (fresh id (type_of kind) (alias_of alias) prevented undefined none) (stack w.old)) }
 {
-    append_record(w, id, kind, alias, 0, prevented, undef, 0, 0, 0);
+    let r = Record {
+        kind,
+        alias,
+        reads: 0,
+        prevented,
+        undefined,
+        this_sensitive: false,
+        hoisted: false,
+    };
+    append_record(w, id, r, 0);
 }
 
 // Opens a scope of a kind.
-pub fn open(w: &mut [u32], kind: u32)
+pub fn open(w: &mut [u32], kind: ScopeKind)
     requires { (Good w.old) × (slice_index w.old 2 < 32) }
-    ensures { Becomes w.old w.new (new_scope (scope_kind_of kind) ∷ stack w.old) }
+    ensures { Becomes w.old w.new (new_scope (kind_of kind) ∷ stack w.old) }
 {
     let d = w[layout::SCOPE_COUNT] as usize;
     let n = w[layout::BINDING_COUNT];
     let c = w[layout::CONSTANT_COUNT];
     wipe(w, layout::UNRESOLVED + d * 8, 8);
-    put4(w, layout::SCOPES + d * 4, kind, n, c, 0);
+    put(w, layout::SCOPES + d * 4, [u32::from(kind), n, c, 0]);
     w[layout::SCOPE_COUNT] = (d + 1) as u32;
 }
 

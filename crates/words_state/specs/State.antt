@@ -5,15 +5,29 @@ use Rattle.std.specs.Prelude.{◌≡◌, List, ℕ, zero, suc, ◌<◌, length, 
 use Rattle.def_tree.specs.Combine.{Res, stop, done, Nothing, Flat}
 use Rattle.words.specs.Layout.{Agree, yes, tree, beyond}
 use Rattle.def_pass.specs.Walk.{St, PatMode, assigning, as_param, as_catch, declaring}
-use Rattle.words_scopes.specs.State.{var_type_of, stack, targeted}
+use Rattle.words_scopes.specs.Kinds.{var_type_of, type_of}
+use Rattle.words_scopes.specs.State.{stack, targeted}
 use Rattle.words_nodes.specs.Nodes.{Planted}
+use Rattle.words_state.specs.declared.PatFoldingMode.{PatFoldingMode}
+use Rattle.words_state.specs.declared.PatFoldingMode.TheVariants.{Assign, Param, CatchParam, VarDecl}
+use Rattle.words_state.specs.declared.SavedFields.{SavedFields}
 
--- PatFoldingMode as a word
+-- the port's own modes, and what of the definition each case is
+abbrev pub pat_mode_of : PatFoldingMode → PatMode
+pat_mode_of Assign = assigning
+pat_mode_of Param = as_param
+pat_mode_of CatchParam = as_catch
+pat_mode_of VarDecl = declaring
+
+-- a mode as a word
 abbrev pub mode_of : ℕ → PatMode
 mode_of zero = assigning
 mode_of (suc zero) = as_param
 mode_of (suc (suc zero)) = as_catch
 mode_of (suc (suc (suc n))) = declaring
+
+abbrev pub IsModeWord : PatFoldingMode → ℕ → Type 0
+IsModeWord m n = mode_of n ≡ pat_mode_of m
 
 -- word 5 changed, 6 phase Inlining, 7 is_first_run, 8 var_decl_kind, 9 pat_mode, 10 in_test, 11 right sides open in their Cond scopes, 12 the ended
 -- total, 13 the replacements made
@@ -36,6 +50,16 @@ rest w = record {
 -- the ended total alone changed
 abbrev pub set_ended : ℕ → St → St
 set_ended x s = record { stack = s.stack; changed = s.changed; inlining = s.inlining; is_first_run = s.is_first_run; var_decl_kind = s.var_decl_kind; pat_mode = s.pat_mode; in_test = s.in_test; conds = s.conds; nodes = s.nodes; targeted = s.targeted; ended = x; replaced = s.replaced }
+
+-- the fields that a scope or a child gives back as it found them: f has those of a state; and a state with those of f
+pub record Fielded (f : SavedFields) (s : St) : Type 0 where
+  pub inlining : f.inlining ≡ s.inlining
+  pub var_decl_kind : type_of f.var_decl_kind ≡ s.var_decl_kind
+  pub pat_mode : pat_mode_of f.pat_mode ≡ s.pat_mode
+  pub in_test : f.in_test ≡ s.in_test
+
+abbrev pub given_back : SavedFields → St → St
+given_back f s = record { stack = s.stack; changed = s.changed; inlining = f.inlining; is_first_run = s.is_first_run; var_decl_kind = type_of f.var_decl_kind; pat_mode = pat_mode_of f.pat_mode; in_test = f.in_test; conds = s.conds; nodes = s.nodes; targeted = s.targeted; ended = s.ended; replaced = s.replaced }
 
 -- the state of the walk on the list of nodes
 abbrev pub abs : List ℕ → Flat St

@@ -1,0 +1,105 @@
+// The kinds of bindings and of scopes, and the words that stand for them.
+
+ghost use Rattle.std.specs.Prelude.{◌≡◌};
+ghost use Rattle.words_scopes.specs.Kinds.{type_of, alias_of, var_type_of, alias_at, IsTypeWord, IsKindWord};
+
+#[derive(Clone, Copy, Debug, PartialEq, Eq)]
+pub enum VarDeclKind {
+    Var,
+    Let,
+    Const,
+}
+
+#[derive(Clone, Copy, Debug, PartialEq, Eq)]
+pub enum VarType {
+    Param,
+    Declared(VarDeclKind),
+}
+
+#[derive(Clone, Copy, Debug, PartialEq, Eq)]
+pub enum ScopeKind {
+    // If / Switch
+    Cond,
+    Loop,
+    Block,
+    Fn { named: bool },
+}
+
+impl ScopeKind {
+    pub const DEFAULT: ScopeKind = ScopeKind::Fn { named: false };
+}
+
+// A scope that has no records yet.
+#[derive(Clone, Copy, Debug, PartialEq, Eq)]
+pub struct Scope {
+    pub kind: ScopeKind,
+}
+
+impl Scope {
+    pub fn new(kind: ScopeKind) -> Scope
+        ensures { result.kind ≡ kind }
+    {
+        Scope { kind }
+    }
+}
+
+impl VarType {
+    // The type that a word stands for.
+    pub fn from_word(n: u32) -> VarType
+        ensures { type_of result ≡ var_type_of n }
+    {
+        match n {
+            0 => VarType::Param,
+            1 => VarType::Declared(VarDeclKind::Var),
+            2 => VarType::Declared(VarDeclKind::Let),
+            _ => VarType::Declared(VarDeclKind::Const),
+        }
+    }
+}
+
+impl From<VarType> for u32 {
+    ghost from_gives = { IsTypeWord };
+
+    fn from(t: VarType) -> u32 {
+        match t {
+            VarType::Param => 0,
+            VarType::Declared(VarDeclKind::Var) => 1,
+            VarType::Declared(VarDeclKind::Let) => 2,
+            VarType::Declared(VarDeclKind::Const) => 3,
+        }
+    }
+}
+
+impl From<ScopeKind> for u32 {
+    ghost from_gives = { IsKindWord };
+
+    fn from(kind: ScopeKind) -> u32 {
+        match kind {
+            ScopeKind::Cond => 0,
+            ScopeKind::Loop => 1,
+            ScopeKind::Block => 2,
+            ScopeKind::Fn { named: false } => 3,
+            ScopeKind::Fn { named: true } => 4,
+        }
+    }
+}
+
+// The word that stands for the type of the binding that a value names, if it names one.
+pub fn alias_word(alias: Option<VarType>) -> u32
+    ensures { alias_at result ≡ alias_of alias }
+{
+    match alias {
+        None => 0,
+        Some(t) => u32::from(t) + 1,
+    }
+}
+
+// What such a word stands for.
+pub fn alias_from_word(n: u32) -> Option<VarType>
+    ensures { alias_of result ≡ alias_at n }
+{
+    if n == 0 {
+        return None;
+    }
+    Some(VarType::from_word(n - 1))
+}
