@@ -34,7 +34,8 @@ pub use scope_var_info::{
 };
 use words::{Run, layout};
 use words_nodes::skip;
-pub use words_scopes::{Scope, ScopeKind, VarDeclKind, VarType, prevent_inline};
+pub use words_scopes::kinds::{Scope, ScopeKind, VarDeclKind, VarType};
+pub use words_scopes::prevent_inline;
 use words_state::var_decl_kind;
 
 // The init of a declaration, none if its tree is not in the state.

@@ -13,14 +13,14 @@ ghost use Rattle.words_nodes.specs.Nodes.{Planted, tree_from, size};
 ghost use Rattle.scope_declare.specs.Inits.{init_from, Sited, Valued, has_none, place_here, barred_here, works_with};
 
 use refusal::Refusal;
-use scope_define::{Init, declare_with};
+use scope_define::{Declaration, Init, declare_with};
 use scope_find::{
     barred, bound_here, find_binding_from_current, ident_at, idx_val, in_loop, is_inline_prevented,
     should_prevent_inline_because_of_scope, var_type,
 };
 use words::{Run, kind_at};
 use words_nodes::skip;
-use words_scopes::VarType;
+use words_scopes::kinds::VarType;
 
 // Where x is among the bindings of the current scope, or would be.
 fn place_here(w: &[u32], x: u8) -> usize
@@ -79,22 +79,17 @@ pub fn declare_bare(
     requires { Planted w.old }
     ensures { Grown w.old w.new (declare again x no_init undefined (type_of kind) (stack w.old)) result }
 {
-    let p = again | should_prevent_inline_because_of_scope(w, x);
+    let prevented = again | should_prevent_inline_because_of_scope(w, x);
     let looped = in_loop(w);
-    let none = Run { at: 0, len: 0 };
-    declare_with(
-        w,
-        x,
-        Init::NoInit,
-        none,
-        p,
-        undefined,
+    let d = Declaration {
         kind,
-        None,
+        alias: None,
+        prevented,
+        undefined,
         looped,
-        false,
-        x,
-    )
+        barred: None,
+    };
+    declare_with(w, x, Init::NoInit, Run { at: 0, len: 0 }, d)
 }
 
 // declare with the tree at i as its init; one that is an identifier may name a binding of the current scope.
@@ -110,16 +105,25 @@ pub fn declare_value(
     requires { (Planted w.old) × (i < size w.old) × (Valued v) }
     ensures { Grown w.old w.new (declare again x (init_from v (tree_from (tree w.old) i)) undefined (type_of kind) (stack w.old)) result }
 {
-    let r = Run { at: i, len: skip(w, i) - i };
-    let p = again | prevented_at(w, x, i);
+    let len = skip(w, i) - i;
+    let prevented = again | prevented_at(w, x, i);
     let looped = in_loop(w);
+    let d = Declaration {
+        kind,
+        alias: None,
+        prevented,
+        undefined,
+        looped,
+        barred: None,
+    };
+    let r = Run { at: i, len };
     if !is_ident(w, i) {
-        return declare_with(w, x, v, r, p, undefined, kind, None, looped, false, x);
+        return declare_with(w, x, v, r, d);
     }
     let y = ident_at(w, i);
     let alias = alias_for(w, y);
-    let barred = barred_for(w, x, y, kind, alias);
-    declare_with(w, x, v, r, p, undefined, kind, alias, looped, barred, y)
+    let barred = barred_for(w, x, y, kind, alias).then_some(y);
+    declare_with(w, x, v, r, Declaration { alias, barred, ..d })
 }
 
 // Is the tree at i an identifier.

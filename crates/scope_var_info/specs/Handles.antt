@@ -3,9 +3,9 @@ use Rattle.std.specs.Prelude.{◌≡◌, Result, Ok, List, [], ◌∷◌, ◌++�
 use Rattle.std.proofs.Math.Option.{Option, none, some}
 use Rattle.std.proofs.Math.ListN.{get_elem?}
 use Rattle.def_tree.specs.Base.{pick}
-use Rattle.def_tree.specs.Tree.{Tree, node, nil, Core, count, num}
+use Rattle.def_tree.specs.Tree.{Tree, node, nil, Core, count}
 use Rattle.def_pass.specs.Scope.{VarInfo, Stack}
-use Rattle.def_pass.specs.Tree.{count_o, is_ident}
+use Rattle.def_pass.specs.Tree.{count_o}
 use Rattle.words.specs.Layout.{run}
 use Rattle.words_scopes.specs.State.{Whole}
 use Rattle.words_nodes.specs.Nodes.{tree_from, value_from, Swapped}
@@ -58,11 +58,7 @@ indexed [] r = none
 indexed (s ∷ st) zero = none
 indexed (s ∷ st) (suc j) = with_index j (get_elem? s.bindings j)
 
--- of a value that there is: the identifier that it is, and how many nodes it has
-abbrev pub ident_o : Option Tree → Option ℕ
-ident_o none = none
-ident_o (some t) = pick (is_ident t) (some (num t)) none
-
+-- how many nodes a value has
 abbrev pub counted_o : Option Tree → Option ℕ
 counted_o none = none
 counted_o (some t) = some (count t)

@@ -8,16 +8,16 @@ ghost use Rattle.def_pass.specs.Scope.{find_binding, find_binding_from_current, 
 ghost use Rattle.def_pass.specs.Tree.{count_o};
 ghost use Rattle.words.specs.Layout.{tree};
 ghost use Rattle.words.specs.Place.{placed};
-ghost use Rattle.words_scopes.specs.State.{Good, stack, targeted};
+ghost use Rattle.words_scopes.specs.State.{Good, stack, name_of, targeted};
 ghost use Rattle.scope_find.specs.Look.{idx_here, kind_o};
 ghost use Rattle.scope_find.specs.Answers.{count_of};
 ghost use Rattle.words_nodes.specs.Nodes.{Planted, value_from, size};
-ghost use Rattle.scope_var_info.specs.Handles.{bindings_of, numbered, indexed, of_binding, tree_o, ident_o, counted_o, Held, Sits, Puts};
+ghost use Rattle.scope_var_info.specs.Handles.{bindings_of, numbered, indexed, of_binding, tree_o, counted_o, Held, Sits, Puts};
 
 use refusal::Refusal;
 use words::{Run, layout};
 use words_nodes::replace_at;
-use words_scopes::VarType;
+use words_scopes::kinds::VarType;
 
 // Is b the number of a binding.
 fn known(w: &[u32], b: usize) -> bool
@@ -115,7 +115,7 @@ pub fn value_kind(w: &[u32], b: usize) -> Option<u32>
 // The identifier that it is.
 pub fn value_ident(w: &[u32], b: usize) -> Option<u32>
     requires { Good w.now }
-    ensures { count_of result ≡ ident_o (value_o (numbered (stack w.now) (suc b))) }
+    ensures { result ≡ name_of (value_o (numbered (stack w.now) (suc b))) }
 {
     if known(w, b) {
         let at = words_scopes::offset(w, b);
