@@ -1,5 +1,4 @@
-// Small steps of the walks, and their answers in one word.
+// Small steps of the walks.
 #![tactic(auto)]
 
-pub mod answer;
 pub mod steps;

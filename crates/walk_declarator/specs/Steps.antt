@@ -2,33 +2,20 @@
 use Rattle.std.specs.Prelude.{◌≡◌, List, Bool, true, false, ◌&&◌, ◌||◌, not, ℕ, suc, ◌+◌, ◌≤◌, ◌<◌, length, get_or}
 use Rattle.std.proofs.Math.Option.{none, some}
 use Rattle.def_tree.specs.Tree.{Tree, Core, no_core, count}
-use Rattle.def_tree.specs.Combine.{Res, stop, done, M as MS, Nothing, ◌>>=◌, ◌>>◌, ret, iff, Flat, act_f, cut_first, set_arity}
+use Rattle.def_tree.specs.Combine.{done, M as MS, Nothing, ◌>>=◌, ◌>>◌, ret, iff, Flat, act_f, cut_first, set_arity}
 use Rattle.def_pass.specs.Scope as def
 use Rattle.def_pass.specs.Tree.{is_ident, is_cheap, has_this}
 use Rattle.def_pass.specs.Scope.{Stack, place_or, is_param, param_o, is_const, barred, is_inline_prevented, prevent_inline, find_binding}
 use Rattle.def_pass.specs.Walk.{St, M, when, mark, insert_const, declare_m, as_ident, read_once?, takes}
 use Rattle.def_tree.specs.Base.{pick}
 use Rattle.words_nodes.specs.Nodes.{tree_from}
-use Rattle.words_state.specs.State.{Ok}
-pub use Rattle.scope.specs.Steps.{named, done_of, Moves}
-use Rattle.walk_declarator.specs.declared.Told.{Told}
-use Rattle.walk_declarator.specs.declared.Told.TheVariants.{Answer, Stopped}
-use Rattle.walk_declarator.specs.declared.After.{After}
-use Rattle.walk_declarator.specs.declared.After.TheVariants.{At, Halted}
+pub use Rattle.scope.specs.Steps.{named, done_of, Moves, Did}
+use Rattle.walk_declarator.specs.declared.Name.{Name}
+use Rattle.walk_declarator.specs.declared.Spot.{Spot}
 
--- answers
-abbrev pub told_of : Told → St → Res St Bool
-told_of (Answer b) s = done s b
-told_of (Stopped n) s = stop n
-
-abbrev pub after_of : After → Flat St → Res (Flat St) ℕ
-after_of (At j) s = done s j
-after_of (Halted n) s = stop n
-
--- a step on the state of the walk on the list
-pub record Did {A : Type 0} (w u : List ℕ) (m r : Res (Flat St) A) : Type 0 where
-  pub ok : Ok w u
-  pub is : m ≡ r
+-- the name of a declarator, as a tree
+abbrev pub name_of : Name → Tree
+name_of m = named m.form m.ident
 
 -- declr_analysis in its parts, of a name with its form and number
 unfoldable pub over_none : ℕ → ℕ → M Nothing
@@ -62,11 +49,11 @@ unfolding take_ident take_or_mark
 take_init f x k e = take_ident f x k e >> take_or_mark f x k e
 
 -- where a declarator is: at q, with its name and n trees from i on, which end at j
-pub record Spot (xs : List Core) (q n i j : ℕ) : Type 0 where
-  pub name : q + 1 < length xs
-  pub arity : (get_or xs q no_core).arity ≡ suc n
-  pub at : i ≡ q + 1 + count (tree_from xs (q + 1))
-  pub end : 0 < n → i + count (tree_from xs i) ≤ j
+pub record Stands (xs : List Core) (s : Spot) : Type 0 where
+  pub name : s.q + 1 < length xs
+  pub arity : (get_or xs s.q no_core).arity ≡ suc s.n
+  pub at : s.i ≡ s.q + 1 + count (tree_from xs (s.q + 1))
+  pub end : 0 < s.n → s.i + count (tree_from xs s.i) ≤ s.j
 
 -- the end of declr_inlining, after the initialiser's second walk: of the n trees from i on, which end at j, the first is taken out or not,
 -- and the declarator at q has one child more than there are

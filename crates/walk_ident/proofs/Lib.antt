@@ -3,4 +3,3 @@ pub mod Idents
 pub mod Fates
 pub mod Scopes
 pub mod Assigns
-pub mod Within

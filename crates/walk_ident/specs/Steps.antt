@@ -1,29 +1,20 @@
 -- The steps of an identifier and of a scope on the list of nodes, as the functions here make them. Assumes nothing: these are definitions.
-use Rattle.std.specs.Prelude.{◌≡◌, ℕ, Bool, true, false, not, ◌&&◌, List, ◌==◌}
+use Rattle.std.specs.Prelude as std
+use Rattle.std.specs.Prelude.{◌≡◌, ℕ, suc, Bool, true, false, not, ◌&&◌, List, ◌==◌}
 use Rattle.std.proofs.Math.Option.{Option, none, some}
 use Rattle.def_tree.specs.Base.{pick}
-use Rattle.def_tree.specs.Tree.{Tree, form, num}
-use Rattle.def_tree.specs.Combine.{Res, stop, done, M as MS, Nothing, ◌>>◌, Flat, node_at, act, on_rest, put, Walk as One}
+use Rattle.def_tree.specs.Tree.{Tree, count, form, num}
+use Rattle.def_tree.specs.Combine.{M as MS, Nothing, ◌>>◌, Flat, node_at, act, on_rest, put, Walk as One}
 use Rattle.def_pass.specs.Scope.{VarInfo, Stack, var_inline_prevented, find_binding, find_constant, value_o, prevent_inline, add_read, change, defined, with_value}
 use Rattle.def_pass.specs.Walk.{St, when, modify, mark, grow, replace, restore, set_changed, tally, same_ident, cheap_o}
 use Rattle.laws_flat.specs.WalkF.{test_read}
-use Rattle.words.specs.Layout.{yes}
-use Rattle.words_scopes.specs.State.{stack, var_type_of}
-use Rattle.words_state.specs.State.{abs, rest, mode_of, Ok, Turns}
+use Rattle.words_scopes.specs.State.{stack}
+use Rattle.words_scopes.specs.Kinds.{type_of}
+use Rattle.words_state.specs.declared.Fields.{Fields}
+use Rattle.words_state.specs.State.{abs, mode_of, Ok}
 use Rattle.scope_var_info.specs.Handles.{numbered, held}
-use Rattle.walk_ident.specs.declared.Next.{Next}
-use Rattle.walk_ident.specs.declared.Next.TheVariants.{At, Refused}
 use Rattle.walk_ident.specs.declared.Found.{Found}
 use Rattle.walk_ident.specs.declared.Found.TheVariants as found
-
--- a step with an answer: the state is that of the result and the answer its index, or a refusal's number, of which nothing is said
-abbrev pub Lands : Next → Flat St → Res (Flat St) ℕ → Type 0
-Lands a st (stop n) = a ≡ Refused n
-Lands a st (done st' j) = (a ≡ At j) × (st ≡ st')
-
-pub record Goes (w u : List ℕ) (a : Next) (r : Res (Flat St) ℕ) : Type 0 where
-  pub ok : Ok w u
-  pub lands : Lands a (abs u) r
 
 -- ident_analysis_f without its last skip
 abbrev pub analysis_f : ℕ → MS (Flat St) Nothing
@@ -58,12 +49,17 @@ fate_at st i = fate_of (find_binding (node_at st i).num st.rest.stack)
 abbrev pub constant_at : Flat St → ℕ → Option Tree
 constant_at st i = pick st.rest.is_first_run (find_constant (node_at st i).num st.rest.stack) none
 
+-- how many nodes a tree has, if there is one
+abbrev pub counted_o : Option Tree → std.Option ℕ
+counted_o none = std.None
+counted_o (some t) = std.Some (count t)
+
 -- the value of a binding, by its number, which has one
 abbrev pub value_by : List ℕ → ℕ → Tree
-value_by w b = held (value_o (numbered (stack w) b))
+value_by w b = held (value_o (numbered (stack w) (suc b)))
 
 abbrev pub Has : List ℕ → ℕ → Type 0
-Has w b = value_o (numbered (stack w) b) ≡ some (value_by w b)
+Has w b = value_o (numbered (stack w) (suc b)) ≡ some (value_by w b)
 
 abbrev pub Fated : List ℕ → ℕ → Found → Type 0
 Fated w i found.Nothing = fate_at (abs w) i ≡ stays
@@ -99,20 +95,12 @@ noted quiet s = s
 noted changes s = set_changed true s
 noted (counts x) s = tally x (set_changed true s)
 
-abbrev pub changes_if : Bool → Note
-changes_if true = changes
-changes_if false = quiet
-
 abbrev pub counts_if : Bool → ℕ → Note
 counts_if true x = counts x
 counts_if false x = quiet
 
-pub record Landed (w u : List ℕ) (j : ℕ) (n : Note) (a : Next) : Type 0 where
-  pub at : a ≡ At j
-  pub turns : Turns w u (noted n (rest w))
-
--- with_child's end, where the four words are the visitor's fields before
-pub record Restored (w u : List ℕ) (inl decl mode test : ℕ) : Type 0 where
+-- with_child's end, by the visitor's fields before
+pub record Restored (w u : List ℕ) (f : Fields) : Type 0 where
   pub ok : Ok w u
-  pub is : (old : St) → old.inlining ≡ yes inl → old.var_decl_kind ≡ var_type_of decl → old.pat_mode ≡ mode_of mode → old.in_test ≡ yes test
+  pub is : (old : St) → old.inlining ≡ f.inlining → old.var_decl_kind ≡ type_of f.var_decl_kind → old.pat_mode ≡ mode_of f.pat_mode → old.in_test ≡ f.in_test
       → abs u ≡ record { nodes = (abs w).nodes; rest = restore old (abs w).rest }

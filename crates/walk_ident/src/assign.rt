@@ -7,15 +7,16 @@ ghost use Rattle.words_scopes.specs.State.{Good, stack};
 ghost use Rattle.scope_find.specs.Look.{node_tree};
 ghost use Rattle.words_nodes.specs.Nodes.{Planted, Child, tree_from, size};
 ghost use Rattle.words_state.specs.State.{abs};
-ghost use Rattle.walk_ident.specs.Steps.{Goes, first_test, first_f};
+ghost use Rattle.scope.specs.Steps.{Did};
+ghost use Rattle.walk_ident.specs.Steps.{first_test, first_f};
 
-use super::{Next, lift_value};
+use super::lift_value;
+use refusal::Refusal;
 use scope::{
-    Value, find_binding_from_current, first_value, is_inline_prevented, is_undefined,
+    find_binding_from_current, first_value, is_inline_prevented, is_undefined,
     var_inline_prevented,
 };
 use scope_find::ident_at;
-use scope_values::Step;
 use words::{arity_at, kind_at};
 use words_nodes::skip;
 
@@ -24,42 +25,33 @@ fn first_here(w: &[u32], x: u8, j: usize) -> bool
     requires { (Good w.now) × (j < size w.now) }
     ensures { result ≡ first_test (find_binding_from_current x (stack w.now)) (is_inline_prevented (node_tree w.now j) (stack w.now)) }
 {
-    let b = find_binding_from_current(w, x);
-    if is_undefined(w, b) {
-        if var_inline_prevented(w, b) {
-            return false;
-        }
-        return !is_inline_prevented(w, j);
-    }
-    false
+    let Some(b) = find_binding_from_current(w, x) else {
+        return false;
+    };
+    is_undefined(w, b) && !var_inline_prevented(w, b) && !is_inline_prevented(w, j)
 }
 
 // x gets its first value, the second child of node i, at node j, which then takes that node's place.
-fn first_assigned(w: &mut [u32], i: usize, j: usize, p: u32, x: u8) -> Next
+fn first_assigned(w: &mut [u32], i: usize, j: usize, p: u32, x: u8) -> Result<usize, Refusal>
     requires { (Planted w.old) × (Child (tree w.old) i 1 j) × (p ≤ 201) }
-    ensures { Goes w.old w.new result (first_f p x (tree_from (tree w.old) j) i (abs w.old)) }
+    ensures { Did w.old w.new result (first_f p x (tree_from (tree w.old) j) i (abs w.old)) }
 {
-    match first_value(w, x, Value::At(j)) {
-        Step::Refused(n) => Next::Refused(n),
-        Step::Done => lift_value(w, i, j, p),
-    }
+    first_value(w, x, Some(j))?;
+    lift_value(w, i, j, p)
 }
 
 // The assignment at node i, at depth p, after its parts.
-pub fn after_assign(w: &mut [u32], i: usize, p: u32) -> Next
+pub fn after_assign(w: &mut [u32], i: usize, p: u32) -> Result<usize, Refusal>
     requires { (Planted w.old) × (i < size w.old) × (p ≤ 201) }
-    ensures { Goes w.old w.new result (after_assign_f p i (abs w.old)) }
+    ensures { Did w.old w.new result (after_assign_f p i (abs w.old)) }
 {
-    if arity_at(w, i) < 2 {
-        return Next::At(skip(w, i));
-    }
-    if kind_at(w, i + 1) != 20 {
-        return Next::At(skip(w, i));
+    if arity_at(w, i) < 2 || kind_at(w, i + 1) != 20 {
+        return Ok(skip(w, i));
     }
     let x = ident_at(w, i + 1);
     let j = skip(w, i + 1);
     if first_here(w, x, j) {
         return first_assigned(w, i, j, p, x);
     }
-    Next::At(skip(w, i))
+    Ok(skip(w, i))
 }

@@ -1,43 +1,40 @@
 // The steps of identifiers, and of scopes around a walk, over the working words.
 #![tactic(auto)]
 
-ghost use Rattle.std.specs.Prelude.{◌≡◌, ◌<◌, ◌≤◌, slice_index};
+ghost use Rattle.std.specs.Prelude.{◌≡◌, ◌<◌, ◌≤◌, Some, None, IfSome, slice_index};
 ghost use Rattle.def_tree.specs.Combine.{on_rest};
-ghost use Rattle.def_pass.specs.Tree.{void_zero, count_o};
+ghost use Rattle.def_pass.specs.Tree.{void_zero};
 ghost use Rattle.def_pass.specs.Scope.{find_binding};
 ghost use Rattle.def_pass.specs.Walk.{opening, deeper, same_ident};
+ghost use Rattle.refusal.specs.Number.{refused};
 ghost use Rattle.words.specs.Layout.{node_of, yes, tree};
-ghost use Rattle.words_scopes.specs.State.{Good, Becomes, stack, scope_kind_of};
+ghost use Rattle.words_scopes.specs.State.{Good, Becomes, stack};
+ghost use Rattle.words_scopes.specs.Kinds.{kind_of};
 ghost use Rattle.words_nodes.specs.Nodes.{Planted, Child, tree_from, size};
-ghost use Rattle.words_state.specs.State.{abs, Act};
+ghost use Rattle.words_state.specs.State.{rest, abs, Act, Turns};
+ghost use Rattle.scope.specs.Steps.{Did};
 ghost use Rattle.scope_var_info.specs.Handles.{held};
-ghost use Rattle.walk_ident.specs.Steps.{Goes, analysis_f, costly, test_stack, Fated, value_by, Has, constant_at, changes_if, counts_if, Landed, swap_f, value_f, const_f, Restored};
+ghost use Rattle.walk_ident.specs.Steps.{analysis_f, costly, test_stack, Fated, value_by, Has, constant_at, counted_o, noted, counts_if, swap_f, value_f, const_f, Restored};
 
 pub mod assign;
 
+use refusal::Refusal;
 use scope::{
-    add_read, close, find_binding, find_constant, is_undefined, open_kind, prevent_inline,
-    put_constant, put_value, value_ident, value_kind, value_len, var_inline_prevented,
+    Scope, ScopeKind, VarDeclKind, VarType, add_read, close, find_binding, find_constant,
+    is_undefined, open_scope, prevent_inline, put_constant, put_value, value_ident, value_kind,
+    value_len, var_inline_prevented,
 };
 use scope_find::ident_at;
 use std::num::wrapping_add_u32;
 use words::{form_at, layout};
-use words_nodes::{Step, put_void, skip, unwrap};
+use words_nodes::{put_void, skip, unwrap};
 use words_scopes::count_one;
 use words_state::{
-    set_changed, set_conds, set_ended, set_in_test, set_inlining, set_pat_mode, set_replaced,
-    set_var_decl_kind,
+    Fields, restore_fields, set_changed, set_conds, set_ended, set_replaced, set_var_decl_kind,
 };
 
-// Where the next tree begins, or the number of a refusal.
-#[derive(Clone, Copy)]
-pub enum Next {
-    At(usize),
-    Refused(u32),
-}
-
 // What becomes of an identifier in Inlining: the value of the binding of a number takes its place.
-#[derive(Clone, Copy)]
+#[derive(Clone, Copy, Debug, PartialEq, Eq)]
 pub enum Found {
     Nothing,
     Void,
@@ -49,15 +46,10 @@ fn costly(w: &[u32], x: u8) -> bool
     requires { Good w.now }
     ensures { result ≡ costly (find_binding x (stack w.now)) }
 {
-    let b = find_binding(w, x);
-    if b == 0 {
+    let Some(b) = find_binding(w, x) else {
         return false;
-    }
-    let m = value_kind(w, b);
-    if m == 22 {
-        return false;
-    }
-    m != 21
+    };
+    !matches!(value_kind(w, b), Some(21 | 22))
 }
 
 // A read of x in a test prevents a costly value.
@@ -65,10 +57,7 @@ fn test_read(w: &mut [u32], x: u8)
     requires { Good w.old }
     ensures { Becomes w.old w.new (test_stack (yes (slice_index w.old 10)) x (stack w.old)) }
 {
-    if w[layout::IN_TEST] == 0 {
-        return;
-    }
-    if costly(w, x) {
+    if w[layout::IN_TEST] != 0 && costly(w, x) {
         prevent_inline(w, x);
     }
 }
@@ -90,10 +79,9 @@ pub fn fate(w: &[u32], i: usize) -> Found
     ensures { Fated w.now i result }
 {
     let x = ident_at(w, i);
-    let b = find_binding(w, x);
-    if b == 0 {
+    let Some(b) = find_binding(w, x) else {
         return Found::Nothing;
-    }
+    };
     if var_inline_prevented(w, b) {
         return Found::Nothing;
     }
@@ -112,132 +100,107 @@ fn same_ident(w: &[u32], i: usize, b: usize) -> bool
     ensures { result ≡ same_ident (tree_from (tree w.now) i) (value_by w.now b) }
 {
     let x = ident_at(w, i);
-    value_ident(w, b) == x as u32
+    value_ident(w, b) == Some(x as u32)
 }
 
-// The end of a replacement, whose tree ends before node j: marked as a change or not.
-fn landed(w: &mut [u32], j: usize, changed: bool) -> Next
+// The end of a replacement by the value of the innermost binding of x: a change, and counted (request 9), or neither.
+fn counted(w: &mut [u32], x: u8, changed: bool)
     requires { Planted w.old }
-    ensures { Landed w.old w.new j (changes_if changed) result }
+    ensures { Turns w.old w.new (noted (counts_if changed x) (rest w.old)) }
 {
     if changed {
-        set_changed(w, 1);
-    }
-    Next::At(j)
-}
-
-// The end of a replacement by the value of the innermost binding of x, whose tree ends before node j: a change, and counted (request 9), or neither.
-fn counted(w: &mut [u32], j: usize, x: u8, changed: bool) -> Next
-    requires { Planted w.old }
-    ensures { Landed w.old w.new j (counts_if changed x) result }
-{
-    if changed {
-        set_changed(w, 1);
+        set_changed(w, true);
         count_one(w, x);
         let n = w[layout::REPLACED];
         set_replaced(w, wrapping_add_u32(n, 1));
     }
-    Next::At(j)
 }
 
 // The value of binding b takes the place of the identifier at node i, a change that is counted unless it is the same identifier.
-pub fn inline_value(w: &mut [u32], i: usize, p: u32, b: usize) -> Next
+pub fn inline_value(w: &mut [u32], i: usize, p: u32, b: usize) -> Result<usize, Refusal>
     requires { (Planted w.old) × (i < size w.old) × ((node_of w.old i).kind ≡ 21) × (Has w.old b) }
-    ensures { Goes w.old w.new result (value_f p (value_by w.old b) i (abs w.old)) }
+    ensures { Did w.old w.new result (value_f p (value_by w.old b) i (abs w.old)) }
 {
     let x = ident_at(w, i);
     let same = same_ident(w, i, b);
     let m = value_len(w, b);
-    match put_value(w, i, p, b) {
-        Step::Refused(n) => Next::Refused(n),
-        Step::Done => counted(w, i + m, x, !same),
-    }
+    put_value(w, i, p, b)?;
+    counted(w, x, !same);
+    Ok(i + m)
 }
 
 // `void 0` takes the place of the identifier at node i: no change.
-pub fn inline_undefined(w: &mut [u32], i: usize, p: u32) -> Next
+pub fn inline_undefined(w: &mut [u32], i: usize, p: u32) -> Result<usize, Refusal>
     requires { (Planted w.old) × (i < size w.old) }
-    ensures { Goes w.old w.new result (swap_f p void_zero i (abs w.old)) }
+    ensures { Did w.old w.new result (swap_f p void_zero i (abs w.old)) }
 {
-    match put_void(w, i, p) {
-        Step::Refused(n) => Next::Refused(n),
-        Step::Done => landed(w, i + 2, false),
-    }
+    put_void(w, i, p)?;
+    Ok(i + 2)
 }
 
-// How many nodes the constant that the identifier at node i names has, in the first run; 0 if there is none.
-pub fn constant(w: &[u32], i: usize) -> usize
+// How many nodes the constant that the identifier at node i names has, in the first run.
+pub fn constant(w: &[u32], i: usize) -> Option<usize>
     requires { (Planted w.now) × (i < size w.now) × ((node_of w.now i).kind ≡ 21) }
-    ensures { (result ≡ count_o (constant_at (abs w.now) i)) × (result ≤ 512) }
+    ensures { (result ≡ counted_o (constant_at (abs w.now) i)) × (IfSome result (λ m. m ≤ 512)) }
 {
     if w[layout::IS_FIRST_RUN] == 0 {
-        return 0;
+        return None;
     }
     let x = ident_at(w, i);
     find_constant(w, x)
 }
 
 // The constant, of m nodes, takes the place of the identifier at node i.
-pub fn inline_constant(w: &mut [u32], i: usize, p: u32, m: usize) -> Next
-    requires { (Planted w.old) × (i < size w.old) × ((node_of w.old i).kind ≡ 21) × (0 < m) × (m ≡ count_o (constant_at (abs w.old) i)) × (m ≤ 512) }
-    ensures { Goes w.old w.new result (const_f p (held (constant_at (abs w.old) i)) i (abs w.old)) }
+pub fn inline_constant(w: &mut [u32], i: usize, p: u32, m: usize) -> Result<usize, Refusal>
+    requires { (Planted w.old) × (i < size w.old) × ((node_of w.old i).kind ≡ 21) × (Some m ≡ counted_o (constant_at (abs w.old) i)) × (m ≤ 512) }
+    ensures { Did w.old w.new result (const_f p (held (constant_at (abs w.old) i)) i (abs w.old)) }
 {
     let x = ident_at(w, i);
-    match put_constant(w, i, p, x) {
-        Step::Refused(n) => Next::Refused(n),
-        Step::Done => landed(w, i + m, true),
-    }
+    put_constant(w, i, p, x)?;
+    set_changed(w, true);
+    Ok(i + m)
 }
 
 // The second child of node i, at node j, takes its place.
-fn lift_value(w: &mut [u32], i: usize, j: usize, p: u32) -> Next
+fn lift_value(w: &mut [u32], i: usize, j: usize, p: u32) -> Result<usize, Refusal>
     requires { (Planted w.old) × (Child (tree w.old) i 1 j) × (p ≤ 201) }
-    ensures { Goes w.old w.new result (swap_f p (tree_from (tree w.old) j) i (abs w.old)) }
+    ensures { Did w.old w.new result (swap_f p (tree_from (tree w.old) j) i (abs w.old)) }
 {
     let m = skip(w, j) - j;
-    match unwrap(w, i, j, p) {
-        Step::Refused(n) => Next::Refused(n),
-        Step::Done => Next::At(i + m),
-    }
+    unwrap(w, i, j, p)?;
+    Ok(i + m)
 }
 
 // Opens a scope of a kind, in which a declaration is of `var`.
-pub fn enter(w: &mut [u32], kind: u32) -> u32
+pub fn enter(w: &mut [u32], kind: ScopeKind) -> Result<(), Refusal>
     requires { Planted w.old }
-    ensures { Act w.old w.new result (on_rest (opening (scope_kind_of kind)) (abs w.old)) }
+    ensures { Act w.old w.new (refused result) (on_rest (opening (kind_of kind)) (abs w.old)) }
 {
-    match open_kind(w, kind) {
-        scope_values::Step::Refused(n) => n,
-        scope_values::Step::Done => {
-            set_var_decl_kind(w, 1);
-            0
-        }
-    }
+    open_scope(w, Scope::new(kind))?;
+    set_var_decl_kind(w, VarType::Declared(VarDeclKind::Var));
+    Ok(())
 }
 
 // Closes the innermost scope, adds the counts that end to their total, and gives the visitor back the fields that it had before.
-pub fn leave(w: &mut [u32], inl: u32, decl: u32, mode: u32, test: u32)
+pub fn leave(w: &mut [u32], before: Fields)
     requires { Planted w.old }
-    ensures { Restored w.old w.new inl decl mode test }
+    ensures { Restored w.old w.new before }
 {
     let n = close(w);
     let ended = w[layout::ENDED];
     set_ended(w, wrapping_add_u32(ended, n));
-    set_inlining(w, inl);
-    set_var_decl_kind(w, decl);
-    set_pat_mode(w, mode);
-    set_in_test(w, test);
+    restore_fields(w, before);
 }
 
 // One more right side is open in its Cond scope.
-pub fn deeper(w: &mut [u32]) -> u32
+pub fn deeper(w: &mut [u32]) -> Result<(), Refusal>
     requires { Planted w.old }
-    ensures { Act w.old w.new result (on_rest deeper (abs w.old)) }
+    ensures { Act w.old w.new (refused result) (on_rest deeper (abs w.old)) }
 {
     let n = w[layout::CONDS];
     if 12 <= n {
-        return 8;
+        return Err(Refusal::Depth);
     }
     set_conds(w, n + 1);
-    0
+    Ok(())
 }

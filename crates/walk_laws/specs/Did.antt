@@ -1,9 +1,8 @@
--- What a walk of the port promises: its answer, and the state that the words then stand for, are those of the walk on the list of nodes.
--- Assumes nothing: these are definitions.
-use Rattle.std.specs.Prelude.{◌≡◌, List, ℕ, suc, ◌+◌, ◌-◌, ◌%◌, ◌≤◌, ◌<◌, eqb, ltb, Bool, true, false, not, ◌&&◌, ◌||◌}
+-- What a walk of the port promises, Did: its answer, and the state that the words then stand for, are those of the walk on the list of nodes; and
+-- what it asks for. Assumes nothing: these are definitions.
+use Rattle.std.specs.Prelude.{◌≡◌, List, ℕ, suc, ◌+◌, ◌≤◌, ◌<◌, eqb, Bool, true, false, not, ◌&&◌, ◌||◌}
 use Rattle.std.proofs.Math.Option.{Option, none, some}
-use Rattle.def_tree.specs.Combine.{Res, stop, done, ◌>>◌, and_then, iff, Flat, node_at, tree_at, forest_at, set_arity, Walk as One, Walks as Many, on_rest, skip, many, split_f, each_but_f, on_kids_f}
-use Rattle.def_tree.specs.Base.{pick}
+use Rattle.def_tree.specs.Combine.{done, ◌>>◌, and_then, iff, Flat, node_at, tree_at, forest_at, set_arity, Walk as One, Walks as Many, on_rest, skip, many, split_f, each_but_f, on_kids_f}
 use Rattle.def_tree.specs.Tree.{Tree, Core}
 use Rattle.words.specs.Layout.{tree, node_of}
 use Rattle.def_pass.specs.Scope.{VarType}
@@ -11,29 +10,8 @@ use Rattle.def_pass.specs.Walk.{St, as_catch, set_pat_mode, modify, head_bind}
 use Rattle.laws_flat.specs.WalkF.{WalksF, visit_mut_stmts_f, catch_param_f, declr_to_f}
 use Rattle.words_nodes.specs.Nodes.{Planted}
 use Rattle.shape.specs.Shape.{Room}
-use Rattle.words_state.specs.State.{abs, Ok}
-use Rattle.walk_ident.specs.declared.Next.{Next}
-use Rattle.walk_ident.specs.declared.Next.TheVariants.{At, Refused}
-
--- an answer in one word: the place where the next tree begins, or 65,536 and a refusal's number
-unfoldable pub next_of : ℕ → Next
-next_of r = pick (ltb r 65536) (At r) (Refused ((r - 65536) % 4294967296))
-
--- the answers that have a word
-abbrev pub Low : Next → Type 0
-Low (At j) = j < 65536
-Low (Refused n) = Unit {0}
-
--- a refusal's number is document 01's; after a refusal nothing is said of the state
-abbrev pub Lands : Next → List ℕ → Res (Flat St) ℕ → Type 0
-Lands (At j) u (stop m) = ⊥
-Lands (At j) u (done st k) = (j ≡ k) × (abs u ≡ st)
-Lands (Refused n) u (stop m) = n ≡ m
-Lands (Refused n) u (done st k) = ⊥
-
-pub record Did (w u : List ℕ) (r : Next) (x : Res (Flat St) ℕ) : Type 0 where
-  pub ok : Ok w u
-  pub lands : Lands r u x
+use Rattle.words_state.specs.State.{abs}
+pub use Rattle.scope.specs.Steps.{Did}
 
 -- n trees begin at i, at depth p of the tree, and d levels are left below it
 pub record Here (w : List ℕ) (n i p d : ℕ) : Type 0 where

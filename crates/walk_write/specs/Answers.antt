@@ -5,14 +5,7 @@ use Rattle.def_tree.specs.Base.{pick}
 use Rattle.def_tree.specs.Tree.{Tree, Core, core}
 use Rattle.def_tree.specs.Combine.{tree_at}
 use Rattle.def_pass.specs.Tree.{is_cheap}
-use Rattle.scope_values.specs.declared.Step.{Step}
-use Rattle.scope_values.specs.declared.Step.TheVariants.{Done, Refused}
 use Rattle.words_state.specs.State.{abs}
-
--- document 01's number of a refusal, 0 where there is none
-abbrev pub number_of : Step → ℕ
-number_of Done = 0
-number_of (Refused n) = n
 
 -- the tree at j as it is recorded
 abbrev pub cheap_at : List ℕ → ℕ → Option Tree

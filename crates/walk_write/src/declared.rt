@@ -5,35 +5,32 @@ ghost use Rattle.def_tree.specs.Combine.{act};
 ghost use Rattle.def_pass.specs.Tree.{head_t};
 ghost use Rattle.def_pass.specs.Scope.{recorded};
 ghost use Rattle.def_pass.specs.Walk.{when, is_bind, as_ident, declare_m, declare_name, pat_by};
+ghost use Rattle.refusal.specs.Number.{refused};
 ghost use Rattle.words.specs.Layout.{tree, node_of};
-ghost use Rattle.scope_define.specs.Kinds.{type_of};
+ghost use Rattle.words_scopes.specs.Kinds.{type_of};
 ghost use Rattle.words_nodes.specs.Nodes.{Planted, Replants, size};
 ghost use Rattle.words_state.specs.State.{abs, Act};
 ghost use Rattle.walk_write.specs.Answers.{re_kind};
 
-use super::{number, unflagged, write_unbound};
+use super::{unflagged, write_unbound};
+use refusal::Refusal;
 use scope::{Init, VarDeclKind, VarType, declare};
 use scope_find::ident_at;
 use words::{arity_at, form_at, kind_at, layout, num_at};
 use words_nodes::put_node;
+use words_state::{PatFoldingMode, pat_mode};
 
 // The name of the function at i, in Analysis.
-pub fn declare_name(w: &mut [u32], i: usize) -> u32
+pub fn declare_name(w: &mut [u32], i: usize) -> Result<(), Refusal>
     requires { (Planted w.old) × (i < size w.old) }
-    ensures { Act w.old w.new result (act (λ t. declare_name (head_t (kids t))) i (abs w.old)) }
+    ensures { Act w.old w.new (refused result) (act (λ t. declare_name (head_t (kids t))) i (abs w.old)) }
 {
-    if arity_at(w, i) == 0 {
-        return 0;
-    }
-    if kind_at(w, i + 1) != 20 {
-        return 0;
-    }
-    if w[layout::INLINING] != 0 {
-        return 0;
+    if arity_at(w, i) == 0 || kind_at(w, i + 1) != 20 || w[layout::INLINING] != 0 {
+        return Ok(());
     }
     let x = ident_at(w, i + 1);
     let f = form_at(w, i + 1);
-    let s = declare(
+    declare(
         w,
         1 < f,
         x,
@@ -41,8 +38,7 @@ pub fn declare_name(w: &mut [u32], i: usize) -> u32
         0,
         false,
         VarType::Declared(VarDeclKind::Var),
-    );
-    number(s)
+    )
 }
 
 // The name at i becomes a binding or an identifier, with another form.
@@ -56,36 +52,31 @@ fn turn(w: &mut [u32], i: usize, k: u32, f: u32)
 }
 
 // The binding at i is declared with its own identifier as its value: while it is recorded, the node is one, without the flag.
-fn declare_bound(w: &mut [u32], i: usize, kind: VarType) -> u32
+fn declare_bound(w: &mut [u32], i: usize, kind: VarType) -> Result<(), Refusal>
     requires { (Planted w.old) × (i < size w.old) × ((node_of w.old i).kind ≡ 20) }
-    ensures { Act w.old w.new result (act (λ t. declare_m t (recorded (as_ident t)) false (type_of kind)) i (abs w.old)) }
+    ensures { Act w.old w.new (refused result) (act (λ t. declare_m t (recorded (as_ident t)) false (type_of kind)) i (abs w.old)) }
 {
     let x = ident_at(w, i);
     let f = form_at(w, i);
     let g = unflagged(f);
     turn(w, i, 21, g);
-    let s = declare(w, 1 < f, x, Init::Recorded, i, false, kind);
+    let declared = declare(w, 1 < f, x, Init::Recorded, i, false, kind);
     turn(w, i, 20, f);
-    number(s)
+    declared
 }
 
 // visit_mut_pat, by the mode.
-pub fn pat_step(w: &mut [u32], i: usize) -> u32
+pub fn pat_step(w: &mut [u32], i: usize) -> Result<(), Refusal>
     requires { (Planted w.old) × (i < size w.old) }
-    ensures { Act w.old w.new result (act (λ t s. when (is_bind t) (pat_by s.pat_mode t) s) i (abs w.old)) }
+    ensures { Act w.old w.new (refused result) (act (λ t s. when (is_bind t) (pat_by s.pat_mode t) s) i (abs w.old)) }
 {
     if kind_at(w, i) != 20 {
-        return 0;
+        return Ok(());
     }
-    let m = w[layout::PAT_MODE];
-    if m == 0 {
-        return write_unbound(w, i);
+    match pat_mode(w) {
+        PatFoldingMode::Assign => write_unbound(w, i),
+        PatFoldingMode::Param => declare_bound(w, i, VarType::Param),
+        PatFoldingMode::CatchParam => declare_bound(w, i, VarType::Declared(VarDeclKind::Var)),
+        PatFoldingMode::VarDecl => Ok(()),
     }
-    if m == 1 {
-        return declare_bound(w, i, VarType::Param);
-    }
-    if m == 2 {
-        return declare_bound(w, i, VarType::Declared(VarDeclKind::Var));
-    }
-    0
 }
