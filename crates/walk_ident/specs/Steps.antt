@@ -1,17 +1,15 @@
 -- The steps of an identifier and of a scope on the list of nodes, as the functions here make them. Assumes nothing: these are definitions.
-use Rattle.std.specs.Prelude as std
 use Rattle.std.specs.Prelude.{◌≡◌, ℕ, suc, Bool, true, false, not, ◌&&◌, List, ◌==◌}
 use Rattle.std.proofs.Math.Option.{Option, none, some}
 use Rattle.def_tree.specs.Base.{pick}
-use Rattle.def_tree.specs.Tree.{Tree, count, form, num}
+use Rattle.def_tree.specs.Tree.{Tree, form, num}
 use Rattle.def_tree.specs.Combine.{M as MS, Nothing, ◌>>◌, Flat, node_at, act, on_rest, put, Walk as One}
 use Rattle.def_pass.specs.Scope.{VarInfo, Stack, var_inline_prevented, find_binding, find_constant, value_o, prevent_inline, add_read, change, defined, with_value}
 use Rattle.def_pass.specs.Walk.{St, when, modify, mark, grow, replace, restore, set_changed, tally, same_ident, cheap_o}
 use Rattle.laws_flat.specs.WalkF.{test_read}
 use Rattle.words_scopes.specs.State.{stack}
-use Rattle.words_scopes.specs.Kinds.{type_of}
-use Rattle.words_state.specs.declared.Fields.{Fields}
-use Rattle.words_state.specs.State.{abs, mode_of, Ok}
+use Rattle.words_state.specs.declared.SavedFields.{SavedFields}
+use Rattle.words_state.specs.State.{abs, Fielded, Ok}
 use Rattle.scope_var_info.specs.Handles.{numbered, held}
 use Rattle.walk_ident.specs.declared.Found.{Found}
 use Rattle.walk_ident.specs.declared.Found.TheVariants as found
@@ -48,11 +46,6 @@ fate_at st i = fate_of (find_binding (node_at st i).num st.rest.stack)
 -- the constant that an identifier names, in the first run
 abbrev pub constant_at : Flat St → ℕ → Option Tree
 constant_at st i = pick st.rest.is_first_run (find_constant (node_at st i).num st.rest.stack) none
-
--- how many nodes a tree has, if there is one
-abbrev pub counted_o : Option Tree → std.Option ℕ
-counted_o none = std.None
-counted_o (some t) = std.Some (count t)
 
 -- the value of a binding, by its number, which has one
 abbrev pub value_by : List ℕ → ℕ → Tree
@@ -99,8 +92,7 @@ abbrev pub counts_if : Bool → ℕ → Note
 counts_if true x = counts x
 counts_if false x = quiet
 
--- with_child's end, by the visitor's fields before
-pub record Restored (w u : List ℕ) (f : Fields) : Type 0 where
+-- with_child's end: the fields are those that the visitor had before
+pub record Restored (w u : List ℕ) (f : SavedFields) : Type 0 where
   pub ok : Ok w u
-  pub is : (old : St) → old.inlining ≡ f.inlining → old.var_decl_kind ≡ type_of f.var_decl_kind → old.pat_mode ≡ mode_of f.pat_mode → old.in_test ≡ f.in_test
-      → abs u ≡ record { nodes = (abs w).nodes; rest = restore old (abs w).rest }
+  pub is : (old : St) → Fielded f old → abs u ≡ record { nodes = (abs w).nodes; rest = restore old (abs w).rest }

@@ -1,7 +1,8 @@
 // The steps of identifiers, and of scopes around a walk, over the working words.
 #![tactic(auto)]
 
-ghost use Rattle.std.specs.Prelude.{◌≡◌, ◌<◌, ◌≤◌, Some, None, IfSome, slice_index};
+ghost use Rattle.std.specs.Prelude.{◌≡◌, ◌<◌, ◌≤◌, IfSome, slice_index};
+ghost use Rattle.std.proofs.Math.Option.{some};
 ghost use Rattle.def_tree.specs.Combine.{on_rest};
 ghost use Rattle.def_pass.specs.Tree.{void_zero};
 ghost use Rattle.def_pass.specs.Scope.{find_binding};
@@ -13,8 +14,9 @@ ghost use Rattle.words_scopes.specs.Kinds.{kind_of};
 ghost use Rattle.words_nodes.specs.Nodes.{Planted, Child, tree_from, size};
 ghost use Rattle.words_state.specs.State.{rest, abs, Act, Turns};
 ghost use Rattle.scope.specs.Steps.{Did};
-ghost use Rattle.scope_var_info.specs.Handles.{held};
-ghost use Rattle.walk_ident.specs.Steps.{analysis_f, costly, test_stack, Fated, value_by, Has, constant_at, counted_o, noted, counts_if, swap_f, value_f, const_f, Restored};
+ghost use Rattle.scope_var_info.specs.Handles.{held, counted_o};
+ghost use Rattle.scope_find.specs.Answers.{count_of};
+ghost use Rattle.walk_ident.specs.Steps.{analysis_f, costly, test_stack, Fated, value_by, Has, constant_at, noted, counts_if, swap_f, value_f, const_f, Restored};
 
 pub mod assign;
 
@@ -30,7 +32,7 @@ use words::{form_at, layout};
 use words_nodes::{put_void, skip, unwrap};
 use words_scopes::count_one;
 use words_state::{
-    Fields, restore_fields, set_changed, set_conds, set_ended, set_replaced, set_var_decl_kind,
+    SavedFields, restore_fields, set_changed, set_conds, set_ended, set_replaced, set_var_decl_kind,
 };
 
 // What becomes of an identifier in Inlining: the value of the binding of a number takes its place.
@@ -141,7 +143,7 @@ pub fn inline_undefined(w: &mut [u32], i: usize, p: u32) -> Result<usize, Refusa
 // How many nodes the constant that the identifier at node i names has, in the first run.
 pub fn constant(w: &[u32], i: usize) -> Option<usize>
     requires { (Planted w.now) × (i < size w.now) × ((node_of w.now i).kind ≡ 21) }
-    ensures { (result ≡ counted_o (constant_at (abs w.now) i)) × (IfSome result (λ m. m ≤ 512)) }
+    ensures { (count_of result ≡ counted_o (constant_at (abs w.now) i)) × (IfSome result (λ m. m ≤ 512)) }
 {
     if w[layout::IS_FIRST_RUN] == 0 {
         return None;
@@ -152,7 +154,7 @@ pub fn constant(w: &[u32], i: usize) -> Option<usize>
 
 // The constant, of m nodes, takes the place of the identifier at node i.
 pub fn inline_constant(w: &mut [u32], i: usize, p: u32, m: usize) -> Result<usize, Refusal>
-    requires { (Planted w.old) × (i < size w.old) × ((node_of w.old i).kind ≡ 21) × (Some m ≡ counted_o (constant_at (abs w.old) i)) × (m ≤ 512) }
+    requires { (Planted w.old) × (i < size w.old) × ((node_of w.old i).kind ≡ 21) × (some m ≡ counted_o (constant_at (abs w.old) i)) × (m ≤ 512) }
     ensures { Did w.old w.new result (const_f p (held (constant_at (abs w.old) i)) i (abs w.old)) }
 {
     let x = ident_at(w, i);
@@ -182,7 +184,7 @@ pub fn enter(w: &mut [u32], kind: ScopeKind) -> Result<(), Refusal>
 }
 
 // Closes the innermost scope, adds the counts that end to their total, and gives the visitor back the fields that it had before.
-pub fn leave(w: &mut [u32], before: Fields)
+pub fn leave(w: &mut [u32], before: SavedFields)
     requires { Planted w.old }
     ensures { Restored w.old w.new before }
 {
