@@ -21,8 +21,8 @@ use Rattle.words_scopes.proofs.Words.{Kept, kept-heads, kept-flags, kept-consts,
 use Rattle.scope_values.specs.Steps.{Listed, Still, Spliced, over, put_at, Grown}
 use Rattle.scope_values.proofs.Count.{depth_is, count-whole, nodes_b, total-set, recorded-split, live-split, recorded-is, live-is, total-binds, total-consts, length-binds, length-consts, fits-binds, fits-consts, nodes-bind}
 use Rattle.scope_values.proofs.Store as store
-use Rattle.scope_values.specs.declared.Step.{Step}
-use Rattle.scope_values.specs.declared.Step.TheVariants.{Done, Refused}
+use Rattle.refusal.specs.declared.Refusal.{Refusal}
+use Rattle.std.proofs.Common.{Result, Ok, Err}
 
 pub others-then : {u v w : List ℕ} → Others u v → Others v w → Others u w
 others-then a b = record { low = λ j l h. b.low j l h ∙ a.low j l h; high = λ j l h. b.high j l h ∙ a.high j l h }
@@ -123,7 +123,7 @@ module _ (w : List ℕ) (g : Good w) (k i m : ℕ) (h : k < get_or w 1 0) (q : r
 pub good-under : (w : List ℕ) → Good w → over (stack w) ≡ false
 good-under w g = rw (le-ltb 512 (recorded_nodes (stack w)) (omega (arith, recorded-is w g, g.recorded)), le-ltb 256 (live (stack w)) (omega (arith, live-is w g, g.live))) refl
 
-pub done-under : {w w' : List ℕ} {st : Stack} → Becomes w w' st → Grown w w' st Done
+pub done-under : {w w' : List ℕ} {st : Stack} → Becomes w w' st → Grown w w' st (Ok tt)
 done-under {w} {w'} b = (b, sym (ap over b.is) ∙ good-under w' b.good)
 
 -- the value of binding k becomes the m nodes of the tree from node i on
@@ -212,6 +212,6 @@ stack-none w z = nothing (stack w) (depth_is w ∙ z)
     nothing (s ∷ st) e = absurd (omega arith)
 
 -- a step, and then one that may be refused
-pub grown-after : {u v : List ℕ} {s : Stack} (w : List ℕ) (t : Stack) (r : Step) → Becomes u v s → Grown v w t r → Grown u w t r
-grown-after w t Done a b = (becomes-then a b.0, b.1)
-grown-after w t (Refused n) a b = (b.0, b.1, still_after a b.2)
+pub grown-after : {u v : List ℕ} {s : Stack} (w : List ℕ) (t : Stack) (r : Result Unit Refusal) → Becomes u v s → Grown v w t r → Grown u w t r
+grown-after w t (Ok u) a b = (becomes-then a b.0, b.1)
+grown-after w t (Err n) a b = (b.0, b.1, still_after a b.2)

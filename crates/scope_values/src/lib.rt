@@ -84,18 +84,16 @@ pub fn stops_at(w: &[u32], n: usize) -> Option<usize>
     let mut sum = n;
     let mut e = w[layout::BINDING_COUNT] as usize;
     let mut c = w[layout::CONSTANT_COUNT] as usize;
-    let mut i: usize = 0;
-    while sum <= 512 {
-        if i == d {
-            return None;
+    for i in 0..d {
+        if 512 < sum {
+            return Some(i);
         }
         let k = d - 1 - i;
         sum += nodes_in(w, k, e, c);
         e = w[layout::SCOPES + k * 4 + layout::FIRST_BINDING] as usize;
         c = w[layout::SCOPES + k * 4 + layout::FIRST_CONSTANT] as usize;
-        i += 1;
     }
-    Some(i)
+    (512 < sum).then_some(d)
 }
 
 // Are there more nodes than row 9 allows once old nodes give way to m: there can be only where m are more.

@@ -6,7 +6,4 @@ use Rattle.words.specs.Tab.{sum}
 use Rattle.scope_values.proofs.lengths.Given as goal
 
 abbrev pub invariant-loop-j : goal.invariant-loop-j
-invariant-loop-j l = (l.j ≤ l.e) × (sum (λ i. get_or l.w (l.p + i * l.s) 0) l.a + l.at ≡ sum (λ i. get_or l.w (l.p + i * l.s) 0) l.j) × (l.at ≤ 512)
-
-abbrev pub decreases-loop-j : goal.decreases-loop-j
-decreases-loop-j l = l.e - l.j
+invariant-loop-j l = (sum (λ i. get_or l.w (l.p + i * l.s) 0) l.a + l.at ≡ sum (λ i. get_or l.w (l.p + i * l.s) 0) l.j) × (l.at ≤ 512)

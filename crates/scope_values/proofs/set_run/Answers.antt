@@ -21,7 +21,7 @@ splice-requires c =
     let part = sums.sum-part (λ j. len_at w j) c.args.k (get_or w 1 0) c.requires.1 in
     let a = c.offset-at.ensures.0 in
     let b = c.offset_from-end.ensures.0 in
-    (c.requires.0.long, omega arith, omega arith, omega (arith, c.requires.0.nodes, c.requires.2), omega (arith, c.offset-at.ensures.0), omega (arith, c.offset_from-end.ensures.1), omega (arith, c.requires.3))
+    (c.requires.0.long, omega arith, omega arith, omega (arith, c.requires.0.nodes, c.requires.2.inside), omega (arith, c.offset-at.ensures.0), omega (arith, c.offset_from-end.ensures.1), omega (arith, c.requires.3))
 
 pub shape_of-w : goal.shape_of-w
 shape_of-w c = simp length-set c.splice.auto.w
@@ -30,4 +30,4 @@ pub returns : goal.returns
 returns c =
     let w = c.args.w.now in
     let s = rw (c.offset-at.ensures.0, c.offset_from-end.ensures.0) at c.splice.ensures in
-    (listed.valued w c.splice.new.w c.requires.0 c.args.k c.args.i c.args.m c.requires.1 c.requires.2 c.requires.3 s c.requires.4, listed.valued_past w c.splice.new.w c.requires.0 c.args.k c.args.i c.args.m c.requires.1 c.requires.2 c.requires.3 s)
+    (listed.valued w c.splice.new.w c.requires.0 c.args.k c.args.r.at c.args.r.len c.requires.1 c.requires.2.inside c.requires.3 s c.requires.2.one, listed.valued_past w c.splice.new.w c.requires.0 c.args.k c.args.r.at c.args.r.len c.requires.1 c.requires.2.inside c.requires.3 s)

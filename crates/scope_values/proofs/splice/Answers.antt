@@ -8,4 +8,4 @@ pub shape_of-w : goal.shape_of-w
 shape_of-w c = c.shift-2.auto.w ∙ c.shift.auto.w
 
 pub returns : goal.returns
-returns c = spliced c.args.base c.args.at c.args.old c.args.end c.args.i c.args.m (omega arith) (omega arith) (omega arith) (omega arith) (omega arith) c.shift.ensures c.shift-2.ensures
+returns c = spliced c.args.base c.args.at c.args.old c.args.end c.args.r.at c.args.r.len (omega arith) (omega arith) (omega arith) (omega arith) (omega arith) c.shift.ensures c.shift-2.ensures

@@ -1,7 +1,7 @@
 -- Scope by scope, the current one first: the invariant is that the answer is that of the scopes left. Assumes nothing.
 use Prim.Native.Nat.{ℕ, suc, ◌+◌, ◌*◌, ◌-◌}
 use mathlib.Core.Path.{◌≡◌, refl, sym, ap, ◌∙◌}
-use mathlib.Core.Option.{some}
+use Rattle.std.proofs.Common.{Some}
 use native.Mathlib.Omega.{arith}
 use lib.ListN.{get_or}
 use Rattle.words_scopes.specs.State.{Fits, CFits, heads_at, heads}
@@ -10,13 +10,12 @@ use Rattle.scope_values.specs.Outwards.{stops_at}
 use Rattle.scope_values.proofs.Outwards.{begins, goes_on, over-now, within, later, later-one, later-none}
 use Rattle.scope_values.proofs.stops_at.Goals as goal
 
-pub loop-sum-init : goal.loop-sum-init
+pub loop-i-init : goal.loop-i-init
 unfolding heads
-loop-sum-init c =
+loop-i-init c =
     let w = c.args.w.now in
     let n = c.args.n in
     let q : get_or w 2 0 - 0 ≡ get_or w 2 0 = omega arith in (
-      omega arith,
       refl,
       omega arith,
       omega arith,
@@ -31,54 +30,53 @@ unfolding heads_at
 returns-then-i-d c =
     let w = c.args.w.now in
     let g = c.requires.0 in
-    let i = c.loop-sum.i in
+    let i = c.loop-i.i in
     let z : get_or w 2 0 - i ≡ 0 = omega arith in
-    sym (c.loop-sum.invariant.7 ∙ ap (λ (m : ℕ). later i (stops_at c.loop-sum.sum (outer w m c.loop-sum.e c.loop-sum.c))) z ∙ ap (later i) (within c.loop-sum.sum (omega arith)))
+    sym (c.loop-i.invariant.6 ∙ ap (λ (m : ℕ). later i (stops_at c.loop-i.sum (outer w m c.loop-i.e c.loop-i.c))) z ∙ ap (later i) (within c.loop-i.sum (omega arith)))
 
 pub nodes_in-sum-requires : goal.nodes_in-sum-requires
 nodes_in-sum-requires c =
     let w = c.args.w.now in
     let g = c.requires.0 in
-    let i = c.loop-sum.i in
+    let i = c.loop-i.i in
     let k : ℕ = get_or w 2 0 - 1 - i in
     let q : get_or w 2 0 - i ≡ suc k = omega arith in
-    let f : Fits (heads_at w (suc k)) c.loop-sum.e = rw q at c.loop-sum.invariant.4 in
-    let h : CFits (heads_at w (suc k)) c.loop-sum.c = rw q at c.loop-sum.invariant.5 in
-    let t = begins w g k c.loop-sum.e c.loop-sum.c f h c.loop-sum.invariant.2 c.loop-sum.invariant.3 in
-    (g, omega (arith, g.depth), t.0, c.loop-sum.invariant.2, t.1, c.loop-sum.invariant.3)
+    let f : Fits (heads_at w (suc k)) c.loop-i.e = rw q at c.loop-i.invariant.3 in
+    let h : CFits (heads_at w (suc k)) c.loop-i.c = rw q at c.loop-i.invariant.4 in
+    let t = begins w g k c.loop-i.e c.loop-i.c f h c.loop-i.invariant.1 c.loop-i.invariant.2 in
+    (g, omega (arith, g.depth), t.0, c.loop-i.invariant.1, t.1, c.loop-i.invariant.2)
 
 pub overflow_add-sum : goal.overflow_add-sum
 overflow_add-sum c =
     let w = c.args.w.now in
     let g = c.requires.0 in
-    let i = c.loop-sum.i in
-    omega (arith, c.loop-sum.invariant.6, c.nodes_in-sum.ensures, g.recorded, c.requires.1)
+    let i = c.loop-i.i in
+    omega (arith, c.loop-i.invariant.5, c.nodes_in-sum.ensures, g.recorded, c.requires.1)
 
-pub loop-sum-preserved : goal.loop-sum-preserved
-loop-sum-preserved c =
+pub loop-i-preserved : goal.loop-i-preserved
+loop-i-preserved c =
     let w = c.args.w.now in
     let g = c.requires.0 in
-    let i = c.loop-sum.i in
+    let i = c.loop-i.i in
     let k : ℕ = get_or w 2 0 - 1 - i in
     let q : get_or w 2 0 - i ≡ suc k = omega arith in
-    let f : Fits (heads_at w (suc k)) c.loop-sum.e = rw q at c.loop-sum.invariant.4 in
-    let h : CFits (heads_at w (suc k)) c.loop-sum.c = rw q at c.loop-sum.invariant.5 in
-    let t = begins w g k c.loop-sum.e c.loop-sum.c f h c.loop-sum.invariant.2 c.loop-sum.invariant.3 in
+    let f : Fits (heads_at w (suc k)) c.loop-i.e = rw q at c.loop-i.invariant.3 in
+    let h : CFits (heads_at w (suc k)) c.loop-i.c = rw q at c.loop-i.invariant.4 in
+    let t = begins w g k c.loop-i.e c.loop-i.c f h c.loop-i.invariant.1 c.loop-i.invariant.2 in
     let a = get_or w (7184 + k * 4 + 1) 0 in
     let b = get_or w (7184 + k * 4 + 2) 0 in
     let r = c.nodes_in-sum.result in
     let u = c.nodes_in-sum.ensures in
-    let s = c.loop-sum.sum in
+    let s = c.loop-i.sum in
     let p : get_or w 2 0 - (i + 1) ≡ k = omega arith in (
-      omega arith,
       refl,
       omega arith,
       omega arith,
       rw p t.2,
       rw p t.3,
       omega arith,
-      c.loop-sum.invariant.7 ∙ ap (λ (m : ℕ). later i (stops_at s (outer w m c.loop-sum.e c.loop-sum.c))) q
-          ∙ ap (later i) (goes_on w g k c.loop-sum.e c.loop-sum.c f h c.loop-sum.invariant.2 c.loop-sum.invariant.3 s r u (omega arith))
+      c.loop-i.invariant.6 ∙ ap (λ (m : ℕ). later i (stops_at s (outer w m c.loop-i.e c.loop-i.c))) q
+          ∙ ap (later i) (goes_on w g k c.loop-i.e c.loop-i.c f h c.loop-i.invariant.1 c.loop-i.invariant.2 s r u (omega arith))
           ∙ later-one i (stops_at (s + r) (outer w k a b)) ∙ ap (λ (m : ℕ). later (i + 1) (stops_at (s + r) (outer w m a b))) (sym p),
     )
 
@@ -86,6 +84,6 @@ pub returns : goal.returns
 returns c =
     let w = c.args.w.now in
     let g = c.requires.0 in
-    let i = c.loop-sum.i in
+    let i = c.loop-i.i in
     let z : i + 0 ≡ i = omega arith in
-    sym (c.loop-sum.invariant.7 ∙ ap (later i) (over-now c.loop-sum.sum (outer w (get_or w 2 0 - i) c.loop-sum.e c.loop-sum.c) (omega arith)) ∙ ap some z)
+    sym (c.loop-i.invariant.6 ∙ ap (later i) (over-now c.loop-i.sum (outer w (get_or w 2 0 - i) c.loop-i.e c.loop-i.c) (omega arith)) ∙ ap some z)
