@@ -2,8 +2,8 @@
 use mathlib.Core.Path.{◌≡◌, refl, sym, ap, ◌∙◌}
 use mathlib.Core.Bool.{Bool, true, false}
 use mathlib.Core.List.{List, [], ◌∷◌}
-use Rattle.std.proofs.Common.{Some, None, is_some}
-use Rattle.std.specs.Prelude.{Option}
+use Rattle.std.proofs.Common.{Option, Some, None, is_some}
+use Rattle.core.specs.Bool.{then_some}
 use mathlib.Core.Option as math
 use Prim.Native.Nat.{ℕ, zero, suc, ◌+◌, ◌-◌, ◌*◌, ◌≤◌, ◌<◌}
 use native.Mathlib.Omega.{arith}
@@ -25,12 +25,12 @@ more-some (Some k) = refl
 exactly : (n : ℕ) (st : Stack) → is_some (stops_at n st) ≡ ltb 512 (n + inwards st)
 exactly n [] = go (ltb 512 n) refl
   where
-    go : (p : Bool) → ltb 512 n ≡ p → is_some {A = ℕ} (elim p [ true ↦ Some 0 | false ↦ None ]) ≡ ltb 512 (n + 0)
+    go : (p : Bool) → ltb 512 n ≡ p → is_some {T = ℕ} (elim p [ true ↦ Some 0 | false ↦ None ]) ≡ ltb 512 (n + 0)
     go true e = sym (lt-ltb 512 (n + 0) (omega (arith, ltb-true 512 n e)))
     go false e = sym (le-ltb 512 (n + 0) (omega (arith, ltb-false 512 n e)))
 exactly n (s ∷ st) = go (ltb 512 n) refl (exactly (n + nodes_here s) st)
   where
-    go : (p : Bool) → ltb 512 n ≡ p → is_some (stops_at (n + nodes_here s) st) ≡ ltb 512 (n + nodes_here s + inwards st) → is_some {A = ℕ} (elim p [ true ↦ Some 0 | false ↦ one_more (stops_at (n + nodes_here s) st) ]) ≡ ltb 512 (n + (inwards st + nodes_here s))
+    go : (p : Bool) → ltb 512 n ≡ p → is_some (stops_at (n + nodes_here s) st) ≡ ltb 512 (n + nodes_here s + inwards st) → is_some {T = ℕ} (elim p [ true ↦ Some 0 | false ↦ one_more (stops_at (n + nodes_here s) st) ]) ≡ ltb 512 (n + (inwards st + nodes_here s))
     go true e k = sym (lt-ltb 512 (n + (inwards st + nodes_here s)) (omega (arith, ltb-true 512 n e)))
     go false e k = let f : n + nodes_here s + inwards st ≡ n + (inwards st + nodes_here s) = omega arith in more-some (stops_at (n + nodes_here s) st) ∙ k ∙ ap (ltb 512) f
 
@@ -112,18 +112,23 @@ module _ (w : List ℕ) (g : Good w) (k e c : ℕ) (f : Fits (heads_at w (suc k)
         here : nodes_here (inner w k e c) ≡ r
         here = omega (arith, here-nodes, sum)
 
--- n are over 512 at once; or no scope is left
+-- n are over 512 at once
 pub over-now : (n : ℕ) (st : Stack) → 512 < n → stops_at n st ≡ Some 0
 over-now n [] h = rw (stops_at, lt-ltb 512 n h) refl
 over-now n (s ∷ st) h = rw (stops_at, lt-ltb 512 n h) refl
-
-pub within : (n : ℕ) → n ≤ 512 → stops_at n [] ≡ None
-within n h = rw (stops_at, le-ltb 512 n h) refl
 
 -- i scopes are added already
 abbrev pub later : ℕ → Option ℕ → Option ℕ
 later i None = None
 later i (Some k) = Some (i + k)
+
+-- no scope is left behind the first i
+pub at_end : (n i : ℕ) → later i (stops_at n []) ≡ then_some (ltb 512 n) i
+at_end n i = go (ltb 512 n)
+  where
+    go : (p : Bool) → later i (elim p [ true ↦ Some 0 | false ↦ None ]) ≡ then_some p i
+    go true = let e : i + 0 ≡ i = omega arith in ap Some e
+    go false = refl
 
 pub later-one : (i : ℕ) (o : Option ℕ) → later i (one_more o) ≡ later (i + 1) o
 later-one i None = refl

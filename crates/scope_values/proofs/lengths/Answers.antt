@@ -8,9 +8,6 @@ use Rattle.words.specs.Tab.{sum}
 use Rattle.scope_values.proofs.Store.{stride}
 use Rattle.scope_values.proofs.lengths.Goals as goal
 
-pub loop-j-init : goal.loop-j-init
-loop-j-init c = (omega arith, omega arith, omega arith)
-
 pub overflow_mul-at : goal.overflow_mul-at
 overflow_mul-at c = omega (arith, stride c.loop-j.j c.args.s (omega arith) c.requires.3)
 
@@ -40,7 +37,7 @@ loop-j-preserved c =
     let f : ℕ → ℕ = λ i. get_or c.args.w.now (c.args.p + i * c.args.s) 0 in
     let part = sums.sum-part f c.loop-j.j c.args.e (omega arith) in
     let next = sums.sum-next f c.loop-j.j in
-    (omega arith, omega arith, omega (arith, c.requires.5))
+    (omega arith, omega (arith, c.requires.5))
 
 pub returns : goal.returns
-returns c = let e : c.loop-j.j ≡ c.args.e = omega arith in rw e at c.loop-j.invariant.1
+returns c = let e : c.loop-j.j ≡ c.args.e = omega arith in rw e at c.loop-j.invariant.0

@@ -4,10 +4,12 @@ use mathlib.Core.Path.{◌≡◌, refl, sym, ap, ◌∙◌}
 use Rattle.std.proofs.Common.{Some}
 use native.Mathlib.Omega.{arith}
 use lib.ListN.{get_or}
+use lib.Dec.{ltb}
+use Rattle.core.specs.Bool.{then_some}
 use Rattle.words_scopes.specs.State.{Fits, CFits, heads_at, heads}
 use Rattle.words_scopes.proofs.Look.{outer, outer-all}
 use Rattle.scope_values.specs.Outwards.{stops_at}
-use Rattle.scope_values.proofs.Outwards.{begins, goes_on, over-now, within, later, later-one, later-none}
+use Rattle.scope_values.proofs.Outwards.{begins, goes_on, over-now, at_end, later, later-one, later-none}
 use Rattle.scope_values.proofs.stops_at.Goals as goal
 
 pub loop-i-init : goal.loop-i-init
@@ -25,14 +27,12 @@ loop-i-init c =
       ap (stops_at n) (outer-all w) ∙ sym (later-none (stops_at n (outer w (get_or w 2 0) (get_or w 1 0) (get_or w 3 0)))) ∙ ap (λ (m : ℕ). later 0 (stops_at n (outer w m (get_or w 1 0) (get_or w 3 0)))) (sym q),
     )
 
-pub returns-then-i-d : goal.returns-then-i-d
-unfolding heads_at
-returns-then-i-d c =
+pub returns-then-sum-gt512 : goal.returns-then-sum-gt512
+returns-then-sum-gt512 c =
     let w = c.args.w.now in
-    let g = c.requires.0 in
     let i = c.loop-i.i in
-    let z : get_or w 2 0 - i ≡ 0 = omega arith in
-    sym (c.loop-i.invariant.6 ∙ ap (λ (m : ℕ). later i (stops_at c.loop-i.sum (outer w m c.loop-i.e c.loop-i.c))) z ∙ ap (later i) (within c.loop-i.sum (omega arith)))
+    let z : i + 0 ≡ i = omega arith in
+    sym (c.loop-i.invariant.6 ∙ ap (later i) (over-now c.loop-i.sum (outer w (get_or w 2 0 - i) c.loop-i.e c.loop-i.c) (omega arith)) ∙ ap Some z)
 
 pub nodes_in-sum-requires : goal.nodes_in-sum-requires
 nodes_in-sum-requires c =
@@ -81,9 +81,10 @@ loop-i-preserved c =
     )
 
 pub returns : goal.returns
+unfolding heads_at
 returns c =
     let w = c.args.w.now in
-    let g = c.requires.0 in
     let i = c.loop-i.i in
-    let z : i + 0 ≡ i = omega arith in
-    sym (c.loop-i.invariant.6 ∙ ap (later i) (over-now c.loop-i.sum (outer w (get_or w 2 0 - i) c.loop-i.e c.loop-i.c) (omega arith)) ∙ ap some z)
+    let z : get_or w 2 0 - i ≡ 0 = omega arith in
+    let z2 : get_or w 2 0 ≡ i = omega arith in
+    c.then_some.ensures ∙ ap (then_some (ltb 512 c.loop-i.sum)) z2 ∙ sym (c.loop-i.invariant.6 ∙ ap (λ (m : ℕ). later i (stops_at c.loop-i.sum (outer w m c.loop-i.e c.loop-i.c))) z ∙ at_end c.loop-i.sum i) 
