@@ -10,7 +10,8 @@ ghost use Rattle.scope_redeclare.specs.Own.{Own};
 use refusal::Refusal;
 use scope_values::{passes, set_run};
 use words::{Run, layout, put};
-use words_scopes::{Record, alias_word, find_binding, record_at};
+use words_scopes::kinds::alias_word;
+use words_scopes::{Record, find_binding, record_at};
 
 // Overwrites the words of binding k but its name, its value and its count.
 pub fn rewrite(w: &mut [u32], k: usize, r: Record)
