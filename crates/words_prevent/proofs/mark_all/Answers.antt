@@ -5,8 +5,7 @@ use Rattle.std.proofs.lemmas.List.{get_or_default}
 use Rattle.words_prevent.specs.Mark.{marked}
 use Rattle.words_prevent.proofs.mark_all.Goals as goal
 
-pub loop-i-preserved : goal.loop-i-preserved
-loop-i-preserved c = record {
-  within = omega arith;
-  done = rw c.mark.ensures (map_over_more (marked c.args.x) c.args.bs.now c.loop-i.bs c.loop-i.i _ (omega arith) c.loop-i.invariant.done (get_or_default c.loop-i.bs c.loop-i.i _ _ c.loop-i-test.true));
-}
+pub loop-b-preserved : goal.loop-b-preserved
+loop-b-preserved c =
+    let at = get_or_default c.loop-b.bs c.loop-b.b-index _ _ (omega arith) in
+    rw c.mark.ensures (map_over_more (marked c.args.x) c.args.bs.now c.loop-b.bs c.loop-b.b-index _ c.loop-b-test.true c.loop-b.invariant at)

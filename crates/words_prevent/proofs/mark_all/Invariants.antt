@@ -1,10 +1,7 @@
 -- The first records are marked, and the others are as they were. Assumes nothing.
-use Rattle.std.proofs.Common.{◌≡◌, ◌-◌, ◌≤◌, ◌++◌, length, map, take, drop}
+use Rattle.std.proofs.Common.{◌≡◌, ◌++◌, map, take, drop}
 use Rattle.words_prevent.specs.Mark.{marked}
 use Rattle.words_prevent.proofs.mark_all.Given as goal
 
-abbrev pub invariant-loop-i : goal.invariant-loop-i
-invariant-loop-i l = record { within : l.i ≤ length l.initial.bs; done : l.bs ≡ map (marked l.x) (take l.i l.initial.bs) ++ drop l.i l.initial.bs }
-
-abbrev pub decreases-loop-i : goal.decreases-loop-i
-decreases-loop-i l = length l.initial.bs - l.i
+abbrev pub invariant-loop-b : goal.invariant-loop-b
+invariant-loop-b l = l.bs ≡ map (marked l.x) (take l.b-index l.initial.bs) ++ drop l.b-index l.initial.bs
