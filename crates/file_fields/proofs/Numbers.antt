@@ -1,39 +1,40 @@
 -- Little-endian numbers, by the bytes of a list. Assumes nothing.
-use mathlib.Core.Path.{◌≡◌, refl, ap, ◌∙◌}
-use mathlib.Core.List.{List, [], ◌∷◌}
-use Prim.Native.Nat.{ℕ, suc, ◌+◌, ◌*◌, ◌≤◌, ◌<◌}
-use native.Mathlib.Numerals.{add-one}
-use native.Mathlib.Omega.{arith}
-use lib.ListN.{length, get_or, drop}
-use lib.Seq.{drop-cons}
+use Rattle.std.proofs.Common.{◌≡◌, ℕ, zero, suc, ◌+◌, ◌*◌, ◌^◌, List, [], ◌∷◌, get_or, get_or-drop, take, drop, refl, sym, ap, ◌∙◌, arith}
+use Rattle.std.proofs.Math.Nat.{add-zero, pow-suc}
+use Rattle.std.specs.Int.{byte_worth, sum_through}
 use Rattle.def_file.specs.Read.{number}
 
-module _ (xs : List ℕ) where
-  pub number-suc : (n i : ℕ) → i < length xs → number (suc n) (drop i xs) ≡ get_or xs i 0 + 256 * number n (drop (i + 1) xs)
-  number-suc n i h = rw (add-one, drop-cons xs i 0) refl
+sum-front : (f : ℕ → ℕ) (k : ℕ) → sum_through f (suc k) ≡ f 0 + sum_through (λ i. f (suc i)) k
+sum-front f zero = refl
+sum-front f (suc k) = omega (arith, sum-front f k)
 
-  pub number-one : (i : ℕ) → i < length xs → number 1 (drop i xs) ≡ get_or xs i 0
-  number-one i h = number-suc 0 i h ∙ omega arith
+worth-next : (i b : ℕ) → byte_worth (suc i) b ≡ 256 * byte_worth i b
+worth-next zero b = omega arith
+worth-next (suc i) b = rw (pow-suc 256 (suc i)) (omega arith)
 
-  pub number-two : (i : ℕ) → i + 2 ≤ length xs → number 2 (drop i xs) ≡ get_or xs i 0 + 256 * get_or xs (i + 1) 0
-  number-two i h = number-suc 1 i (omega arith) ∙ ap (λ (n : ℕ). get_or xs i 0 + 256 * n) (number-one (i + 1) (omega arith))
+sum-next : (g : ℕ → ℕ) (k : ℕ) → sum_through (λ i. byte_worth (suc i) (g i)) k ≡ 256 * sum_through (λ i. byte_worth i (g i)) k
+sum-next g zero = worth-next 0 (g 0)
+sum-next g (suc k) = omega (arith, sum-next g k, worth-next (suc k) (g (suc k)))
 
-  pub number-four : (i : ℕ) → i + 4 ≤ length xs → number 4 (drop i xs) ≡ get_or xs i 0 + 256 * (get_or xs (i + 1) 0 + 256 * (get_or xs (i + 2) 0 + 256 * get_or xs (i + 3) 0))
-  number-four i h =
-      number-suc 3 i (omega arith)
-      ∙ ap (λ (n : ℕ). get_or xs i 0 + 256 * n) (number-suc 2 (i + 1) (omega arith)
-      ∙ ap (λ (n : ℕ). get_or xs (i + 1) 0 + 256 * n) (ap (λ (k : ℕ). number 2 (drop k xs)) (two i) ∙ number-two (i + 2) (omega arith) ∙ ap (λ (k : ℕ). get_or xs (i + 2) 0 + 256 * get_or xs k 0) (three i)))
-    where
-      two : (i : ℕ) → i + 1 + 1 ≡ i + 2
-      two i = omega arith
+sum-none : (k : ℕ) → sum_through (λ i. byte_worth i (get_or [] i 0)) k ≡ 0
+sum-none zero = refl
+sum-none (suc k) = omega (arith, sum-none k)
 
-      three : (i : ℕ) → i + 2 + 1 ≡ i + 3
-      three i = omega arith
+-- a number is what its bytes are worth
+number-sum : (k : ℕ) (bs : List ℕ) → number (suc k) bs ≡ sum_through (λ i. byte_worth i (get_or bs i 0)) k
+number-sum k [] = sym (sum-none k)
+number-sum zero (b ∷ bs) = omega arith
+number-sum (suc k) (b ∷ bs) =
+    ap (λ (m : ℕ). b + 256 * m) (number-sum k bs) ∙ ap (λ (m : ℕ). b + m) (sym (sum-next (λ i. get_or bs i 0) k)) ∙ sym (sum-front (λ i. byte_worth i (get_or (b ∷ bs) i 0)) k)
 
--- eight bytes are four and four
-pub number-eight : (xs : List ℕ) → 8 ≤ length xs → number 8 xs ≡ number 4 xs + 4294967296 * number 4 (drop 4 xs)
-number-eight [] h = absurd (omega arith)
-number-eight (a ∷ []) h = absurd (omega arith)
-number-eight (a ∷ b ∷ []) h = absurd (omega arith)
-number-eight (a ∷ b ∷ c ∷ []) h = absurd (omega arith)
-number-eight (a ∷ b ∷ c ∷ d ∷ xs) h = omega arith
+number-take : (n : ℕ) (bs : List ℕ) → number n (take n bs) ≡ number n bs
+number-take zero bs = refl
+number-take (suc n) [] = refl
+number-take (suc n) (b ∷ bs) = ap (λ (m : ℕ). b + 256 * m) (number-take n bs)
+
+-- a number that was read of the first k + 1 bytes
+pub number-read : (k : ℕ) (bs : List ℕ) {xs : List ℕ} {n : ℕ} → xs ≡ take (suc k) bs → n ≡ sum_through (λ i. byte_worth i (get_or xs i 0)) k → n ≡ number (suc k) bs
+number-read k bs {xs} e h = h ∙ sym (number-sum k xs) ∙ ap (number (suc k)) e ∙ number-take (suc k) bs
+
+pub byte_at : (i : ℕ) (bs : List ℕ) → number 1 (drop i bs) ≡ get_or bs i 0
+byte_at i bs = number-sum 0 (drop i bs) ∙ get_or-drop i bs 0 0 ∙ ap (λ (k : ℕ). get_or bs k 0) (add-zero i)

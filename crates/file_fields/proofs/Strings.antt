@@ -7,6 +7,7 @@ use native.Mathlib.Nat.{le_of_suc-le-suc, not-suc-le-zero, sub-zero}
 use native.Mathlib.Numerals.{add-one}
 use native.Mathlib.Omega.{arith}
 use borrow.Author.Tests.{eq-eqb, ne_eqb, le-leb, lt-leb}
+use lib.Pointwise.{pointwise}
 use lib.Dec.{eqb, eqb→eq, leb, leb→le}
 use lib.ListN.{length, get_or, drop, take, drop_of_length-le}
 use lib.Seq.{drop-cons, drop-drop, get_or-drop}
@@ -15,26 +16,12 @@ use Rattle.def_file.specs.Read.{number, u32, ends_from, texts_from, rising, any_
 use Rattle.file_fields.specs.Text.{part, start_of, text_in, texts_of, Placed}
 use Rattle.file_fields.proofs.Tests.{is_T, T-is, and_left, and_right}
 
--- same_text, from index i on
-module _ (a b : List ℕ) (i : ℕ) (ha : i < length a) (hb : i < length b) where
-  pub same_step : get_or a i 0 ≡ get_or b i 0 → same_text (drop i a) (drop i b) ≡ same_text (drop (i + 1) a) (drop (i + 1) b)
-  same_step e = rw (drop-cons a i 0 ha, drop-cons b i 0 hb, eq-eqb (get_or a i 0) (get_or b i 0) e, add-one) refl
-
-  pub same-differ : (get_or a i 0 ≡ get_or b i 0 → ⊥) → same_text (drop i a) (drop i b) ≡ false
-  same-differ e = rw (drop-cons a i 0 ha, drop-cons b i 0 hb, ne_eqb (get_or a i 0) (get_or b i 0) e) refl
-
-pub same_end : (a b : List ℕ) (i : ℕ) → length a ≤ i → length b ≤ i → same_text (drop i a) (drop i b) ≡ true
-same_end a b i ha hb = rw (drop_of_length-le a ha, drop_of_length-le b hb) refl
-
-pub same_length : (a b : List ℕ) → (length a ≡ length b → ⊥) → same_text a b ≡ false
-same_length [] [] h = absurd (h refl)
-same_length [] (y ∷ b) h = refl
-same_length (x ∷ a) [] h = refl
-same_length (x ∷ a) (y ∷ b) h = go (eqb x y) (same_length a b (λ e. h (ap suc e)))
-  where
-    go : (c : Bool) → same_text a b ≡ false → (c && same_text a b) ≡ false
-    go true e = e
-    go false e = refl
+-- what `==` on slices says
+pub same_pointwise : (a b : List ℕ) → pointwise eqb a b ≡ same_text a b
+same_pointwise [] [] = refl
+same_pointwise [] (y ∷ b) = refl
+same_pointwise (x ∷ a) [] = refl
+same_pointwise (x ∷ a) (y ∷ b) = ap (λ (c : Bool). eqb x y && c) (same_pointwise a b)
 
 -- the ends
 pub ends-length : (t : ℕ) (bs : List ℕ) → length (ends_from t bs) ≡ t
@@ -171,22 +158,22 @@ module _ {bs : List ℕ} {ends from t : ℕ} (P : Placed bs ends from t) where
   text-cons k h = drop-cons (texts_of bs ends from t) k [] (omega (arith, count-texts)) ∙ ap₂ {C = List (List ℕ)} (λ x xs. x ∷ xs) (text-is k h) (ap (λ (m : ℕ). drop m (texts_of bs ends from t)) (sym (add-one k)))
 
 -- looking for a text, and for two texts that are equal, from place k on
-module _ (x u : List ℕ) (us ts : List (List ℕ)) where
-  pub any-hit : ts ≡ u ∷ us → same_text x u ≡ true → any_text x ts ≡ true
+module _ {u : List ℕ} {us ts : List (List ℕ)} (e : ts ≡ u ∷ us) where
+  pub any-hit : (x : List ℕ) → same_text x u ≡ true → any_text x ts ≡ true
   unfolding any_text
-  any-hit e h = rw (e, h) refl
+  any-hit x h = rw (e, h) refl
 
-  pub any-miss : ts ≡ u ∷ us → same_text x u ≡ false → any_text x ts ≡ any_text x us
+  pub any-miss : (x : List ℕ) → same_text x u ≡ false → any_text x ts ≡ any_text x us
   unfolding any_text
-  any-miss e h = rw (e, h) refl
+  any-miss x h = rw (e, h) refl
 
-  pub distinct-hit : ts ≡ u ∷ us → any_text u us ≡ true → distinct ts ≡ false
+  pub distinct-hit : any_text u us ≡ true → distinct ts ≡ false
   unfolding distinct
-  distinct-hit e h = rw (e, h) refl
+  distinct-hit h = rw (e, h) refl
 
-  pub distinct-miss : ts ≡ u ∷ us → any_text u us ≡ false → distinct ts ≡ distinct us
+  pub distinct-miss : any_text u us ≡ false → distinct ts ≡ distinct us
   unfolding distinct
-  distinct-miss e h = rw (e, h) refl
+  distinct-miss h = rw (e, h) refl
 
 pub any-end : (x : List ℕ) (ts : List (List ℕ)) (k : ℕ) → length ts ≤ k → any_text x (drop k ts) ≡ false
 unfolding any_text

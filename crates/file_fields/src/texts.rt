@@ -1,6 +1,5 @@
 // The texts: their ends, looking one up, and row 5.
 ghost use Rattle.std.specs.Prelude.{◌≡◌, ℕ, ◌+◌, ◌*◌, ◌<◌, ◌≤◌, length, drop};
-ghost use Rattle.def_file.specs.Script.{same_text};
 ghost use Rattle.def_file.specs.Read.{u32, ends_from, texts_from, rising, any_text, distinct};
 ghost use Rattle.file_fields.specs.Text.{Placed, start_of, text_in, texts_of};
 
@@ -42,6 +41,7 @@ fn start_at(file: &[u8], ends: usize, k: usize) -> usize
 }
 
 // Text k: the stretch of the file's own bytes between two stored ends; no bytes where these are no such stretch.
+#[tactic(auto, unfolding(crate::specs::Text::text_in))]
 pub fn text(file: &[u8], ends: usize, bytes: usize, k: usize) -> &[u8]
     requires { (ends ≤ 100000) × (bytes ≤ 100000) × (k < 256) × (ends + 4 * k + 4 ≤ length file.now) }
     ensures { result.now ≡ text_in file.now ends bytes k }
@@ -55,19 +55,13 @@ pub fn text(file: &[u8], ends: usize, bytes: usize, k: usize) -> &[u8]
     &file[0..0]
 }
 
-pub fn same_text(a: &[u8], b: &[u8]) -> bool
-    ensures { result ≡ same_text a.now b.now }
-{
-    a == b
-}
-
 // Is text i one of those behind it.
 fn any_text(file: &[u8], ends: usize, bytes: usize, t: usize, i: usize) -> bool
     requires { Placed file.now ends bytes t × (i < t) }
     ensures { result ≡ any_text (text_in file.now ends bytes i) (drop (i + 1) (texts_of file.now ends bytes t)) }
 {
     for j in i + 1..t {
-        if same_text(text(file, ends, bytes, i), text(file, ends, bytes, j)) {
+        if text(file, ends, bytes, i) == text(file, ends, bytes, j) {
             return true;
         }
     }

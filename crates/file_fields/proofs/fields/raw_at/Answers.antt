@@ -1,13 +1,10 @@
-use native.Mathlib.Omega.{arith}
-use mathlib.Core.Path.{refl}
-use Prim.Native.Nat.{◌+◌}
-use lib.Seq.{drop-drop}
-use Rattle.file_fields.proofs.Numbers.{number-one}
+use Rattle.std.proofs.Common.{◌+◌, refl}
+use Rattle.std.proofs.Math.Seq.{drop-drop}
+use Rattle.file_fields.proofs.Numbers.{byte_at}
 use Rattle.file_fields.proofs.fields.raw_at.Goals as goal
 
 pub returns : goal.returns
 returns c =
-    let a = c.args in
-    let xs = a.b.now in
-    let i = a.i in
-    rw (c.u16_at-arity.ensures, c.u32_at-text.ensures, c.u64_at-bits.ensures, drop-drop 1 i xs, drop-drop 2 i xs, drop-drop 4 i xs, drop-drop 8 i xs, number-one xs i (omega (arith, c.requires)), number-one xs (i + 1) (omega (arith, c.requires))) refl
+    let xs = c.args.b.now in
+    let i = c.args.i in
+    rw (c.u16_at.ensures, c.u32_at.ensures, c.u64_at.ensures, drop-drop 1 i xs, drop-drop 2 i xs, drop-drop 4 i xs, drop-drop 8 i xs, byte_at i xs, byte_at (i + 1) xs) refl

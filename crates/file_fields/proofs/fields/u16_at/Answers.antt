@@ -1,6 +1,6 @@
-use native.Mathlib.Omega.{arith}
-use Rattle.file_fields.proofs.Numbers.{number-two}
+use Rattle.std.proofs.Common.{drop}
+use Rattle.file_fields.proofs.Numbers.{number-read}
 use Rattle.file_fields.proofs.fields.u16_at.Goals as goal
 
 pub returns : goal.returns
-returns c = let a = c.args in cc (number-two a.b.now a.i (omega (arith, c.requires)))
+returns c = number-read 1 (drop c.args.i c.args.b.now) c.bytes_at.ensures c.from_le_bytes.ensures

@@ -1,6 +1,6 @@
-use native.Mathlib.Omega.{arith}
-use Rattle.file_fields.proofs.Numbers.{number-four}
+use Rattle.std.proofs.Common.{drop}
+use Rattle.file_fields.proofs.Numbers.{number-read}
 use Rattle.file_fields.proofs.fields.u32_at.Goals as goal
 
 pub returns : goal.returns
-returns c = let a = c.args in cc (number-four a.b.now a.i (omega (arith, c.requires)))
+returns c = number-read 3 (drop c.args.i c.args.b.now) c.bytes_at.ensures c.from_le_bytes.ensures
