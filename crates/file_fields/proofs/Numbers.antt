@@ -1,5 +1,5 @@
 -- Little-endian numbers, by the bytes of a list. Assumes nothing.
-use Rattle.std.proofs.Common.{◌≡◌, ℕ, zero, suc, ◌+◌, ◌*◌, ◌^◌, List, [], ◌∷◌, get_or, get_or-drop, take, drop, refl, sym, ap, ◌∙◌, arith}
+use Rattle.std.proofs.Common.{◌≡◌, ℕ, zero, suc, ◌+◌, ◌*◌, List, [], ◌∷◌, get_or, get_or-drop, take, drop, refl, sym, ap, ◌∙◌, arith}
 use Rattle.std.proofs.Math.Nat.{add-zero, pow-suc}
 use Rattle.std.specs.Int.{byte_worth, sum_through}
 use Rattle.def_file.specs.Read.{number}

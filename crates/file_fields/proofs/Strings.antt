@@ -1,12 +1,13 @@
 -- Ends and texts, by their place. Assumes nothing.
 use mathlib.Core.Path.{◌≡◌, refl, sym, ap, ap₂, ◌∙◌}
-use mathlib.Core.Bool.{Bool, true, false, ◌&&◌}
+use mathlib.Core.Bool.{Bool, true, false, ◌&&◌, ◌||◌, not}
+use Rattle.std.specs.List.{list_any, list_all, range_with_len}
 use mathlib.Core.List.{List, [], ◌∷◌}
 use Prim.Native.Nat.{ℕ, zero, suc, ◌+◌, ◌-◌, ◌*◌, ◌≤◌, ◌<◌}
 use native.Mathlib.Nat.{le_of_suc-le-suc, not-suc-le-zero, sub-zero}
 use native.Mathlib.Numerals.{add-one}
 use native.Mathlib.Omega.{arith}
-use borrow.Author.Tests.{eq-eqb, ne_eqb, le-leb, lt-leb}
+use borrow.Author.Tests.{le-leb, lt-leb}
 use lib.Pointwise.{pointwise}
 use lib.Dec.{eqb, eqb→eq, leb, leb→le}
 use lib.ListN.{length, get_or, drop, take, drop_of_length-le}
@@ -159,46 +160,30 @@ module _ {bs : List ℕ} {ends from t : ℕ} (P : Placed bs ends from t) where
 
 -- looking for a text, and for two texts that are equal, from place k on
 module _ {u : List ℕ} {us ts : List (List ℕ)} (e : ts ≡ u ∷ us) where
-  pub any-hit : (x : List ℕ) → same_text x u ≡ true → any_text x ts ≡ true
+  any-next : (x : List ℕ) → any_text x ts ≡ (same_text x u || any_text x us)
   unfolding any_text
-  any-hit x h = rw (e, h) refl
+  any-next x = rw e refl
 
-  pub any-miss : (x : List ℕ) → same_text x u ≡ false → any_text x ts ≡ any_text x us
-  unfolding any_text
-  any-miss x h = rw (e, h) refl
-
-  pub distinct-hit : any_text u us ≡ true → distinct ts ≡ false
+  distinct-next : distinct ts ≡ (not (any_text u us) && distinct us)
   unfolding distinct
-  distinct-hit h = rw (e, h) refl
+  distinct-next = rw e refl
 
-  pub distinct-miss : any_text u us ≡ false → distinct ts ≡ distinct us
-  unfolding distinct
-  distinct-miss h = rw (e, h) refl
-
-pub any-end : (x : List ℕ) (ts : List (List ℕ)) (k : ℕ) → length ts ≤ k → any_text x (drop k ts) ≡ false
+any-end : (x : List ℕ) (ts : List (List ℕ)) (k : ℕ) → length ts ≤ k → any_text x (drop k ts) ≡ false
 unfolding any_text
 any-end x ts k h = rw (drop_of_length-le ts h) refl
 
-pub distinct-end : (ts : List (List ℕ)) (k : ℕ) → length ts ≤ k → distinct (drop k ts) ≡ true
+distinct-end : (ts : List (List ℕ)) (k : ℕ) → length ts ≤ k → distinct (drop k ts) ≡ true
 unfolding distinct
 distinct-end ts k h = rw (drop_of_length-le ts h) refl
 
--- the two ends of a part
-pub whole_part : (a b n : ℕ) → (leb a b && leb b n) ≡ true → (a ≤ b) × (b ≤ n)
-whole_part a b n h = (leb→le a b (and_left (leb a b) (leb b n) (is_T (leb a b && leb b n) h)), leb→le b n (and_right (leb a b) (leb b n) (is_T (leb a b && leb b n) h)))
+-- the texts from k on, by their numbers
+module _ {bs : List ℕ} {ends from t : ℕ} (P : Placed bs ends from t) where
+  pub any-range : (x : List ℕ) (k n : ℕ) → k + n ≡ t → list_any (λ j. pointwise eqb x (text_in bs ends from j)) (range_with_len k n) ≡ any_text x (drop k (texts_of bs ends from t))
+  any-range x k zero e = sym (any-end x (texts_of bs ends from t) k (omega (arith, count-texts P)))
+  any-range x k (suc n) e =
+      let h = any-range x (k + 1) n (omega arith) in
+      ap₂ {C = Bool} ◌||◌ (same_pointwise x (text_in bs ends from k)) h ∙ sym (any-next (text-cons P k (omega arith)) x)
 
-pub part-true : (bs : List ℕ) (a b : ℕ) → (leb a b && leb b (length bs)) ≡ true → part bs a b ≡ take (b - a) (drop a bs)
-part-true bs a b h = rw h refl
-
-pub part-false : (bs : List ℕ) (a b : ℕ) → (leb a b && leb b (length bs)) ≡ false → part bs a b ≡ []
-part-false bs a b h = rw h refl
-
-pub start-zero : (bs : List ℕ) (ends k : ℕ) → k ≡ 0 → start_of bs ends k ≡ 0
-start-zero bs ends k e = rw e refl
-
-pub start-more : (bs : List ℕ) (ends k : ℕ) → 0 < k → start_of bs ends k ≡ u32 bs (ends + 4 * (k - 1))
-start-more bs ends zero h = absurd (omega arith)
-start-more bs ends (suc k) h = ap (λ (m : ℕ). u32 bs (ends + 4 * m)) (same k)
-  where
-    same : (k : ℕ) → k ≡ suc k - 1
-    same k = omega arith
+  pub all-range : (k n : ℕ) → k + n ≡ t → list_all (λ i. not (any_text (text_in bs ends from i) (drop (i + 1) (texts_of bs ends from t)))) (range_with_len k n) ≡ distinct (drop k (texts_of bs ends from t))
+  all-range k zero e = sym (distinct-end (texts_of bs ends from t) k (omega (arith, count-texts P)))
+  all-range k (suc n) e = ap {B = Bool} (λ (b : Bool). not (any_text (text_in bs ends from k) (drop (k + 1) (texts_of bs ends from t))) && b) (all-range (k + 1) n (omega arith)) ∙ sym (distinct-next (text-cons P k (omega arith)))

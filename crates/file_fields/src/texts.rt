@@ -60,12 +60,8 @@ fn any_text(file: &[u8], ends: usize, bytes: usize, t: usize, i: usize) -> bool
     requires { Placed file.now ends bytes t × (i < t) }
     ensures { result ≡ any_text (text_in file.now ends bytes i) (drop (i + 1) (texts_of file.now ends bytes t)) }
 {
-    for j in i + 1..t {
-        if text(file, ends, bytes, i) == text(file, ends, bytes, j) {
-            return true;
-        }
-    }
-    false
+    let x = text(file, ends, bytes, i);
+    (i + 1..t).any(|j| x == text(file, ends, bytes, j))
 }
 
 // Row 5: no text stands twice.
@@ -73,10 +69,5 @@ pub fn distinct_ok(file: &[u8], ends: usize, bytes: usize, t: usize) -> bool
     requires { Placed file.now ends bytes t }
     ensures { result ≡ distinct (texts_of file.now ends bytes t) }
 {
-    for i in 0..t {
-        if any_text(file, ends, bytes, t, i) {
-            return false;
-        }
-    }
-    true
+    (0..t).all(|i| !any_text(file, ends, bytes, t, i))
 }

@@ -1,18 +1,15 @@
--- `file_fields::texts::distinct_ok` meets its contract. The invariant: the texts passed stand nowhere behind themselves. Assumes nothing.
-use Rattle.std.proofs.Common.{sym, ◌∙◌, arith}
-use Rattle.file_fields.specs.Text.{texts_of}
-use Rattle.file_fields.proofs.Strings.{count-texts, text-cons, distinct-hit, distinct-miss, distinct-end}
+-- `file_fields::texts::distinct_ok` meets its contract: it looks behind each text, one by one. Assumes nothing.
+use Rattle.std.proofs.Common.{◌+◌, ◌∙◌, drop, refl, arith, rules, tests}
+use mathlib.Core.Bool.{not}
+use Rattle.std.proofs.lemmas.Iterator.{YieldsList-from_range}
+use Rattle.std.proofs.lemmas.Iterator.Search.{all_from_yields_List}
+use Rattle.def_file.specs.Read.{any_text}
+use Rattle.file_fields.specs.Text.{text_in, texts_of}
+use Rattle.file_fields.proofs.Strings.{all-range}
 use Rattle.file_fields.proofs.texts.distinct_ok.Goals as goal
-
-pub returns-then-any_text : goal.returns-then-any_text
-returns-then-any_text c =
-    sym (c.loop-i.invariant ∙ distinct-hit (text-cons c.requires c.loop-i.i c.loop-i-test.true) (sym c.any_text.ensures ∙ c.if-any_text.true))
-
-pub loop-i-preserved : goal.loop-i-preserved
-loop-i-preserved c =
-    c.loop-i.invariant ∙ distinct-miss (text-cons c.requires c.loop-i.i c.loop-i-test.true) (sym c.any_text.ensures ∙ c.if-any_text.false)
 
 pub returns : goal.returns
 returns c =
     let a = c.args in
-    sym (c.loop-i.invariant ∙ distinct-end (texts_of a.file.now a.ends a.bytes a.t) c.loop-i.i (omega (arith, count-texts c.requires)))
+    all_from_yields_List (λ i. not (any_text (text_in a.file.now a.ends a.bytes i) (drop (i + 1) (texts_of a.file.now a.ends a.bytes a.t)))) _ _ _ c.all.ensures.ran (YieldsList-from_range 0 a.t a.t refl (omega arith)) (λ i b q k. search (rules, tests))
+    ∙ all-range c.requires 0 a.t (omega arith)

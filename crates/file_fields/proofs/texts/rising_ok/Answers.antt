@@ -1,5 +1,5 @@
 -- `file_fields::texts::rising_ok` meets its contract. The invariant: the ends passed never fell, and the last of them is `at`. Assumes nothing.
-use Rattle.std.proofs.Common.{◌≡◌, ℕ, ◌+◌, ◌<◌, length, get_or, drop, sym, ap, ◌∙◌, arith}
+use Rattle.std.proofs.Common.{◌≡◌, ℕ, ◌+◌, get_or, drop, sym, ap, ◌∙◌, arith}
 use Rattle.def_file.specs.Read.{ends_from, rising}
 use Rattle.file_fields.proofs.Strings.{ends-length, end-raw, rising_step, rising-falls, rising-end}
 use Rattle.file_fields.proofs.texts.rising_ok.Goals as goal
