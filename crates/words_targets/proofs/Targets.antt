@@ -20,7 +20,8 @@ use Rattle.words.specs.Moved.{Zeroed}
 use Rattle.words.proofs.Flags.{flag-none}
 use Rattle.words.proofs.Nodes.{tree-length, tree-at, tree-same}
 use Rattle.words_scopes.specs.State.{Named, Names, targeted}
-use Rattle.words_targets.specs.Targets.{Script, Beside, hits, Scanned, Targeted}
+use Rattle.std.proofs.Common.{Some, None}
+use Rattle.words_targets.specs.Targets.{Script, Aimed, Beside, hits, Scanned, Targeted}
 
 -- what begins with a node targets, by its kind
 module _ (i : ℕ) (c : Core) (cs : List Core) where
@@ -30,10 +31,8 @@ module _ (i : ℕ) (c : Core) (cs : List Core) where
   pub next-ident : c.kind ≡ 21 → next_is i (c ∷ cs) ≡ eqb c.num i
   next-ident e = rw e refl
 
-  pub next-other : (c.kind < 5) ⊎ (6 < c.kind) → (c.kind ≡ 20 → ⊥) → (c.kind ≡ 21 → ⊥) → next_is i (c ∷ cs) ≡ false
-  next-other o a b =
-      let five : c.kind ≡ 5 → ⊥ = λ e. ⊎_elim (λ (l : c.kind < 5). omega arith) (λ (l : 6 < c.kind). omega arith) o in
-      let six : c.kind ≡ 6 → ⊥ = λ e. ⊎_elim (λ (l : c.kind < 5). omega arith) (λ (l : 6 < c.kind). omega arith) o in
+  pub next-other : (c.kind ≡ 5 → ⊥) → (c.kind ≡ 6 → ⊥) → (c.kind ≡ 20 → ⊥) → (c.kind ≡ 21 → ⊥) → next_is i (c ∷ cs) ≡ false
+  next-other five six a b =
       let first : (eqb c.kind 5 || eqb c.kind 6) ≡ false = rw (ne_eqb c.kind 5 five, ne_eqb c.kind 6 six) refl in
       let last : (eqb c.kind 20 || eqb c.kind 21) ≡ false = rw (ne_eqb c.kind 20 a, ne_eqb c.kind 21 b) refl in
       ap {B = Bool} (λ (x : Bool). elim x [ true ↦ some! c.arity && next_is i cs | false ↦ (eqb c.kind 20 || eqb c.kind 21) && eqb c.num i ]) first ∙ ap (λ (x : Bool). x && eqb c.num i) last
@@ -54,9 +53,6 @@ pub some-yes : (n : ℕ) → (n ≡ 0 → ⊥) → some! n ≡ true
 some-yes zero h = absurd (h refl)
 some-yes (suc n) h = refl
 
-pub no_number : (r i : ℕ) → 256 ≤ r → i < 256 → eqb r i ≡ false
-no_number r i h l = ne_eqb r i (λ e. omega (arith, e))
-
 -- the nodes from k on
 pub node-next : (w : List ℕ) (k : ℕ) → k < get_or w 0 0 → drop k (tree w) ≡ node_of w k ∷ drop (k + 1) (tree w)
 node-next w k h =
@@ -65,6 +61,46 @@ node-next w k h =
 
 pub no-next : (w : List ℕ) (k : ℕ) → get_or w 0 0 ≤ k → drop k (tree w) ≡ []
 no-next w k h = drop_of_length-le (tree w) {i = k} (omega (arith, tree-length w))
+
+-- what begins at j targets what begins at node k, a first child of what came before
+module _ (w : List ℕ) (j k : ℕ) (q : (i : ℕ) → next_is i (drop j (tree w)) ≡ next_is i (drop k (tree w))) (h : k < get_or w 0 0) where
+  abbrev node : Core
+  node = node_of w k
+
+  abbrev cs : List Core
+  cs = drop (k + 1) (tree w)
+
+  here : (i : ℕ) → next_is i (drop j (tree w)) ≡ next_is i (node ∷ cs)
+  here i = q i ∙ ap (λ (xs : List Core). next_is i xs) (node-next w k h)
+
+  pub aimed-own : Script w → {n x : ℕ} → n ≡ node.kind → x ≡ node.num → 20 ≤ n → n ≤ 21 → Aimed (Some x) (λ i. next_is i (drop j (tree w)))
+  aimed-own s {n} {x} d e low high = (rw e (own either), λ i. here i ∙ by i either ∙ ap (λ (m : ℕ). eqb m i) (sym e))
+    where
+      either : (n ≡ 20) ⊎ (n ≡ 21)
+      either = ⊎_elim (λ (l : n < 21). inl (omega arith)) (λ (l : 21 ≤ n). inr (omega arith)) (below_or_not n 21)
+
+      named : Named node
+      named = rw (tree-at w k h) at (s.names k)
+
+      own : (n ≡ 20) ⊎ (n ≡ 21) → node.num < 256
+      own o = named (rw d at o)
+
+      by : (i : ℕ) → (n ≡ 20) ⊎ (n ≡ 21) → next_is i (node ∷ cs) ≡ eqb node.num i
+      by i (inl a) = next-binding i node cs (sym d ∙ a)
+      by i (inr b) = next-ident i node cs (sym d ∙ b)
+
+  pub aimed-other : {n : ℕ} → n ≡ node.kind → (n ≡ 5 → ⊥) → (n ≡ 6 → ⊥) → (n ≡ 20 → ⊥) → (n ≡ 21 → ⊥) → Aimed None (λ i. next_is i (drop j (tree w)))
+  aimed-other d a b c e i = here i ∙ next-other i node cs (λ z. a (d ∙ z)) (λ z. b (d ∙ z)) (λ z. c (d ∙ z)) (λ z. e (d ∙ z))
+
+  module _ {n m : ℕ} (d : n ≡ node.kind) (e : m ≡ node.arity) (low : 5 ≤ n) (high : n ≤ 6) where
+    first : (i : ℕ) → next_is i (drop j (tree w)) ≡ (some! node.arity && next_is i cs)
+    first i = here i ∙ next-first i node cs (omega (arith, d)) (omega (arith, d))
+
+    pub aimed-bare : m ≡ 0 → Aimed None (λ i. next_is i (drop j (tree w)))
+    aimed-bare z i = first i ∙ ap (λ (b : Bool). b && next_is i cs) (some-none node.arity (sym e ∙ z))
+
+    pub aimed-first : (m ≡ 0 → ⊥) → (i : ℕ) → next_is i (drop j (tree w)) ≡ next_is i cs
+    aimed-first z i = first i ∙ ap (λ (b : Bool). b && next_is i cs) (some-yes node.arity (λ y. z (e ∙ y)))
 
 -- the words beside the set
 pub beside-self : (w : List ℕ) → Beside w w
@@ -94,17 +130,17 @@ module _ (w : List ℕ) (k : ℕ) where
       no true = refl
       no false = refl
 
-  module _ (a : aims (node_of w k).kind ≡ true) (m : (node_of w k).arity ≡ 0 → ⊥) (r : ℕ) (n : (i : ℕ) → i < 256 → next_is i (drop (k + 1) (tree w)) ≡ eqb r i) where
-    hits-is : (i : ℕ) → i < 256 → hits w k i ≡ eqb r i
-    hits-is i l = rw (a, some-yes (node_of w k).arity m) (ap (λ (j : ℕ). next_is i (drop j (tree w))) (sym (add-one k)) ∙ n i l)
+  module _ (a : aims (node_of w k).kind ≡ true) (m : (node_of w k).arity ≡ 0 → ⊥) where
+    hits-is : (i : ℕ) → hits w k i ≡ next_is i (drop (k + 1) (tree w))
+    hits-is i = rw (a, some-yes (node_of w k).arity m) (ap (λ (j : ℕ). next_is i (drop j (tree w))) (sym (add-one k)))
 
-    pub none-hit : 256 ≤ r → Scanned w w k
-    none-hit h = record { beside = beside-self w; here = λ i l. sym (ap (λ (b : Bool). b || yes (flag_at w 16016 i)) (hits-is i l ∙ no_number r i h l)) }
+    pub none-hit : Aimed None (λ i. next_is i (drop (k + 1) (tree w))) → Scanned w w k
+    none-hit n = record { beside = beside-self w; here = λ i l. sym (ap (λ (b : Bool). b || yes (flag_at w 16016 i)) (hits-is i ∙ n i)) }
 
-    pub one_hit : (u : List ℕ) → r < 256 → Flagged w u 16016 r → Scanned w u k
-    one_hit u h f = record {
+    pub one_hit : {r : ℕ} → Aimed (Some r) (λ i. next_is i (drop (k + 1) (tree w))) → (u : List ℕ) → Flagged w u 16016 r → Scanned w u k
+    one_hit n u f = record {
       beside = record { size = f.size; low = λ j l. f.other j (λ e. omega arith); high = λ j l. f.other j (λ e. omega arith) };
-      here = λ i l. f.here i l ∙ ap (λ (b : Bool). b || yes (flag_at w 16016 i)) (sym (hits-is i l));
+      here = λ i l. f.here i l ∙ ap (λ (b : Bool). b || yes (flag_at w 16016 i)) (sym (hits-is i ∙ n.1 i));
     }
 
 -- the set so far, with what the rest of the list targets, is all

@@ -1,5 +1,5 @@
 -- The set of targets in the words, node by node. Assumes nothing: these are definitions.
-use Rattle.std.specs.Prelude.{◌≡◌, List, Bool, ◌&&◌, ◌||◌, ℕ, suc, ◌≤◌, ◌<◌, length, get_or, drop}
+use Rattle.std.specs.Prelude.{◌≡◌, Option, Some, None, List, Bool, false, ◌&&◌, ◌||◌, ℕ, suc, eqb, ◌≤◌, ◌<◌, length, get_or, drop}
 use Rattle.def_pass.specs.Targets.{aims}
 use Rattle.laws_flat.specs.PassF.{some!, next_is, targets_l}
 use Rattle.words.specs.Flags.{flag_at}
@@ -17,6 +17,11 @@ pub record Beside (w u : List ℕ) : Type 0 where
   pub size : length u ≡ length w
   pub low : (j : ℕ) → j < 16016 → get_or u j 0 ≡ get_or w j 0
   pub high : (j : ℕ) → 16024 ≤ j → get_or u j 0 ≡ get_or w j 0
+
+-- the identifier for which the test holds, if it holds for one
+abbrev pub Aimed : Option ℕ → (ℕ → Bool) → Type 0
+Aimed (Some x) b = (x < 256) × ((i : ℕ) → b i ≡ eqb x i)
+Aimed None b = (i : ℕ) → b i ≡ false
 
 -- node k targets identifier i
 abbrev pub hits : List ℕ → ℕ → ℕ → Bool

@@ -2,12 +2,12 @@
 // working words.
 #![tactic(auto)]
 
-ghost use Rattle.std.specs.Prelude.{◌≡◌, ℕ, ◌≤◌, ◌<◌, eqb, length, get_or, drop};
+ghost use Rattle.std.specs.Prelude.{◌≡◌, ℕ, ◌≤◌, ◌<◌, length, get_or, drop};
 ghost use Rattle.def_pass.specs.Targets.{aims};
 ghost use Rattle.laws_flat.specs.PassF.{next_is};
 ghost use Rattle.words.specs.Layout.{tree};
 ghost use Rattle.words_scopes.specs.State.{Names};
-ghost use Rattle.words_targets.specs.Targets.{Script, Scanned, Targeted};
+ghost use Rattle.words_targets.specs.Targets.{Script, Aimed, Scanned, Targeted};
 
 use words::{arity_at, kind_at, layout, num_at, set_flag, wipe};
 
@@ -15,46 +15,28 @@ use words::{arity_at, kind_at, layout, num_at, set_flag, wipe};
 fn aims(k: u32) -> bool
     ensures { result ≡ aims k }
 {
-    if k == 33 {
-        return true;
-    }
-    if k == 31 {
-        return true;
-    }
-    if k == 13 {
-        return true;
-    }
-    k == 14
+    matches!(k, 13 | 14 | 31 | 33)
 }
 
 // The identifier that is targeted by what begins at node j: its own, if it is a binding or an identifier; that of its first child, if it is a
-// declaration or a declarator; 256 if there is none.
-fn aimed_at(w: &[u32], j: usize) -> u32
+// declaration or a declarator.
+fn aimed_at(w: &[u32], j: usize) -> Option<u32>
     requires { Script w.now }
-    ensures { (i : ℕ) → i < 256 → next_is i (drop j (tree w.now)) ≡ eqb result i }
+    ensures { Aimed result (λ i. next_is i (drop j (tree w.now))) }
 {
     let n = w[layout::NODE_COUNT] as usize;
-    let mut k = j;
-    while k < n {
-        let kind = kind_at(w, k);
-        if kind == 20 {
-            return num_at(w, k);
+    for k in j..n {
+        match kind_at(w, k) {
+            20 | 21 => return Some(num_at(w, k)),
+            5 | 6 => {
+                if arity_at(w, k) == 0 {
+                    return None;
+                }
+            }
+            _ => return None,
         }
-        if kind == 21 {
-            return num_at(w, k);
-        }
-        if kind < 5 {
-            return 256;
-        }
-        if 6 < kind {
-            return 256;
-        }
-        if arity_at(w, k) == 0 {
-            return 256;
-        }
-        k += 1;
     }
-    256
+    None
 }
 
 // The target of node k is put into the set, if it has one.
@@ -62,15 +44,11 @@ fn scan_node(w: &mut [u32], k: usize)
     requires { (Script w.old) × (k < get_or w.old 0 0) }
     ensures { Scanned w.old w.new k }
 {
-    let kind = kind_at(w, k);
-    if aims(kind) {
-        if arity_at(w, k) == 0 {
-            return;
-        }
-        let x = aimed_at(w, k + 1);
-        if x < 256 {
-            set_flag(w, layout::TARGETS, x as u8);
-        }
+    if !aims(kind_at(w, k)) || arity_at(w, k) == 0 {
+        return;
+    }
+    if let Some(x) = aimed_at(w, k + 1) {
+        set_flag(w, layout::TARGETS, x as u8);
     }
 }
 
@@ -81,9 +59,7 @@ pub fn mark_targets(w: &mut [u32])
 {
     wipe(w, layout::TARGETS, 8);
     let n = w[layout::NODE_COUNT] as usize;
-    let mut k: usize = 0;
-    while k < n {
+    for k in 0..n {
         scan_node(w, k);
-        k += 1;
     }
 }

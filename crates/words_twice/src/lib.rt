@@ -19,70 +19,41 @@ use words_nodes::{put_node, skip};
 fn is_function(k: u32) -> bool
     ensures { result ≡ is_function k }
 {
-    if k == 7 {
-        return true;
-    }
-    if k == 39 {
-        return true;
-    }
-    k == 40
+    matches!(k, 7 | 39 | 40)
 }
 
 // How many of the c children of a function stand outside it: its name, if it has one.
 fn outside(k: u32, f: u32, c: usize) -> usize
     ensures { result ≡ outside k f c }
 {
-    if c == 0 {
-        return 0;
+    if 0 < c && (k == 7 || (k == 39 && f == 1)) {
+        1
+    } else {
+        0
     }
-    if k == 7 {
-        return 1;
-    }
-    if k == 39 {
-        if f == 1 {
-            return 1;
-        }
-    }
-    0
 }
 
-// 1 if the node at j is a binding of x, else 0.
-fn binds(w: &[u32], j: usize, x: u32) -> usize
+// Is the node at j a binding of x.
+fn binds(w: &[u32], j: usize, x: u32) -> bool
     requires { (Planted w.now) × (j < size w.now) }
-    ensures { result ≡ to_nat (binds x (some (tree_from (tree w.now) j))) }
+    ensures { result ≡ binds x (some (tree_from (tree w.now) j)) }
 {
-    if kind_at(w, j) != 20 {
-        return 0;
-    }
-    if num_at(w, j) != x {
-        return 0;
-    }
-    1
+    kind_at(w, j) == 20 && num_at(w, j) == x
 }
 
-// 1 if the declarator at j declares x, and, unless all are counted, with an initialiser that is no literal; else 0.
-fn declares(w: &[u32], j: usize, x: u32, all: bool) -> usize
+// Does the declarator at j declare x, and, unless all are counted, with an initialiser that is no literal.
+fn declares(w: &[u32], j: usize, x: u32, all: bool) -> bool
     requires { (Planted w.now) × (j < size w.now) }
-    ensures { result ≡ tally all (declarators x (cons (tree_from (tree w.now) j) nil)) }
+    ensures { to_nat result ≡ tally all (declarators x (cons (tree_from (tree w.now) j) nil)) }
 {
     let c = arity_at(w, j);
-    if c == 0 {
-        return 0;
-    }
-    if binds(w, j + 1, x) == 0 {
-        return 0;
+    if c == 0 || !binds(w, j + 1, x) {
+        return false;
     }
     if all {
-        return 1;
+        return true;
     }
-    if c == 1 {
-        return 0;
-    }
-    let e = skip(w, j + 1);
-    if kind_at(w, e) == 22 {
-        return 0;
-    }
-    1
+    c != 1 && kind_at(w, skip(w, j + 1)) != 22
 }
 
 // How many of the n declarators from i on do.
@@ -92,11 +63,11 @@ fn declarators(w: &[u32], i: usize, n: usize, x: u32, all: bool) -> usize
 {
     let mut sum: usize = 0;
     let mut at = i;
-    let mut more = n;
-    while 0 < more {
-        sum += declares(w, at, x, all);
+    for _k in 0..n {
+        if declares(w, at, x, all) {
+            sum += 1;
+        }
         at = skip(w, at);
-        more -= 1;
     }
     sum
 }
@@ -106,10 +77,7 @@ fn var_at(w: &[u32], j: usize, x: u32, all: bool) -> usize
     requires { (Planted w.now) × (j < size w.now) }
     ensures { result ≡ tally all (own x (tree_from (tree w.now) j)) }
 {
-    if kind_at(w, j) != 5 {
-        return 0;
-    }
-    if form_at(w, j) != 0 {
+    if kind_at(w, j) != 5 || form_at(w, j) != 0 {
         return 0;
     }
     let n = arity_at(w, j) as usize;
@@ -124,6 +92,7 @@ fn vars(w: &[u32], i: usize, n: usize, x: u32, all: bool) -> usize
     let mut sum: usize = 0;
     let mut at = i;
     let mut more = n;
+    // A while: the index moves by a subtree's length.
     while 0 < more {
         let kind = kind_at(w, at);
         if is_function(kind) {
@@ -145,11 +114,11 @@ fn params(w: &[u32], i: usize, n: usize, x: u32) -> usize
 {
     let mut sum: usize = 0;
     let mut at = i;
-    let mut more = n;
-    while 0 < more {
-        sum += binds(w, at, x);
+    for _k in 0..n {
+        if binds(w, at, x) {
+            sum += 1;
+        }
         at = skip(w, at);
-        more -= 1;
     }
     sum
 }
@@ -162,11 +131,7 @@ fn twice(w: &[u32], i: usize, n: usize, x: u32) -> bool
 {
     let p = params(w, i, n, x);
     let v = vars(w, i, n, x, true);
-    if p + v < 2 {
-        return false;
-    }
-    let e = vars(w, i, n, x, false);
-    0 < e
+    2 <= p + v && 0 < vars(w, i, n, x, false)
 }
 
 // The node at j, if it is a binding that the m trees from a on declare twice, is flagged: 2 on its form.
@@ -193,6 +158,7 @@ fn flags(w: &mut [u32], i: usize, n: usize, a: usize, m: usize) -> usize
 {
     let mut at = i;
     let mut more = n;
+    // A while: the index moves by a subtree's length.
     while 0 < more {
         let k = kind_at(w, at);
         let c = arity_at(w, at) as usize;

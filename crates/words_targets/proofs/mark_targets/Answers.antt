@@ -13,20 +13,17 @@ pub overflow_cast-n : goal.overflow_cast-n
 overflow_cast-n c = omega (arith, c.requires.few, c.wipe.ensures.low 0 (omega arith))
 
 pub loop-k-init : goal.loop-k-init
-loop-k-init c = (laws.beside-self c.wipe.new.w, omega arith, laws.sum-start c.wipe.ensures)
+loop-k-init c = (laws.beside-self c.wipe.new.w, laws.sum-start c.wipe.ensures)
 
 pub scan_node-requires : goal.scan_node-requires
 scan_node-requires c =
     let s = laws.beside-script c.requires (laws.zeroed-beside c.wipe.ensures) in
     (laws.beside-script s c.loop-k.invariant.0, omega (arith, c.loop-k.invariant.0.low 0 (omega arith)))
 
-pub overflow_add-k : goal.overflow_add-k
-overflow_add-k c = omega (arith, c.requires.few, c.wipe.ensures.low 0 (omega arith))
-
 pub loop-k-preserved : goal.loop-k-preserved
 loop-k-preserved c =
     let s = laws.beside-script c.requires (laws.zeroed-beside c.wipe.ensures) in
-    (laws.beside-then c.loop-k.invariant.0 c.scan_node.ensures.beside, omega arith, laws.sum_step c.loop-k.k s c.loop-k.invariant.0 (omega arith) c.loop-k.invariant.2 c.scan_node.ensures)
+    (laws.beside-then c.loop-k.invariant.0 c.scan_node.ensures.beside, laws.sum_step c.loop-k.k s c.loop-k.invariant.0 (omega arith) c.loop-k.invariant.1 c.scan_node.ensures)
 
 pub shape_of-w : goal.shape_of-w
 shape_of-w c = omega (arith, c.loop-k.invariant.0.size, c.wipe.ensures.size)
@@ -34,4 +31,4 @@ shape_of-w c = omega (arith, c.loop-k.invariant.0.size, c.wipe.ensures.size)
 pub returns : goal.returns
 returns c =
     let s = laws.beside-script c.requires (laws.zeroed-beside c.wipe.ensures) in
-    laws.from-wiped c.requires c.wipe.ensures (laws.all-targets c.loop-k.k s c.loop-k.invariant.0 (omega arith) c.loop-k.invariant.2)
+    laws.from-wiped c.requires c.wipe.ensures (laws.all-targets c.loop-k.k s c.loop-k.invariant.0 (omega arith) c.loop-k.invariant.1)
