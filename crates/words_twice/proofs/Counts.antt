@@ -7,6 +7,7 @@ use Prim.Native.Nat.{ℕ, suc, ◌+◌, ◌-◌, ◌≤◌, ◌<◌}
 use native.Mathlib.Omega.{arith}
 use borrow.Author.Tests.{lt-ltb, le-ltb}
 use lib.Dec.{eqb, ltb}
+use mir.Val.{bool_byte}
 use lib.ListN.{length, get_or, length-append}
 use Rattle.def_tree.specs.Base.{pick, to_nat}
 use Rattle.def_tree.specs.Tree.{Tree, Forest, node, nil, cons, kind, kids, length_f, count, counts, tail_f, Core, no_core}
@@ -48,6 +49,10 @@ pub record Tallied (f : Forest → ℕ) (xs : List Core) (i n sum at more : ℕ)
 pub tallied-none : (f : Forest → ℕ) {xs : List Core} {i n : ℕ} → Open xs i n → Tallied f xs i n 0 i n
 tallied-none f o = record { still = o; is = omega arith }
 
+-- the same of a loop that has looked at k of the n trees
+pub tallied-first : (f : Forest → ℕ) {xs : List Core} {i n : ℕ} → Open xs i n → Tallied f xs i n 0 i (n - 0)
+tallied-first f {xs} {i} {n} o = let e : n - 0 ≡ n = omega arith in rw e (tallied-none f o)
+
 module _ {f : Forest → ℕ} {xs : List Core} {i n sum at more : ℕ} (h : Tallied f xs i n sum at more) where
   pub tallied-all : more ≡ 0 → f nil ≡ 0 → sum ≡ f (forest_from xs n i)
   tallied-all z e = let q : f (forest_from xs more at) ≡ 0 = ap f (ap (λ (k : ℕ). forest_from xs k at) z ∙ forest-none xs at) ∙ e in omega (arith, h.is)
@@ -62,6 +67,15 @@ module _ {f : Forest → ℕ} {xs : List Core} {i n sum at more : ℕ} (h : Tall
   -- the sum is at most the nodes
   pub tallied-le : (f (forest_from xs n i) ≤ counts (forest_from xs n i)) → sum ≤ length xs
   tallied-le l = omega (arith, h.is, l, counts-forest xs n i)
+
+module _ {f : Forest → ℕ} {xs : List Core} {i n sum at k : ℕ} (h : Tallied f xs i n sum at (n - k)) (w : Whole xs) (z : k < n) where
+  pub tallied-next : (r : ℕ) {next : ℕ} → ((ts : Forest) → f (cons (tree_from xs at) ts) ≡ r + f ts) → next ≡ at + count (tree_from xs at) → Tallied f xs i n (sum + r) next (n - (k + 1))
+  tallied-next r {next} e q = let m : n - (k + 1) ≡ n - k - 1 = omega arith in rw m (tallied-past h w (omega arith) r e q)
+
+-- 1 for yes, 0 for no, as `usize::from` and as the definition count
+pub counted : (b : Bool) {r : ℕ} → r ≡ bool_byte b → r ≡ to_nat b
+counted true e = e
+counted false e = e
 
 -- one declarator
 module _ (c : Bool) (i : ℕ) where

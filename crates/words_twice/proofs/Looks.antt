@@ -51,25 +51,18 @@ module _ {w : List ℕ} (g : Planted w) {j : ℕ} (l : j < get_or w 0 0) where
   binds-is : (x : ℕ) → binds x (some t) ≡ (eqb n.kind 20 && eqb n.num x)
   binds-is x = ap (λ (u : Tree). binds x (some u)) node-tree
 
-  pub binds-other : (x : ℕ) → (n.kind ≡ 20 → ⊥) → 0 ≡ to_nat (binds x (some t))
-  binds-other x h = sym (ap to_nat (binds-is x ∙ ap (λ (b : Bool). b && eqb n.num x) (ne_eqb n.kind 20 h)))
+  pub binds-kind : (x : ℕ) {k : ℕ} → k ≡ n.kind → (k ≡ 20 → ⊥) → eqb k 20 ≡ binds x (some t)
+  binds-kind x {k} q h = ne_eqb k 20 h ∙ sym (binds-is x ∙ ap (λ (b : Bool). b && eqb n.num x) (ap (λ (m : ℕ). eqb m 20) (sym q) ∙ ne_eqb k 20 h))
 
-  module _ (x : ℕ) (e : n.kind ≡ 20) where
-    binds-num : binds x (some t) ≡ eqb n.num x
-    binds-num = binds-is x ∙ ap (λ (b : Bool). b && eqb n.num x) (eq-eqb n.kind 20 e)
-
-    pub binds-far : (n.num ≡ x → ⊥) → 0 ≡ to_nat (binds x (some t))
-    binds-far h = sym (ap to_nat (binds-num ∙ ne_eqb n.num x h))
-
-    pub binds-it : n.num ≡ x → 1 ≡ to_nat (binds x (some t))
-    binds-it h = sym (ap to_nat (binds-num ∙ eq-eqb n.num x h))
+  pub binds-by : (x : ℕ) {k m : ℕ} → k ≡ n.kind → k ≡ 20 → m ≡ n.num → eqb m x ≡ binds x (some t)
+  binds-by x {k} q e s = ap (λ (m : ℕ). eqb m x) s ∙ sym (binds-is x ∙ ap (λ (b : Bool). b && eqb n.num x) (ap (λ (m : ℕ). eqb m 20) (sym q) ∙ eq-eqb k 20 e))
 
   -- a declarator
   module _ (all : Bool) (x : ℕ) {c : ℕ} (ec : c ≡ n.arity) where
-    abbrev Is : ℕ → Type 0
-    Is r = r ≡ tally all (declarators x (cons t nil))
+    abbrev Is : Bool → Type 0
+    Is r = to_nat r ≡ tally all (declarators x (cons t nil))
 
-    pub declares-none : c ≡ 0 → Is 0
+    pub declares-none : c ≡ 0 → Is false
     declares-none z =
         let e : kids t ≡ nil = node-kids ∙ ap (λ (k : ℕ). forest_from (tree w) k (j + 1)) (sym ec ∙ z) ∙ forest-none (tree w) (j + 1) in
         sym (declarator-none all x t (ap (λ (ts : Forest). binds x (head_t ts)) e))
@@ -93,33 +86,25 @@ module _ {w : List ℕ} (g : Planted w) {j : ℕ} (l : j < get_or w 0 0) where
       head-is : binds x (head_t (kids t)) ≡ first
       head-is = ap (λ (ts : Forest). binds x (head_t ts)) split
 
-      module _ {r : ℕ} (er : r ≡ to_nat first) where
-        pub declares-other : r ≡ 0 → Is 0
-        declares-other o = sym (declarator-none all x t (head-is ∙ go first (sym er ∙ o)))
-          where
-            go : (b : Bool) → to_nat b ≡ 0 → b ≡ false
-            go true q = absurd (omega arith)
-            go false q = refl
+      module _ {r : Bool} (er : r ≡ first) where
+        pub declares-other : r ≡ false → Is false
+        declares-other o = sym (declarator-none all x t (head-is ∙ sym er ∙ o))
 
-        module _ (o : r ≡ 0 → ⊥) where
+        module _ (o : r ≡ true) where
           bound : tally all (declarators x (cons t nil)) ≡ to_nat (all || no_literal (head_t (forest_from (tree w) (n.arity - 1) e)))
-          bound = declarator-is all x t (head-is ∙ go first (λ q. o (er ∙ q))) ∙ ap (λ (ts : Forest). to_nat (all || no_literal (head_t (tail_f ts)))) split
-            where
-              go : (b : Bool) → (to_nat b ≡ 0 → ⊥) → b ≡ true
-              go true q = refl
-              go false q = absurd (q refl)
+          bound = declarator-is all x t (head-is ∙ sym er ∙ o) ∙ ap (λ (ts : Forest). to_nat (all || no_literal (head_t (tail_f ts)))) split
 
-          pub declares-all : all ≡ true → Is 1
+          pub declares-all : all ≡ true → Is true
           declares-all a = sym (bound ∙ ap (λ (b : Bool). to_nat (b || no_literal (head_t (forest_from (tree w) (n.arity - 1) e)))) a)
 
           module _ (a : all ≡ false) where
             bound_by : tally all (declarators x (cons t nil)) ≡ to_nat (no_literal (head_t (forest_from (tree w) (n.arity - 1) e)))
             bound_by = bound ∙ ap (λ (b : Bool). to_nat (b || no_literal (head_t (forest_from (tree w) (n.arity - 1) e)))) a
 
-            pub declares-bare : c ≡ 1 → Is 0
+            pub declares-bare : c ≡ 1 → Is (not (eqb c 1))
             declares-bare q =
                 let m : n.arity - 1 ≡ 0 = omega (arith, ec) in
-                sym (bound_by ∙ ap (λ (ts : Forest). to_nat (no_literal (head_t ts))) (ap (λ (k : ℕ). forest_from (tree w) k e) m ∙ forest-none (tree w) e))
+                ap (λ (b : Bool). to_nat (not b)) (eq-eqb c 1 q) ∙ sym (bound_by ∙ ap (λ (ts : Forest). to_nat (no_literal (head_t ts))) (ap (λ (k : ℕ). forest_from (tree w) k e) m ∙ forest-none (tree w) e))
 
             module _ (q : c ≡ 1 → ⊥) where
               second-open : Open (tree w) e (n.arity - 1)
@@ -136,11 +121,8 @@ module _ {w : List ℕ} (g : Planted w) {j : ℕ} (l : j < get_or w 0 0) where
                   ap (λ (ts : Forest). no_literal (head_t ts)) (forest-cons (tree-whole g) second-open more_kids)
                   ∙ ap (λ (u : Tree). not (is_lit u)) (tree_is (tree w) e (rw tree-length second-in)) ∙ ap (λ (y : Core). not (eqb y.kind 22)) (tree-at w e second-in)
 
-              pub declares-literal : (node_of w e).kind ≡ 22 → Is 0
-              declares-literal h = sym (bound_by ∙ ap to_nat (value-is ∙ ap not (eq-eqb (node_of w e).kind 22 h)))
-
-              pub declares-value : ((node_of w e).kind ≡ 22 → ⊥) → Is 1
-              declares-value h = sym (bound_by ∙ ap to_nat (value-is ∙ ap not (ne_eqb (node_of w e).kind 22 h)))
+              pub declares-value : {k : ℕ} → k ≡ (node_of w e).kind → Is (not (eqb k 22))
+              declares-value h = sym (bound_by ∙ ap to_nat (value-is ∙ ap (λ (k : ℕ). not (eqb k 22)) (sym h)))
 
   -- a `var`
   module _ (all : Bool) (x : ℕ) where

@@ -64,9 +64,7 @@ fn declarators(w: &[u32], i: usize, n: usize, x: u32, all: bool) -> usize
     let mut sum: usize = 0;
     let mut at = i;
     for _k in 0..n {
-        if declares(w, at, x, all) {
-            sum += 1;
-        }
+        sum += usize::from(declares(w, at, x, all));
         at = skip(w, at);
     }
     sum
@@ -115,9 +113,7 @@ fn params(w: &[u32], i: usize, n: usize, x: u32) -> usize
     let mut sum: usize = 0;
     let mut at = i;
     for _k in 0..n {
-        if binds(w, at, x) {
-            sum += 1;
-        }
+        sum += usize::from(binds(w, at, x));
         at = skip(w, at);
     }
     sum

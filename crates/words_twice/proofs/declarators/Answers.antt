@@ -13,23 +13,20 @@ use Rattle.words_twice.proofs.Counts as counts
 use Rattle.words_twice.proofs.Looks as looks
 use Rattle.words_twice.proofs.declarators.Goals as goal
 
-pub loop-more-init : goal.loop-more-init
-loop-more-init c = counts.tallied-none (λ (ts : Forest). tally c.args.all (declarators c.args.x ts)) (stand-open c.requires.1)
+pub loop-k-init : goal.loop-k-init
+loop-k-init c = counts.tallied-first (λ (ts : Forest). tally c.args.all (declarators c.args.x ts)) (stand-open c.requires.1)
 
-pub declares-sum-requires : goal.declares-sum-requires
-declares-sum-requires c = (c.requires.0, in_tree c.requires.0 c.loop-more.invariant.still (omega arith))
+pub declares-requires : goal.declares-requires
+declares-requires c = (c.requires.0, in_tree c.requires.0 c.loop-k.invariant.still (omega (arith, c.loop-k-test.true)))
 
 pub overflow_add-sum : goal.overflow_add-sum
-overflow_add-sum c = omega (arith, looks.sum-few c.requires.0 {f = λ (ts : Forest). tally c.args.all (declarators c.args.x ts)} (counts.declarators-few c.args.x c.args.all) (counts.tallied-past c.loop-more.invariant (tree-whole c.requires.0) (omega arith) c.declares-sum.result (λ ts. counts.one-declarator c.args.all c.args.x (tree_from (tree c.args.w.now) c.loop-more.at) ts ∙ ap (λ (r : ℕ). r + tally c.args.all (declarators c.args.x ts)) (sym c.declares-sum.ensures)) refl))
+overflow_add-sum c = omega (arith, looks.sum-few c.requires.0 {f = λ (ts : Forest). tally c.args.all (declarators c.args.x ts)} (counts.declarators-few c.args.x c.args.all) (counts.tallied-next c.loop-k.invariant (tree-whole c.requires.0) c.loop-k-test.true c.from-sum.result (λ ts. counts.one-declarator c.args.all c.args.x (tree_from (tree c.args.w.now) c.loop-k.at) ts ∙ ap (λ (r : ℕ). r + tally c.args.all (declarators c.args.x ts)) (sym (counts.counted c.declares.result c.from-sum.ensures ∙ c.declares.ensures))) refl))
 
 pub skip-at-requires : goal.skip-at-requires
-skip-at-requires c = (c.requires.0, in_tree c.requires.0 c.loop-more.invariant.still (omega arith))
+skip-at-requires c = (c.requires.0, in_tree c.requires.0 c.loop-k.invariant.still (omega (arith, c.loop-k-test.true)))
 
-pub loop-more-smaller : goal.loop-more-smaller
-loop-more-smaller c = omega (arith, in_tree c.requires.0 c.loop-more.invariant.still (omega arith), c.skip-at.ensures.1)
-
-pub loop-more-preserved : goal.loop-more-preserved
-loop-more-preserved c = counts.tallied-past c.loop-more.invariant (tree-whole c.requires.0) (omega arith) c.declares-sum.result (λ ts. counts.one-declarator c.args.all c.args.x (tree_from (tree c.args.w.now) c.loop-more.at) ts ∙ ap (λ (r : ℕ). r + tally c.args.all (declarators c.args.x ts)) (sym c.declares-sum.ensures)) c.skip-at.ensures.0
+pub loop-k-preserved : goal.loop-k-preserved
+loop-k-preserved c = counts.tallied-next c.loop-k.invariant (tree-whole c.requires.0) c.loop-k-test.true c.from-sum.result (λ ts. counts.one-declarator c.args.all c.args.x (tree_from (tree c.args.w.now) c.loop-k.at) ts ∙ ap (λ (r : ℕ). r + tally c.args.all (declarators c.args.x ts)) (sym (counts.counted c.declares.result c.from-sum.ensures ∙ c.declares.ensures))) c.skip-at.ensures.0
 
 pub returns : goal.returns
-returns c = counts.tallied-all c.loop-more.invariant (omega arith) refl
+returns c = counts.tallied-all c.loop-k.invariant (omega (arith, c.loop-k-test.false)) refl

@@ -1,6 +1,5 @@
 -- Tree by tree. Assumes nothing.
 use Prim.Native.Nat.{◌-◌}
-use lib.ListN.{get_or}
 use Rattle.def_tree.specs.Tree.{Forest}
 use Rattle.def_pass.specs.Twice.{declarators}
 use Rattle.words.specs.Layout.{tree}
@@ -8,8 +7,5 @@ use Rattle.words_twice.specs.Twice.{tally}
 use Rattle.words_twice.proofs.Counts as counts
 use Rattle.words_twice.proofs.declarators.Given as goal
 
-abbrev pub invariant-loop-more : goal.invariant-loop-more
-invariant-loop-more l = counts.Tallied (λ (ts : Forest). tally l.all (declarators l.x ts)) (tree l.w) l.i l.n l.sum l.at l.more
-
-abbrev pub decreases-loop-more : goal.decreases-loop-more
-decreases-loop-more l = get_or l.w 0 0 - l.at
+abbrev pub invariant-loop-k : goal.invariant-loop-k
+invariant-loop-k l = counts.Tallied (λ (ts : Forest). tally l.all (declarators l.x ts)) (tree l.w) l.i l.n l.sum l.at (l.n - l._k)

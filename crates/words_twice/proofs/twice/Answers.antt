@@ -17,11 +17,11 @@ vars-v-requires c = c.requires
 pub overflow_add-p : goal.overflow_add-p
 overflow_add-p c = omega (arith, c.params-p.ensures, c.vars-v.ensures, counts.params-few c.args.x (forest_from (tree c.args.w.now) c.args.n c.args.i), counts.vars-few c.args.x true (forest_from (tree c.args.w.now) c.args.n c.args.i), counts-forest (tree c.args.w.now) c.args.n c.args.i, tree-length c.args.w.now, c.requires.0.good.nodes)
 
-pub returns-then-p-v-lt2 : goal.returns-then-p-v-lt2
-returns-then-p-v-lt2 c = counts.once c.args.x (forest_from (tree c.args.w.now) c.args.n c.args.i) c.params-p.ensures c.vars-v.ensures c.if-p-v-lt2.true
+pub vars-requires : goal.vars-requires
+vars-requires c = c.requires
 
-pub vars-e-requires : goal.vars-e-requires
-vars-e-requires c = c.requires
+pub returns-then-p-v-ge2 : goal.returns-then-p-v-ge2
+returns-then-p-v-ge2 c = counts.more-than-once c.args.x (forest_from (tree c.args.w.now) c.args.n c.args.i) c.params-p.ensures c.vars-v.ensures c.if-p-v-ge2.true c.vars.ensures
 
-pub returns : goal.returns
-returns c = counts.more-than-once c.args.x (forest_from (tree c.args.w.now) c.args.n c.args.i) c.params-p.ensures c.vars-v.ensures c.if-p-v-lt2.false c.vars-e.ensures
+pub returns-else-p-v-ge2 : goal.returns-else-p-v-ge2
+returns-else-p-v-ge2 c = le-ltb 1 (c.params-p.result + c.vars-v.result) (omega (arith, c.if-p-v-ge2.false)) ∙ counts.once c.args.x (forest_from (tree c.args.w.now) c.args.n c.args.i) c.params-p.ensures c.vars-v.ensures c.if-p-v-ge2.false
