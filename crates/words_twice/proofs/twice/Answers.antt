@@ -1,5 +1,7 @@
 -- All of them, then those whose initialiser is no literal. Assumes nothing.
 use mathlib.Core.Bool.{true}
+use mathlib.Core.Path.{◌∙◌}
+use borrow.Author.Tests.{le-ltb}
 use native.Mathlib.Omega.{arith}
 use Rattle.words.specs.Layout.{tree}
 use Rattle.words.proofs.Nodes.{tree-length}
