@@ -18,7 +18,8 @@ use Rattle.words.proofs.Nodes.{run_length, tree-length, tree-at}
 use Rattle.words_scopes.specs.State.{Good, Past, Others, Becomes, split, heads, flags, binds, consts, stack, bind_at, len_at, off, coff, run_at, value_of, run_of, var_type_of, alias_at, place}
 use Rattle.words_scopes.proofs.Split as laws
 use Rattle.words_scopes.proofs.Words.{Kept, kept-heads, kept-flags, kept-consts, kept-tree, kept-good, bind-eq}
-use Rattle.scope_values.specs.Steps.{Listed, Still, Spliced, over, put_at, Grown}
+use Rattle.words.specs.declared.Run.{Run}
+use Rattle.scope_values.specs.Steps.{Listed, Still, Spliced, over, put_at, Grown, Offered, run_value}
 use Rattle.scope_values.proofs.Count.{depth_is, count-whole, nodes_b, total-set, recorded-split, live-split, recorded-is, live-is, total-binds, total-consts, length-binds, length-consts, fits-binds, fits-consts, nodes-bind}
 use Rattle.scope_values.proofs.Store as store
 use Rattle.refusal.specs.declared.Refusal.{Refusal}
@@ -115,9 +116,28 @@ room r l e = let n = neither (ltb 512 r) (ltb 256 l) e in (ltb-false 512 r n.0, 
 pub count-tree : (w : List ℕ) (i m : ℕ) → run_of (value_of (run w 16 i m)) ≡ run w 16 i m → count_o (value_of (run w 16 i m)) ≡ m
 count-tree w i m q = count-whole (run w 16 i m) q ∙ run_length w 16 i m
 
-module _ (w : List ℕ) (g : Good w) (k i m : ℕ) (h : k < get_or w 1 0) (q : run_of (value_of (run w 16 i m)) ≡ run w 16 i m) (x : ℕ) (e : place x (heads w) (binds w) ≡ suc k) where
-  pub over-value : over (change x (with_value (value_of (run w 16 i m))) (stack w)) ≡ (ltb 512 (recorded_nodes (stack w) - len_at w k + m) || ltb 256 (live (stack w) + 0))
-  over-value = ap over (change-at w k h x (with_value (value_of (run w 16 i m))) e) ∙ over-put w k h g (with_value (value_of (run w 16 i m)) (bind_at w k)) ∙ ap (λ (n : ℕ). ltb 512 (recorded_nodes (stack w) - len_at w k + n) || ltb 256 (live (stack w) + 0)) (count-tree w i m q)
+-- a run of the tree in place of the value of binding k: what `passes` and `set_run` ask, and what `passes` tells
+module _ (w : List ℕ) (g : Good w) (k : ℕ) (h : k < get_or w 1 0) (r : Run) (o : Offered w r) where
+  pub passes-asks : Good w × (len_at w k ≤ recorded_nodes (stack w)) × (r.len ≤ 1024) × (0 ≤ 1)
+  passes-asks = let part = sum-part (λ j. len_at w j) k (get_or w 1 0) h in (g, omega (arith, recorded-is w g), omega (arith, g.nodes, o.inside), omega arith)
+
+  pub set-asks : (p : Bool) → p ≡ (ltb 512 (recorded_nodes (stack w) - len_at w k + r.len) || ltb 256 (live (stack w) + 0)) → p ≡ false
+      → Good w × (k < get_or w 1 0) × Offered w r × (r.len + (off w (get_or w 1 0) + coff w (get_or w 3 0)) ≤ 512 + len_at w k)
+  set-asks p is e =
+      let part = passes-asks.1 in
+      let l = room (recorded_nodes (stack w) - len_at w k + r.len) (live (stack w) + 0) (sym is ∙ e) in
+      (g, h, o, omega (arith, l.0, recorded-is w g))
+
+  pub over-run : over (put_at w k (with_value (run_value w r) (bind_at w k))) ≡ (ltb 512 (recorded_nodes (stack w) - len_at w k + r.len) || ltb 256 (live (stack w) + 0))
+  over-run = over-put w k h g (with_value (run_value w r) (bind_at w k)) ∙ ap (λ (n : ℕ). ltb 512 (recorded_nodes (stack w) - len_at w k + n) || ltb 256 (live (stack w) + 0)) (count-tree w r.at r.len o.one)
+
+  -- it is the innermost of x
+  module _ (x : ℕ) (e : place x (heads w) (binds w) ≡ suc k) where
+    pub over-value : over (change x (with_value (run_value w r)) (stack w)) ≡ (ltb 512 (recorded_nodes (stack w) - len_at w k + r.len) || ltb 256 (live (stack w) + 0))
+    over-value = ap over (change-at w k h x (with_value (run_value w r)) e) ∙ over-run
+
+    pub value-becomes : {w' : List ℕ} → Listed w w' (set (binds w) k (with_value (run_value w r) (bind_at w k))) (consts w) → Becomes w w' (change x (with_value (run_value w r)) (stack w))
+    value-becomes = listed-becomes (change x (with_value (run_value w r)) (stack w)) (change-at w k h x (with_value (run_value w r)) e)
 
 -- good words are within row 9: a step to them is not refused
 pub good-under : (w : List ℕ) → Good w → over (stack w) ≡ false
