@@ -14,7 +14,7 @@ use Rattle.def_tree.proofs.Whole.{Whole as Whole', whole_drop}
 use Rattle.def_pass.specs.Tree.{void_zero}
 use Rattle.words.specs.Tab.{tab-suc, tab-ext, set-tab}
 use Rattle.words.specs.Layout.{core_from, node_of, run, tree}
-use Rattle.words.specs.Moved.{Moved, Put4}
+use Rattle.words.specs.Moved.{Moved, Put}
 use Rattle.words.proofs.Nodes.{core-same, tree-length, tree-at, run_length, run-at, unpack-kind, unpack-form, unpack-arity}
 use Rattle.words_scopes.specs.State.{Names, Whole, value_of, run_of}
 use Rattle.words_nodes.specs.Nodes.{tree_from, Trees, Planted, Child, put_at, cut_at, Apart, NodePut, Slid, Replants}
@@ -167,7 +167,7 @@ module _ {w u : List ℕ} {i old m : ℕ} (a : Slid w u i old m) (l : i + old �
         high = λ j q. let e : i + length (run w base at m) + j ≡ i + m + j = omega arith in rw e (copied-high src i m s f' (i + m + j) (omega arith) ∙ a.high j q);
       }
 
-pub void-spliced : {w u v : List ℕ} {i old : ℕ} → Slid w u i old 2 → i + old ≤ get_or w 0 0 → get_or w 0 0 + 2 ≤ 1024 + old → Put4 u v (16 + i * 2) 2078 0 22 0 → Spliced w v i old (flat void_zero [])
+pub void-spliced : {w u v : List ℕ} {i old : ℕ} → Slid w u i old 2 → i + old ≤ get_or w 0 0 → get_or w 0 0 + 2 ≤ 1024 + old → Put u v (16 + i * 2) (2078 ∷ 0 ∷ 22 ∷ 0 ∷ []) → Spliced w v i old (flat void_zero [])
 void-spliced {w} {u} {v} {i} {old} a l f s = record {
   apart = apart-then a.apart (record { size = s.size; low = λ j x y. s.low j (omega arith); high = λ j x. s.high j (omega arith) });
   count = s.low 0 (omega arith) ∙ a.count;
@@ -177,8 +177,8 @@ void-spliced {w} {u} {v} {i} {old} a l f s = record {
 }
   where
     new : (j : ℕ) → j < 2 → node_of v (i + j) ≡ get_or (flat void_zero []) j no_core
-    new zero h = let e : 16 + (i + 0) * 2 ≡ 16 + i * 2 = omega arith in rw (e, s.at0, s.at1) refl
-    new (suc zero) h = let e : 16 + (i + 1) * 2 ≡ 16 + i * 2 + 2 = omega arith in let e1 : 16 + i * 2 + 2 + 1 ≡ 16 + i * 2 + 3 = omega arith in rw (e, s.at2, e1, s.at3) refl
+    new zero h = let e : 16 + (i + 0) * 2 ≡ 16 + i * 2 + 0 = omega arith in let e1 : 16 + i * 2 + 0 + 1 ≡ 16 + i * 2 + 1 = omega arith in rw (e, s.here 0 (omega arith), e1, s.here 1 (omega arith)) refl
+    new (suc zero) h = let e : 16 + (i + 1) * 2 ≡ 16 + i * 2 + 2 = omega arith in let e1 : 16 + i * 2 + 2 + 1 ≡ 16 + i * 2 + 3 = omega arith in rw (e, s.here 2 (omega arith), e1, s.here 3 (omega arith)) refl
     new (suc (suc j)) h = absurd (omega arith)
 
 pub node-stored : (w : List ℕ) (k kind form arity num : ℕ) → 16384 ≤ length w → k < 1024 → kind < 64 → form < 32 → arity < 65536 → NodePut w (set (set w (16 + k * 2) (kind + 64 * (form + 32 * arity))) (16 + k * 2 + 1) num) k (core kind form arity num)

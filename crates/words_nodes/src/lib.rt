@@ -9,7 +9,7 @@ ghost use Rattle.words_scopes.specs.State.{Whole};
 ghost use Rattle.words_nodes.specs.Nodes.{Planted, Trees, Child, tree_from, value_from, put_at, cut_at, Measured, Swapped, Apart, NodePut, Slid, Replants, size};
 
 use refusal::Refusal;
-use words::{arity_at, kind_at, layout, put, shift};
+use words::{Run, arity_at, kind_at, layout, put, shift};
 
 // The index behind the subtree at i.
 pub fn skip(w: &[u32], i: usize) -> usize
@@ -103,34 +103,27 @@ fn slide(w: &mut [u32], i: usize, old: usize, m: usize)
     w[layout::NODE_COUNT] = (n + m - old) as u32;
 }
 
-// The subtree of `old` nodes at i gives way to the m nodes from `at` on of the store at word `base`.
-pub fn put_run(w: &mut [u32], i: usize, old: usize, base: usize, at: usize, m: usize)
-    requires { (Planted w.old) × (i < size w.old) × (old ≡ count (tree_from (tree w.old) i)) × (size w.old + m ≤ 1024 + old) × (2064 ≤ base) × (base + (at + m) * 2 ≤ length w.old) × (0 < m) × (Whole (run w.old base at m)) }
-    ensures { Replants w.old w.new (put_at (tree w.old) i (value_from w.old base at m)) }
+// The subtree of `old` nodes at i gives way to the run r of the store at word `base`.
+pub fn put_run(w: &mut [u32], i: usize, old: usize, base: usize, r: Run)
+    requires { (Planted w.old) × (i < size w.old) × (old ≡ count (tree_from (tree w.old) i)) × (size w.old + r.len ≤ 1024 + old) × (2064 ≤ base) × (base + (r.at + r.len) * 2 ≤ length w.old) × (0 < r.len) × (Whole (run w.old base r.at r.len)) }
+    ensures { Replants w.old w.new (put_at (tree w.old) i (value_from w.old base r.at r.len)) }
 {
-    slide(w, i, old, m);
-    shift(w, base + at * 2, layout::NODES + i * 2, m * 2);
+    slide(w, i, old, r.len);
+    shift(w, base + r.at * 2, layout::NODES + i * 2, r.len * 2);
 }
 
 // The subtree at i, at depth p, gives way to a recorded value, if rows 8 and 9 let it.
-pub fn replace_at(
-    w: &mut [u32],
-    i: usize,
-    p: u32,
-    base: usize,
-    at: usize,
-    m: usize,
-) -> Result<(), Refusal>
-    requires { (Planted w.old) × (i < size w.old) × (p ≤ 201) × (2064 ≤ base) × (base + (at + m) * 2 ≤ length w.old) × (0 < m) × (Whole (run w.old base at m)) }
-    ensures { Swapped result w.old w.new p i (value_from w.old base at m) }
+pub fn replace_at(w: &mut [u32], i: usize, p: u32, base: usize, r: Run) -> Result<(), Refusal>
+    requires { (Planted w.old) × (i < size w.old) × (p ≤ 201) × (2064 ≤ base) × (base + (r.at + r.len) * 2 ≤ length w.old) × (0 < r.len) × (Whole (run w.old base r.at r.len)) }
+    ensures { Swapped result w.old w.new p i (value_from w.old base r.at r.len) }
 {
     let n = w[layout::NODE_COUNT] as usize;
-    within_height(w, base, at, at + m, 201 - p).ok_or(Refusal::Depth)?;
+    within_height(w, base, r.at, r.at + r.len, 201 - p).ok_or(Refusal::Depth)?;
     let old = skip(w, i) - i;
-    if 1024 + old < n + m {
+    if 1024 + old < n + r.len {
         return Err(Refusal::Room);
     }
-    put_run(w, i, old, base, at, m);
+    put_run(w, i, old, base, r);
     Ok(())
 }
 

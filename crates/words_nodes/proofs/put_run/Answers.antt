@@ -9,5 +9,5 @@ slide-requires c = (c.requires.0.good.long, c.requires.0.good.nodes, rw c.requir
 pub returns : goal.returns
 returns c =
     let l = room c.requires.0 c.requires.1 in
-    run-done c.requires.0 c.requires.1 c.args.base c.args.at c.args.m c.requires.6 c.requires.7 (omega (arith, c.requires.3, c.requires.2))
-    (rw c.requires.2 at (run-spliced c.slide.ensures (omega (arith, c.requires.2)) c.requires.3 c.args.base c.args.at c.requires.4 c.shift.ensures))
+    run-done c.requires.0 c.requires.1 c.args.base c.args.r.at c.args.r.len c.requires.6 c.requires.7 (omega (arith, c.requires.3, c.requires.2))
+    (rw c.requires.2 at (run-spliced c.slide.ensures (omega (arith, c.requires.2)) c.requires.3 c.args.base c.args.r.at c.requires.4 c.shift.ensures))
