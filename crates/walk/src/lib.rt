@@ -1,25 +1,26 @@
 // mod.rs: its walks over the tree's nodes in the working words. They call each other in a cycle; the depth that is left falls at every call.
 #![tactic(auto)]
 
-ghost use Rattle.std.specs.Prelude.{◌+◌, ◌≤◌, ◌≡◌, true};
+ghost use Rattle.std.specs.Prelude.{◌+◌, ◌≡◌, true};
 ghost use Rattle.std.proofs.Math.Option.{some};
 ghost use Rattle.def_tree.specs.Combine.{many, split_f, each_but_f, skip, tree_at};
 ghost use Rattle.def_tree.specs.Tree.{count};
-ghost use Rattle.words.specs.Layout.{yes, node_of, tree};
+ghost use Rattle.words.specs.Layout.{node_of, tree};
 ghost use Rattle.words_nodes.specs.Nodes.{Planted, tree_from};
-ghost use Rattle.words_scopes.specs.State.{scope_kind_of};
+ghost use Rattle.words_scopes.specs.Kinds.{kind_of};
 ghost use Rattle.def_pass.specs.Scope.{loop};
 ghost use Rattle.laws_flat.specs.WalkF.{walks_f, visit_mut_stmts_f, plain_f, visit_mut_block_stmt_f, script_f, visit_with_child_f, visit_mut_var_decl_f, visit_mut_function_f, visit_mut_fn_decl_f, visit_mut_fn_expr_f, visit_mut_arrow_expr_f, visit_mut_if_stmt_f, visit_mut_while_stmt_f, visit_mut_for_stmt_f, visit_mut_for_in_stmt_f, visit_mut_try_stmt_f, catch_param_f, visit_mut_catch_clause_f, visit_mut_switch_case_f, visit_mut_pat_f, visit_mut_unary_expr_f, visit_mut_update_expr_f, visit_mut_call_expr_f, visit_mut_assign_expr_f, own_f, logical_f, after_f, in_cond_f, name_last_f, visit_mut_var_declarator_f, after_ident_f};
 ghost use Rattle.words_state.specs.State.{abs, rest};
-ghost use Rattle.walk_laws.specs.Did.{Did, Here, next_of, clauses_f, items_f, declr_end_f, Bound};
+ghost use Rattle.walk_laws.specs.Did.{Did, Here, clauses_f, items_f, declr_end_f, Bound};
 
+use refusal::Refusal;
+use scope::{ScopeKind, VarDeclKind, VarType};
 use scope_find::ident_at;
-use walk_answer::answer::{coded, next, refused};
-use walk_answer::steps::{bare, decl_kind, declr_end, nameless, settled};
-use walk_declarator::{Told, over, stays};
+use walk_answer::steps::{bare, decl_kind, nameless, settled};
+use walk_declarator::{Name, Spot, declr_after, over, stays};
 use walk_ident::assign::after_assign;
 use walk_ident::{
-    Found, Next, constant, deeper, enter, fate, ident_analysis, inline_constant, inline_undefined,
+    Found, constant, deeper, enter, fate, ident_analysis, inline_constant, inline_undefined,
     inline_value, leave,
 };
 use walk_write::assign::{assign_first, assign_last};
@@ -30,75 +31,66 @@ use walk_write::{
 };
 use words::{arity_at, form_at, kind_at, layout, num_at};
 use words_nodes::skip;
-use words_state::{set_conds, set_in_test, set_inlining, set_pat_mode, set_var_decl_kind};
+use words_state::{
+    PatFoldingMode, save_fields, set_conds, set_in_test, set_inlining, set_pat_mode,
+    set_var_decl_kind, var_decl_kind,
+};
 
 // A node as its parent's default walk calls it: its own handler, then the steps of visit_mut_expr; what has neither is passed at once.
 #[cycle(walks)]
-fn full(w: &mut [u32], p: usize, l: usize, i: usize) -> usize
+fn full(w: &mut [u32], p: usize, l: usize, i: usize) -> Result<usize, Refusal>
     requires { Here w.old 1 i p l }
-    ensures { Did w.old w.new (next_of result) ((walks_f l).full p i (abs w.old)) }
+    ensures { Did w.old w.new result ((walks_f l).full p i (abs w.old)) }
 {
     if l == 0 {
-        return refused(8);
+        return Err(Refusal::Depth);
     }
     if bare(w, i) {
         if kind_at(w, i) == 21 {
             return ident(w, p, l - 1, i);
         }
-        return i + 1;
+        return Ok(i + 1);
     }
-    let r = own(w, p, l - 1, i);
-    let Next::At(j) = next(r) else {
-        return r;
-    };
+    let j = own(w, p, l - 1, i)?;
     if settled(w, i) {
-        return j;
+        return Ok(j);
     }
     after(w, p, l - 1, i, j)
 }
 
 // visit_mut_children_with of a list: n trees from i on.
 #[cycle(walks)]
-fn many(w: &mut [u32], p: usize, d: usize, n: usize, i: usize) -> usize
+fn many(w: &mut [u32], p: usize, d: usize, n: usize, i: usize) -> Result<usize, Refusal>
     requires { Here w.old n i p d }
-    ensures { Did w.old w.new (next_of result) (many ((walks_f d).full p) n i (abs w.old)) }
+    ensures { Did w.old w.new result (many ((walks_f d).full p) n i (abs w.old)) }
 {
     let mut at = i;
-    let mut k: usize = 0;
-    while k < n {
-        let r = full(w, p, d, at);
-        let Next::At(j) = next(r) else {
-            return r;
-        };
-        at = j;
-        k += 1;
+    for _k in 0..n {
+        at = full(w, p, d, at)?;
     }
-    at
+    Ok(at)
 }
 
 // visit_mut_stmts: plainly in Analysis; in Inlining both ways.
 #[cycle(walks)]
-fn stmts(w: &mut [u32], p: usize, d: usize, n: usize, i: usize) -> usize
+fn stmts(w: &mut [u32], p: usize, d: usize, n: usize, i: usize) -> Result<usize, Refusal>
     requires { Here w.old n i p d }
-    ensures { Did w.old w.new (next_of result) (visit_mut_stmts_f (walks_f d) p n i (abs w.old)) }
+    ensures { Did w.old w.new result (visit_mut_stmts_f (walks_f d) p n i (abs w.old)) }
 {
     if w[layout::INLINING] == 0 {
         return many(w, p, d, n, i);
     }
-    set_inlining(w, 0);
-    let r = many(w, p, d, n, i);
-    let Next::At(_) = next(r) else {
-        return r;
-    };
-    set_inlining(w, 1);
+    set_inlining(w, false);
+    many(w, p, d, n, i)?;
+    set_inlining(w, true);
     many(w, p, d, n, i)
 }
 
 // The statements of a script, or of a function's body.
 #[cycle(walks)]
-fn body(w: &mut [u32], p: usize, d: usize, i: usize) -> usize
+fn body(w: &mut [u32], p: usize, d: usize, i: usize) -> Result<usize, Refusal>
     requires { Here w.old 1 i p (d + 1) }
-    ensures { Did w.old w.new (next_of result) (script_f (walks_f d) p i (abs w.old)) }
+    ensures { Did w.old w.new result (script_f (walks_f d) p i (abs w.old)) }
 {
     let n = arity_at(w, i) as usize;
     stmts(w, p + 1, d, n, i + 1)
@@ -106,9 +98,9 @@ fn body(w: &mut [u32], p: usize, d: usize, i: usize) -> usize
 
 // visit_mut_children_with.
 #[cycle(walks)]
-fn kids(w: &mut [u32], p: usize, d: usize, i: usize) -> usize
+fn kids(w: &mut [u32], p: usize, d: usize, i: usize) -> Result<usize, Refusal>
     requires { Here w.old 1 i p (d + 1) }
-    ensures { Did w.old w.new (next_of result) (plain_f (walks_f d) p i (abs w.old)) }
+    ensures { Did w.old w.new result (plain_f (walks_f d) p i (abs w.old)) }
 {
     let n = arity_at(w, i) as usize;
     many(w, p + 1, d, n, i + 1)
@@ -116,460 +108,355 @@ fn kids(w: &mut [u32], p: usize, d: usize, i: usize) -> usize
 
 // visit_mut_block_stmt.
 #[cycle(walks)]
-fn block(w: &mut [u32], p: usize, d: usize, i: usize) -> usize
+fn block(w: &mut [u32], p: usize, d: usize, i: usize) -> Result<usize, Refusal>
     requires { Here w.old 1 i p (d + 1) }
-    ensures { Did w.old w.new (next_of result) (visit_mut_block_stmt_f (walks_f d) p i (abs w.old)) }
+    ensures { Did w.old w.new result (visit_mut_block_stmt_f (walks_f d) p i (abs w.old)) }
 {
-    let inl = w[layout::INLINING];
-    let decl = w[layout::VAR_DECL_KIND];
-    let mode = w[layout::PAT_MODE];
-    let test = w[layout::IN_TEST];
-    let e = enter(w, 2);
-    if e != 0 {
-        return refused(e);
-    }
-    let r = body(w, p, d, i);
-    let Next::At(j) = next(r) else {
-        return r;
-    };
-    leave(w, inl, decl, mode, test);
-    j
+    let before = save_fields(w);
+    enter(w, ScopeKind::Block)?;
+    let j = body(w, p, d, i)?;
+    leave(w, before);
+    Ok(j)
 }
 
 // visit_with_child.
 #[cycle(walks)]
-fn arm(w: &mut [u32], p: usize, d: usize, kind: u32, i: usize) -> usize
+fn arm(w: &mut [u32], p: usize, d: usize, kind: ScopeKind, i: usize) -> Result<usize, Refusal>
     requires { Here w.old 1 i p d }
-    ensures { Did w.old w.new (next_of result) (visit_with_child_f (walks_f d) p (scope_kind_of kind) i (abs w.old)) }
+    ensures { Did w.old w.new result (visit_with_child_f (walks_f d) p (kind_of kind) i (abs w.old)) }
 {
-    let inl = w[layout::INLINING];
-    let decl = w[layout::VAR_DECL_KIND];
-    let mode = w[layout::PAT_MODE];
-    let test = w[layout::IN_TEST];
-    let e = enter(w, kind);
-    if e != 0 {
-        return refused(e);
-    }
+    let before = save_fields(w);
+    enter(w, kind)?;
     if d == 0 {
-        return refused(8);
+        return Err(Refusal::Depth);
     }
-    let r = own(w, p, d - 1, i);
-    let Next::At(j) = next(r) else {
-        return r;
-    };
-    leave(w, inl, decl, mode, test);
-    j
+    let j = own(w, p, d - 1, i)?;
+    leave(w, before);
+    Ok(j)
 }
 
 // visit_with_child of each of a list.
 #[cycle(walks)]
-fn arms(w: &mut [u32], p: usize, d: usize, kind: u32, n: usize, i: usize) -> usize
+fn arms(w: &mut [u32], p: usize, d: usize, kind: ScopeKind, n: usize, i: usize) -> Result<usize, Refusal>
     requires { Here w.old n i p d }
-    ensures { Did w.old w.new (next_of result) (many (visit_with_child_f (walks_f d) p (scope_kind_of kind)) n i (abs w.old)) }
+    ensures { Did w.old w.new result (many (visit_with_child_f (walks_f d) p (kind_of kind)) n i (abs w.old)) }
 {
     let mut at = i;
-    let mut k: usize = 0;
-    while k < n {
-        let r = arm(w, p, d, kind, at);
-        let Next::At(j) = next(r) else {
-            return r;
-        };
-        at = j;
-        k += 1;
+    for _k in 0..n {
+        at = arm(w, p, d, kind, at)?;
     }
-    at
+    Ok(at)
 }
 
 // visit_mut_var_decl.
 #[cycle(walks)]
-fn decl(w: &mut [u32], p: usize, d: usize, i: usize) -> usize
+fn decl(w: &mut [u32], p: usize, d: usize, i: usize) -> Result<usize, Refusal>
     requires { Here w.old 1 i p (d + 1) }
-    ensures { Did w.old w.new (next_of result) (visit_mut_var_decl_f (walks_f d) p i (abs w.old)) }
+    ensures { Did w.old w.new result (visit_mut_var_decl_f (walks_f d) p i (abs w.old)) }
 {
     let f = form_at(w, i);
-    let k = decl_kind(f);
-    set_var_decl_kind(w, k);
+    set_var_decl_kind(w, decl_kind(f));
     kids(w, p, d, i)
 }
 
 // A declarator's name is walked last; what stands behind it is left.
 #[cycle(walks)]
-fn name(w: &mut [u32], p: usize, d: usize, n: usize, i: usize) -> usize
+fn name(w: &mut [u32], p: usize, d: usize, n: usize, i: usize) -> Result<usize, Refusal>
     requires { (Here w.old 1 i p (d + 1)) × (n ≡ (node_of w.old i).arity) }
-    ensures { Did w.old w.new (next_of result) (name_last_f (walks_f d) p n (i + 1) (abs w.old)) }
+    ensures { Did w.old w.new result (name_last_f (walks_f d) p n (i + 1) (abs w.old)) }
 {
     if n == 0 {
-        return i + 1;
+        return Ok(i + 1);
     }
-    let r = full(w, p + 1, d, i + 1);
-    let Next::At(_) = next(r) else {
-        return r;
-    };
-    skip(w, i)
+    full(w, p + 1, d, i + 1)?;
+    Ok(skip(w, i))
 }
 
 // A declarator in Inlining: its initialiser is walked again, and recorded or not.
 #[cycle(walks)]
-fn init(w: &mut [u32], p: usize, d: usize, n: usize, i: usize) -> Next
+fn init(w: &mut [u32], p: usize, d: usize, n: usize, i: usize) -> Result<usize, Refusal>
     requires { (Here w.old 1 i p (d + 1)) × (n ≡ (node_of w.old i).arity) × (Bound w.old n (i + 1)) }
     ensures { Did w.old w.new result (declr_end_f (walks_f d) p i (some (tree_at (abs w.old) (i + 1))) true (rest w.old).var_decl_kind n (i + 1) (abs w.old)) }
 {
-    let kind = w[layout::VAR_DECL_KIND];
-    if 3 <= kind {
-        return next(name(w, p, d, n, i));
+    let kind = var_decl_kind(w);
+    if kind == VarType::Declared(VarDeclKind::Const) {
+        return name(w, p, d, n, i);
     }
-    let x = ident_at(w, i + 1);
-    let f = form_at(w, i + 1);
+    let bound = Name {
+        form: form_at(w, i + 1),
+        ident: ident_at(w, i + 1),
+    };
     let j = skip(w, i + 1);
-    if stays(w, x, n - 1, j) {
-        return Next::At(skip(w, i));
+    if stays(w, bound.ident, n - 1, j) {
+        return Ok(skip(w, i));
     }
     if n == 1 {
-        return declr_end(w, f, x, kind, i, 0, j, j);
+        return declr_after(w, bound, kind, Spot { q: i, n: 0, i: j, j });
     }
-    let r = next(full(w, p + 1, d, j));
-    let Next::At(_) = r else {
-        return r;
-    };
+    full(w, p + 1, d, j)?;
     let end = skip(w, i);
-    declr_end(w, f, x, kind, i, n - 1, j, end)
+    declr_after(
+        w,
+        bound,
+        kind,
+        Spot {
+            q: i,
+            n: n - 1,
+            i: j,
+            j: end,
+        },
+    )
 }
 
 // visit_mut_var_declarator.
 #[cycle(walks)]
-fn declr(w: &mut [u32], p: usize, d: usize, i: usize) -> usize
+fn declr(w: &mut [u32], p: usize, d: usize, i: usize) -> Result<usize, Refusal>
     requires { Here w.old 1 i p (d + 1) }
-    ensures { Did w.old w.new (next_of result) (visit_mut_var_declarator_f (walks_f d) p i (abs w.old)) }
+    ensures { Did w.old w.new result (visit_mut_var_declarator_f (walks_f d) p i (abs w.old)) }
 {
     let n = arity_at(w, i) as usize;
-    let r = tail(w, p + 1, d, n, i + 1);
-    let Next::At(_) = next(r) else {
-        return r;
-    };
-    set_pat_mode(w, 3);
+    tail(w, p + 1, d, n, i + 1)?;
+    set_pat_mode(w, PatFoldingMode::VarDecl);
     if nameless(w, n, i + 1) {
         return name(w, p, d, n, i);
     }
     if w[layout::INLINING] != 0 {
-        return coded(init(w, p, d, n, i));
+        return init(w, p, d, n, i);
     }
-    let x = ident_at(w, i + 1);
-    let f = form_at(w, i + 1);
-    match over(w, f, x, n, i + 1) {
-        Told::Stopped(m) => refused(m),
-        Told::Answer(gone) => {
-            if gone {
-                return skip(w, i);
-            }
-            name(w, p, d, n, i)
-        }
+    let bound = Name {
+        form: form_at(w, i + 1),
+        ident: ident_at(w, i + 1),
+    };
+    if over(w, bound, n, i + 1)? {
+        return Ok(skip(w, i));
     }
+    name(w, p, d, n, i)
 }
 
 // visit_mut_function: its parameters and its body.
 #[cycle(walks)]
-fn params(w: &mut [u32], p: usize, d: usize, n: usize, i: usize) -> usize
+fn params(w: &mut [u32], p: usize, d: usize, n: usize, i: usize) -> Result<usize, Refusal>
     requires { Here w.old n i p d }
-    ensures { Did w.old w.new (next_of result) (each_but_f ((walks_f d).full p) ((walks_f d).inner p) n i (abs w.old)) }
+    ensures { Did w.old w.new result (each_but_f ((walks_f d).full p) ((walks_f d).inner p) n i (abs w.old)) }
 {
     if n == 0 {
-        return i;
+        return Ok(i);
     }
-    let r = many(w, p, d, n - 1, i);
-    let Next::At(j) = next(r) else {
-        return r;
-    };
+    let j = many(w, p, d, n - 1, i)?;
     if d == 0 {
-        return refused(8);
+        return Err(Refusal::Depth);
     }
     body(w, p, d - 1, j)
 }
 
 // visit_mut_function.
 #[cycle(walks)]
-fn func(w: &mut [u32], p: usize, d: usize, named: u32, n: usize, i: usize) -> usize
-    requires { (Here w.old n i (p + 1) d) × (named ≤ 1) }
-    ensures { Did w.old w.new (next_of result) (visit_mut_function_f (walks_f d) p (yes named) n i (abs w.old)) }
+fn func(w: &mut [u32], p: usize, d: usize, named: bool, n: usize, i: usize) -> Result<usize, Refusal>
+    requires { Here w.old n i (p + 1) d }
+    ensures { Did w.old w.new result (visit_mut_function_f (walks_f d) p named n i (abs w.old)) }
 {
-    let inl = w[layout::INLINING];
-    let decl = w[layout::VAR_DECL_KIND];
-    let mode = w[layout::PAT_MODE];
-    let test = w[layout::IN_TEST];
-    let e = enter(w, 3 + named);
-    if e != 0 {
-        return refused(e);
-    }
-    set_pat_mode(w, 1);
-    let r = params(w, p + 1, d, n, i);
-    let Next::At(j) = next(r) else {
-        return r;
-    };
-    leave(w, inl, decl, mode, test);
-    j
+    let before = save_fields(w);
+    enter(w, ScopeKind::Fn { named })?;
+    set_pat_mode(w, PatFoldingMode::Param);
+    let j = params(w, p + 1, d, n, i)?;
+    leave(w, before);
+    Ok(j)
 }
 
 // visit_mut_fn_decl.
 #[cycle(walks)]
-fn fdecl(w: &mut [u32], p: usize, d: usize, i: usize) -> usize
+fn fdecl(w: &mut [u32], p: usize, d: usize, i: usize) -> Result<usize, Refusal>
     requires { Here w.old 1 i p (d + 1) }
-    ensures { Did w.old w.new (next_of result) (visit_mut_fn_decl_f (walks_f d) p i (abs w.old)) }
+    ensures { Did w.old w.new result (visit_mut_fn_decl_f (walks_f d) p i (abs w.old)) }
 {
-    let e = declare_name(w, i);
-    if e != 0 {
-        return refused(e);
-    }
+    declare_name(w, i)?;
     let n = arity_at(w, i) as usize;
     if n == 0 {
-        return i + 1;
+        return Ok(i + 1);
     }
     let j = skip(w, i + 1);
-    func(w, p, d, 1, n - 1, j)
+    func(w, p, d, true, n - 1, j)
 }
 
 // visit_mut_fn_expr.
 #[cycle(walks)]
-fn fexpr(w: &mut [u32], p: usize, d: usize, i: usize) -> usize
+fn fexpr(w: &mut [u32], p: usize, d: usize, i: usize) -> Result<usize, Refusal>
     requires { Here w.old 1 i p (d + 1) }
-    ensures { Did w.old w.new (next_of result) (visit_mut_fn_expr_f (walks_f d) p i (abs w.old)) }
+    ensures { Did w.old w.new result (visit_mut_fn_expr_f (walks_f d) p i (abs w.old)) }
 {
     let n = arity_at(w, i) as usize;
     let f = form_at(w, i);
     if f != 1 {
-        return func(w, p, d, 0, n, i + 1);
+        return func(w, p, d, false, n, i + 1);
     }
-    let e = write_name(w, i);
-    if e != 0 {
-        return refused(e);
-    }
+    write_name(w, i)?;
     if n == 0 {
-        return i + 1;
+        return Ok(i + 1);
     }
     let j = skip(w, i + 1);
-    func(w, p, d, 0, n - 1, j)
+    func(w, p, d, false, n - 1, j)
 }
 
 // visit_mut_arrow_expr.
 #[cycle(walks)]
-fn arrow(w: &mut [u32], p: usize, d: usize, i: usize) -> usize
+fn arrow(w: &mut [u32], p: usize, d: usize, i: usize) -> Result<usize, Refusal>
     requires { Here w.old 1 i p (d + 1) }
-    ensures { Did w.old w.new (next_of result) (visit_mut_arrow_expr_f (walks_f d) p i (abs w.old)) }
+    ensures { Did w.old w.new result (visit_mut_arrow_expr_f (walks_f d) p i (abs w.old)) }
 {
-    let inl = w[layout::INLINING];
-    let decl = w[layout::VAR_DECL_KIND];
-    let mode = w[layout::PAT_MODE];
-    let test = w[layout::IN_TEST];
-    let e = enter(w, 3);
-    if e != 0 {
-        return refused(e);
-    }
-    let r = kids(w, p, d, i);
-    let Next::At(j) = next(r) else {
-        return r;
-    };
-    leave(w, inl, decl, mode, test);
-    j
+    let before = save_fields(w);
+    enter(w, ScopeKind::Fn { named: false })?;
+    let j = kids(w, p, d, i)?;
+    leave(w, before);
+    Ok(j)
 }
 
 // visit_mut_if_stmt.
 #[cycle(walks)]
-fn ifs(w: &mut [u32], p: usize, d: usize, i: usize) -> usize
+fn ifs(w: &mut [u32], p: usize, d: usize, i: usize) -> Result<usize, Refusal>
     requires { Here w.old 1 i p (d + 1) }
-    ensures { Did w.old w.new (next_of result) (visit_mut_if_stmt_f (walks_f d) p i (abs w.old)) }
+    ensures { Did w.old w.new result (visit_mut_if_stmt_f (walks_f d) p i (abs w.old)) }
 {
     let n = arity_at(w, i) as usize;
     if n == 0 {
-        return i + 1;
+        return Ok(i + 1);
     }
-    let old = w[layout::IN_TEST];
-    set_in_test(w, 1);
-    let r = full(w, p + 1, d, i + 1);
-    let Next::At(j) = next(r) else {
-        return r;
-    };
+    let old = w[layout::IN_TEST] != 0;
+    set_in_test(w, true);
+    let j = full(w, p + 1, d, i + 1)?;
     set_in_test(w, old);
-    arms(w, p + 1, d, 0, n - 1, j)
+    arms(w, p + 1, d, ScopeKind::Cond, n - 1, j)
 }
 
 // What stands before a loop's body, and the body as a child.
 #[cycle(walks)]
-fn loops(w: &mut [u32], p: usize, d: usize, n: usize, i: usize) -> usize
+fn loops(w: &mut [u32], p: usize, d: usize, n: usize, i: usize) -> Result<usize, Refusal>
     requires { Here w.old n i p d }
-    ensures { Did w.old w.new (next_of result) (each_but_f ((walks_f d).full p) (visit_with_child_f (walks_f d) p loop) n i (abs w.old)) }
+    ensures { Did w.old w.new result (each_but_f ((walks_f d).full p) (visit_with_child_f (walks_f d) p loop) n i (abs w.old)) }
 {
     if n == 0 {
-        return i;
+        return Ok(i);
     }
-    let r = many(w, p, d, n - 1, i);
-    let Next::At(j) = next(r) else {
-        return r;
-    };
-    arm(w, p, d, 1, j)
+    let j = many(w, p, d, n - 1, i)?;
+    arm(w, p, d, ScopeKind::Loop, j)
 }
 
 // visit_mut_while_stmt and visit_mut_do_while_stmt.
 #[cycle(walks)]
-fn whiles(w: &mut [u32], p: usize, d: usize, i: usize) -> usize
+fn whiles(w: &mut [u32], p: usize, d: usize, i: usize) -> Result<usize, Refusal>
     requires { Here w.old 1 i p (d + 1) }
-    ensures { Did w.old w.new (next_of result) (visit_mut_while_stmt_f (walks_f d) p i (abs w.old)) }
+    ensures { Did w.old w.new result (visit_mut_while_stmt_f (walks_f d) p i (abs w.old)) }
 {
-    let e = write_kids_but_last(w, i);
-    if e != 0 {
-        return refused(e);
-    }
+    write_kids_but_last(w, i)?;
     let n = arity_at(w, i) as usize;
     loops(w, p + 1, d, n, i + 1)
 }
 
 // visit_mut_for_stmt.
 #[cycle(walks)]
-fn fors(w: &mut [u32], p: usize, d: usize, i: usize) -> usize
+fn fors(w: &mut [u32], p: usize, d: usize, i: usize) -> Result<usize, Refusal>
     requires { Here w.old 1 i p (d + 1) }
-    ensures { Did w.old w.new (next_of result) (visit_mut_for_stmt_f (walks_f d) p i (abs w.old)) }
+    ensures { Did w.old w.new result (visit_mut_for_stmt_f (walks_f d) p i (abs w.old)) }
 {
-    let e = write_kids_but_last(w, i);
-    if e != 0 {
-        return refused(e);
-    }
+    write_kids_but_last(w, i)?;
     let f = form_at(w, i);
     let n = arity_at(w, i) as usize;
-    let r = loops(w, p + 1, d, n, i + 1);
-    let Next::At(j) = next(r) else {
-        return r;
-    };
+    let j = loops(w, p + 1, d, n, i + 1)?;
     if f == 0 {
         store_barrier(w);
     }
-    j
+    Ok(j)
 }
 
 // visit_mut_for_in_stmt and visit_mut_for_of_stmt.
 #[cycle(walks)]
-fn forin(w: &mut [u32], p: usize, d: usize, i: usize) -> usize
+fn forin(w: &mut [u32], p: usize, d: usize, i: usize) -> Result<usize, Refusal>
     requires { Here w.old 1 i p (d + 1) }
-    ensures { Did w.old w.new (next_of result) (visit_mut_for_in_stmt_f (walks_f d) p i (abs w.old)) }
+    ensures { Did w.old w.new result (visit_mut_for_in_stmt_f (walks_f d) p i (abs w.old)) }
 {
-    set_pat_mode(w, 1);
+    set_pat_mode(w, PatFoldingMode::Param);
     let n = arity_at(w, i) as usize;
     if n == 0 {
-        return i + 1;
+        return Ok(i + 1);
     }
-    let r = full(w, p + 1, d, i + 1);
-    let Next::At(j) = next(r) else {
-        return r;
-    };
-    let e = write_tree(w, i + 1, true);
-    if e != 0 {
-        return refused(e);
-    }
-    let g = write_but_last(w, n - 1, j, true);
-    if g != 0 {
-        return refused(g);
-    }
+    let j = full(w, p + 1, d, i + 1)?;
+    write_tree(w, i + 1, true)?;
+    write_but_last(w, n - 1, j, true)?;
     loops(w, p + 1, d, n - 1, j)
 }
 
 // The parts of a try statement behind its block.
 #[cycle(walks)]
-fn parts(w: &mut [u32], p: usize, d: usize, n: usize, i: usize) -> usize
+fn parts(w: &mut [u32], p: usize, d: usize, n: usize, i: usize) -> Result<usize, Refusal>
     requires { Here w.old n i p d }
-    ensures { Did w.old w.new (next_of result) (clauses_f (walks_f d) p n i (abs w.old)) }
+    ensures { Did w.old w.new result (clauses_f (walks_f d) p n i (abs w.old)) }
 {
     let mut at = i;
-    let mut k: usize = 0;
-    while k < n {
-        let kind = kind_at(w, at);
-        if kind != 17 {
-            at = skip(w, at);
-            k += 1;
-            continue;
-        }
-        let r = full(w, p, d, at);
-        let Next::At(j) = next(r) else {
-            return r;
+    for _k in 0..n {
+        at = if kind_at(w, at) == 17 {
+            full(w, p, d, at)?
+        } else {
+            skip(w, at)
         };
-        at = j;
-        k += 1;
     }
-    at
+    Ok(at)
 }
 
 // visit_mut_try_stmt.
 #[cycle(walks)]
-fn tries(w: &mut [u32], p: usize, d: usize, i: usize) -> usize
+fn tries(w: &mut [u32], p: usize, d: usize, i: usize) -> Result<usize, Refusal>
     requires { Here w.old 1 i p (d + 1) }
-    ensures { Did w.old w.new (next_of result) (visit_mut_try_stmt_f (walks_f d) p i (abs w.old)) }
+    ensures { Did w.old w.new result (visit_mut_try_stmt_f (walks_f d) p i (abs w.old)) }
 {
     let n = arity_at(w, i) as usize;
     if n == 0 {
-        return i + 1;
+        return Ok(i + 1);
     }
-    let e = write_tree(w, i + 1, true);
-    if e != 0 {
-        return refused(e);
-    }
+    write_tree(w, i + 1, true)?;
     let j = skip(w, i + 1);
     parts(w, p + 1, d, n - 1, j)
 }
 
 // The parameters of a catch clause.
 #[cycle(walks)]
-fn binds(w: &mut [u32], p: usize, d: usize, n: usize, i: usize) -> usize
+fn binds(w: &mut [u32], p: usize, d: usize, n: usize, i: usize) -> Result<usize, Refusal>
     requires { Here w.old n i p d }
-    ensures { Did w.old w.new (next_of result) (many (catch_param_f (walks_f d) p) n i (abs w.old)) }
+    ensures { Did w.old w.new result (many (catch_param_f (walks_f d) p) n i (abs w.old)) }
 {
     let mut at = i;
-    let mut k: usize = 0;
-    while k < n {
+    for _k in 0..n {
         let kind = kind_at(w, at);
         let x = num_at(w, at);
-        let r = full(w, p, d, at);
-        let Next::At(j) = next(r) else {
-            return r;
-        };
+        at = full(w, p, d, at)?;
         mark_caught(w, kind, x);
-        at = j;
-        k += 1;
     }
-    at
+    Ok(at)
 }
 
 // visit_mut_catch_clause.
 #[cycle(walks)]
-fn catch(w: &mut [u32], p: usize, d: usize, i: usize) -> usize
+fn catch(w: &mut [u32], p: usize, d: usize, i: usize) -> Result<usize, Refusal>
     requires { Here w.old 1 i p (d + 1) }
-    ensures { Did w.old w.new (next_of result) (visit_mut_catch_clause_f (walks_f d) p i (abs w.old)) }
+    ensures { Did w.old w.new result (visit_mut_catch_clause_f (walks_f d) p i (abs w.old)) }
 {
-    let inl = w[layout::INLINING];
-    let decl = w[layout::VAR_DECL_KIND];
-    let mode = w[layout::PAT_MODE];
-    let test = w[layout::IN_TEST];
-    let e = enter(w, 2);
-    if e != 0 {
-        return refused(e);
-    }
-    set_pat_mode(w, 2);
+    let before = save_fields(w);
+    enter(w, ScopeKind::Block)?;
+    set_pat_mode(w, PatFoldingMode::CatchParam);
     let n = arity_at(w, i) as usize;
     if n == 0 {
-        leave(w, inl, decl, mode, test);
-        return i + 1;
+        leave(w, before);
+        return Ok(i + 1);
     }
-    let r = binds(w, p + 1, d, n - 1, i + 1);
-    let Next::At(j) = next(r) else {
-        return r;
-    };
-    let s = full(w, p + 1, d, j);
-    let Next::At(end) = next(s) else {
-        return s;
-    };
-    leave(w, inl, decl, mode, test);
-    end
+    let j = binds(w, p + 1, d, n - 1, i + 1)?;
+    let end = full(w, p + 1, d, j)?;
+    leave(w, before);
+    Ok(end)
 }
 
 // A switch case's test and statements.
 #[cycle(walks)]
-fn items(w: &mut [u32], p: usize, d: usize, i: usize) -> usize
+fn items(w: &mut [u32], p: usize, d: usize, i: usize) -> Result<usize, Refusal>
     requires { Here w.old 1 i p (d + 1) }
-    ensures { Did w.old w.new (next_of result) (items_f (walks_f d) p i (abs w.old)) }
+    ensures { Did w.old w.new result (items_f (walks_f d) p i (abs w.old)) }
 {
     let f = form_at(w, i);
     if f != 1 {
@@ -577,66 +464,48 @@ fn items(w: &mut [u32], p: usize, d: usize, i: usize) -> usize
     }
     let n = arity_at(w, i) as usize;
     if n == 0 {
-        return i + 1;
+        return Ok(i + 1);
     }
-    let r = full(w, p + 1, d, i + 1);
-    let Next::At(j) = next(r) else {
-        return r;
-    };
+    let j = full(w, p + 1, d, i + 1)?;
     stmts(w, p + 1, d, n - 1, j)
 }
 
 // visit_mut_switch_case.
 #[cycle(walks)]
-fn case(w: &mut [u32], p: usize, d: usize, i: usize) -> usize
+fn case(w: &mut [u32], p: usize, d: usize, i: usize) -> Result<usize, Refusal>
     requires { Here w.old 1 i p (d + 1) }
-    ensures { Did w.old w.new (next_of result) (visit_mut_switch_case_f (walks_f d) p i (abs w.old)) }
+    ensures { Did w.old w.new result (visit_mut_switch_case_f (walks_f d) p i (abs w.old)) }
 {
-    let inl = w[layout::INLINING];
-    let decl = w[layout::VAR_DECL_KIND];
-    let mode = w[layout::PAT_MODE];
-    let test = w[layout::IN_TEST];
-    let e = enter(w, 2);
-    if e != 0 {
-        return refused(e);
-    }
-    let r = items(w, p, d, i);
-    let Next::At(j) = next(r) else {
-        return r;
-    };
-    leave(w, inl, decl, mode, test);
-    j
+    let before = save_fields(w);
+    enter(w, ScopeKind::Block)?;
+    let j = items(w, p, d, i)?;
+    leave(w, before);
+    Ok(j)
 }
 
 // visit_mut_pat.
-fn pats(w: &mut [u32], p: usize, d: usize, i: usize) -> usize
+fn pats(w: &mut [u32], p: usize, d: usize, i: usize) -> Result<usize, Refusal>
     requires { Here w.old 1 i p (d + 1) }
-    ensures { Did w.old w.new (next_of result) (visit_mut_pat_f (walks_f d) p i (abs w.old)) }
+    ensures { Did w.old w.new result (visit_mut_pat_f (walks_f d) p i (abs w.old)) }
 {
-    let e = pat_step(w, i);
-    if e != 0 {
-        return refused(e);
-    }
-    skip(w, i)
+    pat_step(w, i)?;
+    Ok(skip(w, i))
 }
 
 // visit_mut_update_expr.
-fn update(w: &mut [u32], p: usize, d: usize, i: usize) -> usize
+fn update(w: &mut [u32], p: usize, d: usize, i: usize) -> Result<usize, Refusal>
     requires { Here w.old 1 i p (d + 1) }
-    ensures { Did w.old w.new (next_of result) (visit_mut_update_expr_f (walks_f d) p i (abs w.old)) }
+    ensures { Did w.old w.new result (visit_mut_update_expr_f (walks_f d) p i (abs w.old)) }
 {
-    let e = write_kids(w, i);
-    if e != 0 {
-        return refused(e);
-    }
-    skip(w, i)
+    write_kids(w, i)?;
+    Ok(skip(w, i))
 }
 
 // visit_mut_unary_expr: delete writes.
 #[cycle(walks)]
-fn unary(w: &mut [u32], p: usize, d: usize, i: usize) -> usize
+fn unary(w: &mut [u32], p: usize, d: usize, i: usize) -> Result<usize, Refusal>
     requires { Here w.old 1 i p (d + 1) }
-    ensures { Did w.old w.new (next_of result) (visit_mut_unary_expr_f (walks_f d) p i (abs w.old)) }
+    ensures { Did w.old w.new result (visit_mut_unary_expr_f (walks_f d) p i (abs w.old)) }
 {
     let f = form_at(w, i);
     if f != 6 {
@@ -647,40 +516,31 @@ fn unary(w: &mut [u32], p: usize, d: usize, i: usize) -> usize
 
 // visit_mut_call_expr and visit_mut_new_expr.
 #[cycle(walks)]
-fn call(w: &mut [u32], p: usize, d: usize, called: u32, i: usize) -> usize
+fn call(w: &mut [u32], p: usize, d: usize, called: bool, i: usize) -> Result<usize, Refusal>
     requires { Here w.old 1 i p (d + 1) }
-    ensures { Did w.old w.new (next_of result) (visit_mut_call_expr_f (yes called) (walks_f d) p i (abs w.old)) }
+    ensures { Did w.old w.new result (visit_mut_call_expr_f called (walks_f d) p i (abs w.old)) }
 {
     let n = arity_at(w, i) as usize;
     if n == 0 {
         store_barrier(w);
-        return i + 1;
+        return Ok(i + 1);
     }
-    let r = full(w, p + 1, d, i + 1);
-    let Next::At(j) = next(r) else {
-        return r;
-    };
+    let j = full(w, p + 1, d, i + 1)?;
     mark_callee(w, i + 1);
-    let e = write_args(w, called, n - 1, j);
-    if e != 0 {
-        return refused(e);
-    }
-    let s = many(w, p + 1, d, n - 1, j);
-    let Next::At(end) = next(s) else {
-        return s;
-    };
+    write_args(w, called, n - 1, j)?;
+    let end = many(w, p + 1, d, n - 1, j)?;
     store_barrier(w);
-    end
+    Ok(end)
 }
 
 // All of a list but its first tree.
 #[cycle(walks)]
-fn tail(w: &mut [u32], p: usize, d: usize, n: usize, i: usize) -> usize
+fn tail(w: &mut [u32], p: usize, d: usize, n: usize, i: usize) -> Result<usize, Refusal>
     requires { Here w.old n i p d }
-    ensures { Did w.old w.new (next_of result) (split_f skip (many ((walks_f d).full p)) n i (abs w.old)) }
+    ensures { Did w.old w.new result (split_f skip (many ((walks_f d).full p)) n i (abs w.old)) }
 {
     if n == 0 {
-        return i;
+        return Ok(i);
     }
     let j = skip(w, i);
     many(w, p, d, n - 1, j)
@@ -688,70 +548,52 @@ fn tail(w: &mut [u32], p: usize, d: usize, n: usize, i: usize) -> usize
 
 // visit_mut_assign_expr.
 #[cycle(walks)]
-fn assign(w: &mut [u32], p: usize, d: usize, i: usize) -> usize
+fn assign(w: &mut [u32], p: usize, d: usize, i: usize) -> Result<usize, Refusal>
     requires { Here w.old 1 i p (d + 1) }
-    ensures { Did w.old w.new (next_of result) (visit_mut_assign_expr_f (walks_f d) p i (abs w.old)) }
+    ensures { Did w.old w.new result (visit_mut_assign_expr_f (walks_f d) p i (abs w.old)) }
 {
-    set_pat_mode(w, 0);
+    set_pat_mode(w, PatFoldingMode::Assign);
     let f = form_at(w, i);
     let n = arity_at(w, i) as usize;
-    let e = assign_first(w, f, n, i + 1);
-    if e != 0 {
-        return refused(e);
-    }
-    let r = tail(w, p + 1, d, n, i + 1);
-    let Next::At(j) = next(r) else {
-        return r;
-    };
-    let g = assign_last(w, n, i + 1);
-    if g != 0 {
-        return refused(g);
-    }
-    j
+    assign_first(w, f, n, i + 1)?;
+    let j = tail(w, p + 1, d, n, i + 1)?;
+    assign_last(w, n, i + 1)?;
+    Ok(j)
 }
 
 // The right sides of && or ||.
 #[cycle(walks)]
-fn conds(w: &mut [u32], p: usize, d: usize, n: usize, i: usize) -> usize
+fn conds(w: &mut [u32], p: usize, d: usize, n: usize, i: usize) -> Result<usize, Refusal>
     requires { Here w.old n i p d }
-    ensures { Did w.old w.new (next_of result) (many (λ r. in_cond_f ((walks_f d).bare p r)) n i (abs w.old)) }
+    ensures { Did w.old w.new result (many (λ r. in_cond_f ((walks_f d).bare p r)) n i (abs w.old)) }
 {
     let mut at = i;
-    let mut k: usize = 0;
-    while k < n {
+    for _k in 0..n {
         let old = w[layout::CONDS];
-        let e = deeper(w);
-        if e != 0 {
-            return refused(e);
-        }
-        let r = arm(w, p, d, 0, at);
-        let Next::At(j) = next(r) else {
-            return r;
-        };
+        deeper(w)?;
+        at = arm(w, p, d, ScopeKind::Cond, at)?;
         set_conds(w, old);
-        at = j;
-        k += 1;
     }
-    at
+    Ok(at)
 }
 
 // A && or || again: its right side.
 #[cycle(walks)]
-fn logic(w: &mut [u32], p: usize, d: usize, i: usize) -> usize
+fn logic(w: &mut [u32], p: usize, d: usize, i: usize) -> Result<usize, Refusal>
     requires { Here w.old 1 i p (d + 1) }
-    ensures { Did w.old w.new (next_of result) (logical_f (walks_f d) p i (abs w.old)) }
+    ensures { Did w.old w.new result (logical_f (walks_f d) p i (abs w.old)) }
 {
     let k = kind_at(w, i);
     if k != 32 {
-        return skip(w, i);
+        return Ok(skip(w, i));
     }
     let f = form_at(w, i);
     if f >= 2 {
-        return skip(w, i);
+        return Ok(skip(w, i));
     }
     let n = arity_at(w, i) as usize;
     if n == 0 {
-        return i + 1;
+        return Ok(i + 1);
     }
     let j = skip(w, i + 1);
     conds(w, p + 1, d, n - 1, j)
@@ -759,9 +601,9 @@ fn logic(w: &mut [u32], p: usize, d: usize, i: usize) -> usize
 
 // Which handler a kind has.
 #[cycle(walks)]
-fn own(w: &mut [u32], p: usize, d: usize, i: usize) -> usize
+fn own(w: &mut [u32], p: usize, d: usize, i: usize) -> Result<usize, Refusal>
     requires { Here w.old 1 i p (d + 1) }
-    ensures { Did w.old w.new (next_of result) (own_f (walks_f d) p i (abs w.old)) }
+    ensures { Did w.old w.new result (own_f (walks_f d) p i (abs w.old)) }
 {
     let k = kind_at(w, i);
     match k {
@@ -781,8 +623,8 @@ fn own(w: &mut [u32], p: usize, d: usize, i: usize) -> usize
         30 => unary(w, p, d, i),
         31 => update(w, p, d, i),
         33 => assign(w, p, d, i),
-        35 => call(w, p, d, 1, i),
-        36 => call(w, p, d, 0, i),
+        35 => call(w, p, d, true, i),
+        36 => call(w, p, d, false, i),
         39 => fexpr(w, p, d, i),
         40 => arrow(w, p, d, i),
         _ => kids(w, p, d, i),
@@ -791,30 +633,23 @@ fn own(w: &mut [u32], p: usize, d: usize, i: usize) -> usize
 
 // The steps of visit_mut_expr at an identifier: a constant is followed; in Analysis it is read; in Inlining its value takes its place.
 #[cycle(walks)]
-fn ident(w: &mut [u32], p: usize, d: usize, i: usize) -> usize
+fn ident(w: &mut [u32], p: usize, d: usize, i: usize) -> Result<usize, Refusal>
     requires { (Here w.old 1 i p (d + 1)) × ((node_of w.old i).kind ≡ 21) }
-    ensures { Did w.old w.new (next_of result) (after_ident_f (walks_f d) p i (abs w.old)) }
+    ensures { Did w.old w.new result (after_ident_f (walks_f d) p i (abs w.old)) }
 {
-    let m = constant(w, i);
-    if 0 < m {
-        let r = inline_constant(w, i, p as u32, m);
-        let Next::At(_) = r else {
-            return coded(r);
-        };
+    if let Some(m) = constant(w, i) {
+        inline_constant(w, i, p as u32, m)?;
         return full(w, p, d, i);
     }
     if w[layout::INLINING] == 0 {
         ident_analysis(w, i);
-        return skip(w, i);
+        return Ok(skip(w, i));
     }
     match fate(w, i) {
-        Found::Nothing => skip(w, i),
-        Found::Void => coded(inline_undefined(w, i, p as u32)),
+        Found::Nothing => Ok(skip(w, i)),
+        Found::Void => inline_undefined(w, i, p as u32),
         Found::Value(b) => {
-            let r = inline_value(w, i, p as u32, b);
-            let Next::At(_) = r else {
-                return coded(r);
-            };
+            inline_value(w, i, p as u32, b)?;
             logic(w, p, d, i)
         }
     }
@@ -822,9 +657,9 @@ fn ident(w: &mut [u32], p: usize, d: usize, i: usize) -> usize
 
 // The steps of visit_mut_expr after the node's own handler, which ended at j.
 #[cycle(walks)]
-fn after(w: &mut [u32], p: usize, d: usize, i: usize, j: usize) -> usize
+fn after(w: &mut [u32], p: usize, d: usize, i: usize, j: usize) -> Result<usize, Refusal>
     requires { (Here w.old 1 i p (d + 1)) × (j ≡ i + count (tree_from (tree w.old) i)) }
-    ensures { Did w.old w.new (next_of result) (after_f (walks_f d) p i (abs w.old)) }
+    ensures { Did w.old w.new result (after_f (walks_f d) p i (abs w.old)) }
 {
     let k = kind_at(w, i);
     if k == 21 {
@@ -834,22 +669,22 @@ fn after(w: &mut [u32], p: usize, d: usize, i: usize, j: usize) -> usize
         return logic(w, p, d, i);
     }
     if k != 33 {
-        return j;
+        return Ok(j);
     }
     let f = form_at(w, i);
     if f != 0 {
-        return j;
+        return Ok(j);
     }
     if w[layout::INLINING] == 0 {
-        return j;
+        return Ok(j);
     }
-    coded(after_assign(w, i, p as u32))
+    after_assign(w, i, p as u32)
 }
 
 // visit_mut_program's walk of the script, in the mode that is set.
-pub fn program(w: &mut [u32]) -> Next
+pub fn program(w: &mut [u32]) -> Result<usize, Refusal>
     requires { Planted w.old }
     ensures { Did w.old w.new result (own_f (walks_f 199) 1 0 (abs w.old)) }
 {
-    next(own(w, 1, 199, 0))
+    own(w, 1, 199, 0)
 }
