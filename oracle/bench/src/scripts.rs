@@ -1,5 +1,6 @@
 //! What is timed: ordinary gate scripts of a given size, random scripts, and scripts that take long.
 
+use crate::amended;
 use generator::node::{array, assign, binding, block, declare, ident, node, statement};
 use generator::rng::Rng;
 use tree_file::parse::parse;
@@ -54,13 +55,14 @@ pub fn gates(nodes: usize) -> Script {
     script
 }
 
-/// Random scripts of about `nodes` nodes that the port does not refuse. The original, unwatched, knows no limits.
+/// Random scripts of about `nodes` nodes that the port does not refuse, and that no request takes out of the comparison. The original,
+/// unwatched, knows no limits.
 pub fn random(nodes: usize, count: usize) -> Vec<Script> {
     let (mut rng, mut inliner) = (Rng::new(1), negbosun::Inliner::new());
     let mut list = Vec::new();
     while list.len() < count {
         let script = generator::scripts::script(&mut rng, nodes);
-        if inliner.inline(&write(&script), 16).is_ok() {
+        if !amended::leaves(&script) && inliner.inline(&write(&script), 16).is_ok() {
             list.push(script);
         }
     }
