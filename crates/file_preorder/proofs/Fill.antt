@@ -2,7 +2,7 @@
 use mathlib.Core.Path.{◌≡◌, refl, sym, ap, ◌∙◌, subst}
 use mathlib.Core.Bool.{Bool, true, false, ◌&&◌}
 use mathlib.Core.List.{List, [], ◌∷◌}
-use Prim.Native.Nat.{ℕ, zero, suc, ◌+◌, ◌-◌, ◌≤◌, ◌<◌}
+use Prim.Native.Nat.{ℕ, zero, suc, ◌+◌, ◌-◌, ◌*◌, ◌≤◌, ◌<◌}
 use native.Mathlib.Numerals.{add-one}
 use native.Mathlib.Nat.{sub-zero}
 use native.Mathlib.Omega.{arith}
@@ -16,11 +16,14 @@ use Rattle.def_file.specs.declared.Raw.{Raw}
 use Rattle.def_file.specs.declared.kinds.Row.{Row}
 use Rattle.def_file.specs.Kinds.{allows, row_of, form_ok, count_ok, child_of}
 use Rattle.def_file.specs.Script.{zero_node}
-use Rattle.def_file.specs.Read.{Place, fields_ok, node_ok, below, fills}
+use Rattle.def_file.specs.Read.{Place, raw_of, fields_ok, node_ok, below, fills}
 use Rattle.file_fields.proofs.Tests.{is_T, and_left, and_right}
+use Rattle.std.proofs.Common.{Result, Ok, Err}
+use Rattle.refusal.specs.declared.Refusal.{Refusal}
 use Rattle.file_preorder.specs.declared.Child.{Child}
-use Rattle.file_preorder.specs.declared.Child.TheVariants.{Binding, Other, Refused}
-use Rattle.file_preorder.specs.Child.{place, after, Fits, Filled}
+use Rattle.refusal.specs.declared.Refusal.TheVariants.{Nodes}
+use Rattle.file_fields.proofs.Raws.{nodes-length, node-raw}
+use Rattle.file_preorder.specs.Child.{behind, place, Kinded, Filled, nodes_of, Fitting}
 
 -- one node more
 step : (t : ℕ) (p : Place) (ps : List Place) (x : Raw) (xs : List Raw) (b : Bool) → node_ok t p x ≡ b
@@ -30,7 +33,7 @@ step t p ps x xs b e = ap {B = Bool} (λ (b : Bool). elim b [ true ↦ fills t (
 
 module _ (t : ℕ) (xs : List Raw) (at : ℕ) (p : Place) (ps : List Place) where
   -- a node that fits opens its children's places
-  pub fill-open : at < length xs → node_ok t p (get_or xs at zero_node) ≡ true
+  fill-open : at < length xs → node_ok t p (get_or xs at zero_node) ≡ true
       → fills t (p ∷ ps) (drop at xs) ≡ fills t (below (p.left - 1) (get_or xs at zero_node) 0 (get_or xs at zero_node).arity ps) (drop (at + 1) xs)
   fill-open h e = rw (drop-cons xs at zero_node h, add-one) (step t p ps (get_or xs at zero_node) (drop (suc at) xs) true e)
 
@@ -75,7 +78,7 @@ module _ (t : ℕ) (p : Place) (x : Raw) where
           go true q = refl
           go false q = absurd (omega (arith, borrow.Author.Tests.ltb-false 0 p.left q))
 
-  pub ok-left : node_ok t p x ≡ true → 0 < p.left
+  ok-left : node_ok t p x ≡ true → 0 < p.left
   unfolding node_ok
   ok-left q = ltb→lt 0 p.left (and_left t1 t2 (and_left (t1 && t2) t3 (and_left (t1 && t2 && t3) t4 (and_left (t1 && t2 && t3 && t4) t5 (is_T _ q)))))
 
@@ -83,7 +86,7 @@ module _ (t : ℕ) (p : Place) (x : Raw) where
   unfolding node_ok
   ok-allows q = and_right t1 t2 (and_left (t1 && t2) t3 (and_left (t1 && t2 && t3) t4 (and_left (t1 && t2 && t3 && t4) t5 (is_T _ q))))
 
-  pub ok-count : node_ok t p x ≡ true → T t5
+  ok-count : node_ok t p x ≡ true → T t5
   unfolding node_ok
   ok-count q = and_right (t1 && t2 && t3 && t4) t5 (is_T _ q)
 
@@ -114,51 +117,63 @@ next_place : (t : ℕ) (xs : List Raw) (n : ℕ) (x : Raw) (i next : ℕ) → i 
 next_place t xs n x i next h ps = ap (λ (qs : List Place). fills t qs (drop next xs)) (below_step n x i x.arity ps h)
 
 module _ {t : ℕ} {xs : List Raw} {n : ℕ} {x : Raw} {at : ℕ} where
-  pub upto-none : at < length xs → Upto t xs n x at 0 (at + 1)
+  upto-none : at < length xs → Upto t xs n x at 0 (at + 1)
   upto-none h = record { is = λ ps. rw sub-zero refl; inside = omega arith }
 
-  pub upto-more : {i next : ℕ} (j : ℕ) → Upto t xs n x at i next → i < x.arity
-      → ((ps : List Place) → fills t (place (child_of (row_of x.kind x.form) x.arity i) n ∷ ps) (drop next xs) ≡ fills t ps (drop j xs)) → j ≤ length xs → Upto t xs n x at (i + 1) j
-  upto-more {i} {next} j u h g l = record { is = λ ps. u.is ps ∙ next_place t xs n x i next h ps ∙ g (below n x (i + 1) (x.arity - (i + 1)) ps); inside = l }
+  pub upto-more : {i next : ℕ} {c : Child} → Upto t xs n x at i next → i < x.arity → Filled t xs (place (child_of (row_of x.kind x.form) x.arity i) n) next (Ok c) → Upto t xs n x at (i + 1) (behind c)
+  upto-more {i} {next} u h f = record { is = λ ps. u.is ps ∙ next_place t xs n x i next h ps ∙ f.is (below n x (i + 1) (x.arity - (i + 1)) ps); inside = f.fits.0 }
 
-  pub upto-refused : {i next : ℕ} → Upto t xs n x at i next → i < x.arity
-      → ((ps : List Place) → fills t (place (child_of (row_of x.kind x.form) x.arity i) n ∷ ps) (drop next xs) ≡ false) → (ps : List Place) → fills t (below n x 0 x.arity ps) (drop (at + 1) xs) ≡ false
-  upto-refused {i} {next} u h g ps = u.is ps ∙ next_place t xs n x i next h ps ∙ g (below n x (i + 1) (x.arity - (i + 1)) ps)
+  upto-refused : {i next : ℕ} {m : Refusal} → Upto t xs n x at i next → i < x.arity
+      → Filled t xs (place (child_of (row_of x.kind x.form) x.arity i) n) next (Err m) → (ps : List Place) → fills t (below n x 0 x.arity ps) (drop (at + 1) xs) ≡ false
+  upto-refused {i} {next} u h f ps = u.is ps ∙ next_place t xs n x i next h ps ∙ f.is (below n x (i + 1) (x.arity - (i + 1)) ps)
 
-  pub upto-end : {i next : ℕ} → Upto t xs n x at i next → x.arity ≤ i → (ps : List Place) → fills t (below n x 0 x.arity ps) (drop (at + 1) xs) ≡ fills t ps (drop next xs)
+  upto-end : {i next : ℕ} → Upto t xs n x at i next → x.arity ≤ i → (ps : List Place) → fills t (below n x 0 x.arity ps) (drop (at + 1) xs) ≡ fills t ps (drop next xs)
   upto-end {i} {next} u h ps = u.is ps ∙ ap (λ (qs : List Place). fills t qs (drop next xs)) (below_end n x i x.arity ps h)
 
--- an answer, case by case
-module _ {t : ℕ} {xs : List Raw} {p : Place} {at : ℕ} {r : Child} (f : Filled t xs p at r) where
-  pub at-binding : (j : ℕ) → r ≡ Binding j → (ps : List Place) → fills t (p ∷ ps) (drop at xs) ≡ fills t ps (drop j xs)
-  at-binding j q ps = f.is ps ∙ ap (after t xs ps) q
+-- a node that fits its place, at index `at`
+module _ {bs : List ℕ} {n t at : ℕ} {p : Place} (F : Fitting bs n t at p) where
+  abbrev xs : List Raw
+  xs = nodes_of bs n
 
-  pub at_other : (j : ℕ) → r ≡ Other j → (ps : List Place) → fills t (p ∷ ps) (drop at xs) ≡ fills t ps (drop j xs)
-  at_other j q ps = f.is ps ∙ ap (after t xs ps) q
+  abbrev x : Raw
+  x = get_or xs at zero_node
 
-  pub at-refused : (m : ℕ) → r ≡ Refused m → (ps : List Place) → fills t (p ∷ ps) (drop at xs) ≡ false
-  at-refused m q ps = f.is ps ∙ ap (after t xs ps) q
+  inside : at < length xs
+  inside = rw nodes-length F.less
 
-  pub fits-binding : (j : ℕ) → r ≡ Binding j → j ≤ length xs
-  fits-binding j q = subst (Fits p (get_or xs at zero_node) (length xs)) q f.fits
+  pub fitting-read : {y : Raw} → y ≡ raw_of (drop (32 + 16 * at) bs) → y ≡ x
+  fitting-read e = e ∙ sym (node-raw n at bs F.less)
 
-  pub fits-other : (j : ℕ) → r ≡ Other j → (j ≤ length xs) × T (allows p.class (get_or xs at zero_node).kind (get_or xs at zero_node).arity) × ((get_or xs at zero_node).kind ≡ 20 → ⊥)
-  fits-other j q = subst (Fits p (get_or xs at zero_node) (length xs)) q f.fits
+  pub fitting-left : 0 < p.left
+  fitting-left = ok-left t p x F.fits
 
-  pub fits_refused : (m : ℕ) → r ≡ Refused m → m ≡ 6
-  fits_refused m q = subst (Fits p (get_or xs at zero_node) (length xs)) q f.fits
+  -- its children are read one by one
+  pub fitting-none : Upto t xs (p.left - 1) x at 0 (at + 1)
+  fitting-none = upto-none inside
+
+  -- until all are, or one is refused
+  pub fitting-all : {i next : ℕ} (c : Child) → Upto t xs (p.left - 1) x at i next → x.arity ≤ i → behind c ≡ next → Kinded p x c → Filled t xs p at (Ok c)
+  fitting-all {i} {next} c u h e k = record { is = λ ps. fill-open t xs at p ps inside F.fits ∙ upto-end u h ps ∙ ap (λ (j : ℕ). fills t ps (drop j xs)) (sym e); fits = (rw e u.inside, k) }
+
+  pub fitting-refused : {i next : ℕ} {m : Refusal} → Upto t xs (p.left - 1) x at i next → i < x.arity
+      → Filled t xs (place (child_of (row_of x.kind x.form) x.arity i) (p.left - 1)) next (Err m) → Filled t xs p at (Err m)
+  fitting-refused u h f = record { is = λ ps. fill-open t xs at p ps inside F.fits ∙ upto-refused u h f ps; fits = f.fits }
+
+-- one that does not fit, or is missing
+pub unfit : {t at : ℕ} {xs : List Raw} {p : Place} → ((ps : List Place) → fills t (p ∷ ps) (drop at xs) ≡ false) → Filled t xs p at (Err Nodes)
+unfit h = record { is = h; fits = refl }
 
 -- a child's place, as the code found its class: x is the node, row its kind's row
-pub child-at : {t : ℕ} {xs : List Raw} {n next : ℕ} {r : Child} {x x₀ : Raw} {row : Row} {c : Class} (i : ℕ) → x ≡ x₀ → row ≡ row_of x.kind x.form → c ≡ child_of row x.arity i
+pub child-at : {t : ℕ} {xs : List Raw} {n next : ℕ} {r : Result Child Refusal} {x x₀ : Raw} {row : Row} {c : Class} (i : ℕ) → x ≡ x₀ → row ≡ row_of x.kind x.form → c ≡ child_of row x.arity i
     → Filled t xs (place c n) next r → Filled t xs (place (child_of (row_of x₀.kind x₀.form) x₀.arity i) n) next r
 child-at {t} {xs} {n} {next} {r} {x} {x₀} {row} {c} i p q e f = subst (λ (d : Class). Filled t xs (place d n) next r) (e ∙ ap (λ (s : Row). child_of s x.arity i) q ∙ ap (λ (y : Raw). child_of (row_of y.kind y.form) y.arity i) p) f
 
 -- 6 declarator b [e]: it has one child or two, the first a binding and the second an expression
-pub declr-some : (x : Raw) → x.kind ≡ 6 → T (count_ok (row_of x.kind x.form) x.arity) → 0 < x.arity
+declr-some : (x : Raw) → x.kind ≡ 6 → T (count_ok (row_of x.kind x.form) x.arity) → 0 < x.arity
 unfolding row_of
 declr-some x k h = leb→le 1 x.arity (and_left (leb 1 x.arity) (leb x.arity 2) (rw k at h))
 
-pub declr-two : (x : Raw) → x.kind ≡ 6 → T (count_ok (row_of x.kind x.form) x.arity) → (x.arity ≡ 1 → ⊥) → x.arity ≡ 2
+declr-two : (x : Raw) → x.kind ≡ 6 → T (count_ok (row_of x.kind x.form) x.arity) → (x.arity ≡ 1 → ⊥) → x.arity ≡ 2
 unfolding row_of
 declr-two x k h n =
     let lo = leb→le 1 x.arity (and_left (leb 1 x.arity) (leb x.arity 2) (rw k at h)) in
@@ -173,16 +188,49 @@ first-binding f n = go (eqb n 1)
     go true = refl
     go false = refl
 
-pub declr-first : {t : ℕ} {xs : List Raw} {n next : ℕ} {r : Child} (x : Raw) → x.kind ≡ 6 → Filled t xs (place Kind.Binding n) next r → Filled t xs (place (child_of (row_of x.kind x.form) x.arity 0) n) next r
+declr-first : {t : ℕ} {xs : List Raw} {n next : ℕ} {r : Result Child Refusal} (x : Raw) → x.kind ≡ 6 → Filled t xs (place Kind.Binding n) next r → Filled t xs (place (child_of (row_of x.kind x.form) x.arity 0) n) next r
 declr-first {t} {xs} {n} {next} {r} x k f = subst (λ (d : Class). Filled t xs (place d n) next r) (sym (ap (λ (j : ℕ). child_of (row_of j x.form) x.arity 0) k ∙ first-binding x.form x.arity)) f
 
-pub declr-second : {t : ℕ} {xs : List Raw} {n next : ℕ} {r : Child} (x : Raw) → x.kind ≡ 6 → x.arity ≡ 2 → Filled t xs (place Kind.Expression n) next r → Filled t xs (place (child_of (row_of x.kind x.form) x.arity 1) n) next r
+declr-second : {t : ℕ} {xs : List Raw} {n next : ℕ} {r : Result Child Refusal} (x : Raw) → x.kind ≡ 6 → x.arity ≡ 2 → Filled t xs (place Kind.Expression n) next r → Filled t xs (place (child_of (row_of x.kind x.form) x.arity 1) n) next r
 unfolding row_of
 declr-second {t} {xs} {n} {next} {r} x k m f = subst (λ (d : Class). Filled t xs (place d n) next r) (sym (ap (λ (j : ℕ). child_of (row_of j x.form) x.arity 1) k ∙ ap (λ (j : ℕ). child_of (row_of 6 x.form) j 1) m)) f
 
--- no node but a binding stands at a binding's place
-pub no_other : (m n : ℕ) (x : Raw) → (m ≤ n) × T (allows Kind.Binding x.kind x.arity) × (x.kind ≡ 20 → ⊥) → ⊥
-no_other m n x h = h.2 (eqb→eq x.kind 20 h.1)
+module _ {bs : List ℕ} {n t at : ℕ} {p : Place} (F : Fitting bs n t at p) (k : (get_or (nodes_of bs n) at zero_node).kind ≡ 6) where
+  abbrev ys : List Raw
+  ys = nodes_of bs n
+
+  abbrev y : Raw
+  y = get_or ys at zero_node
+
+  counted : T (count_ok (row_of y.kind y.form) y.arity)
+  counted = ok-count t p y F.fits
+
+  other : (j : ℕ) → Kinded p y (Child.Other j)
+  other j = (ok-allows t p y F.fits, λ e. omega (arith, k, e))
+
+  pub declr-unnamed : {m : Refusal} → Filled t ys (place Kind.Binding (p.left - 1)) (at + 1) (Err m) → Filled t ys p at (Err m)
+  declr-unnamed f = fitting-refused F (fitting-none F) (declr-some y k counted) (declr-first y k f)
+
+  -- its first child is a binding
+  pub declr-no_other : {c : Child} {j : ℕ} → Filled t ys (place Kind.Binding (p.left - 1)) (at + 1) (Ok c) → c ≡ Child.Other j → ⊥
+  declr-no_other f e = let h = subst (Kinded (place Kind.Binding (p.left - 1)) (get_or ys (at + 1) zero_node)) e f.fits.1 in h.1 (eqb→eq (get_or ys (at + 1) zero_node).kind 20 h.0)
+
+  module _ {c : Child} {next : ℕ} (f : Filled t ys (place Kind.Binding (p.left - 1)) (at + 1) (Ok c)) (e : c ≡ Child.Binding next) where
+    named : Upto t ys (p.left - 1) y at 1 next
+    named = subst (λ (d : Child). Upto t ys (p.left - 1) y at 1 (behind d)) e (upto-more (fitting-none F) (declr-some y k counted) (declr-first y k f))
+
+    pub declr-alone : y.arity ≡ 1 → Filled t ys p at (Ok (Child.Other next))
+    declr-alone o = fitting-all F (Child.Other next) named (omega arith) refl (other next)
+
+    module _ (o : y.arity ≡ 1 → ⊥) where
+      two : y.arity ≡ 2
+      two = declr-two y k counted o
+
+      pub declr-init : {d : Child} {m : ℕ} → Filled t ys (place Kind.Expression (p.left - 1)) next (Ok d) → m ≡ behind d → Filled t ys p at (Ok (Child.Other m))
+      declr-init {d} {m} g q = fitting-all F (Child.Other m) (upto-more named (omega (arith, two)) (declr-second y k two g)) (omega (arith, two)) q (other m)
+
+      pub declr-bad : {m : Refusal} → Filled t ys (place Kind.Expression (p.left - 1)) next (Err m) → Filled t ys p at (Err m)
+      declr-bad g = fitting-refused F named (omega (arith, two)) (declr-second y k two g)
 
 -- the test of a node, but for the depth, looks at the node alone
 pub rest-same : {x y : Raw} (t : ℕ) (c : Class) → x ≡ y

@@ -1,11 +1,11 @@
 -- What the reader of a node promises. Assumes nothing: these are definitions.
-use Rattle.std.specs.Prelude.{◌≡◌, Bool, false, List, ◌∷◌, ℕ, ◌≤◌, T, Result, Ok, Err, length, drop, get_or}
+use Rattle.std.specs.Prelude.{◌≡◌, Bool, true, false, List, ◌∷◌, ℕ, ◌+◌, ◌*◌, ◌<◌, ◌≤◌, T, Result, Ok, Err, length, drop, get_or}
 use Rattle.def_file.specs.declared.kinds.Class.{Class}
 use Rattle.def_file.specs.declared.kinds.Class.TheVariants as Kind
 use Rattle.def_file.specs.declared.Raw.{Raw}
 use Rattle.def_file.specs.Kinds.{allows}
 use Rattle.def_file.specs.Script.{zero_node}
-use Rattle.def_file.specs.Read.{Place, fills}
+use Rattle.def_file.specs.Read.{Place, node_ok, fills, nodes_from}
 use Rattle.refusal.specs.declared.Refusal.{Refusal}
 use Rattle.refusal.specs.declared.Refusal.TheVariants.{Nodes}
 use Rattle.file_preorder.specs.declared.Child.{Child}
@@ -37,6 +37,22 @@ Kinded p x (Other j) = T (allows p.class x.kind x.arity) × (x.kind ≡ 20 → �
 abbrev pub Fits : Place → Raw → ℕ → Result Child Refusal → Type 0
 Fits p x n (Ok c) = (behind c ≤ n) × Kinded p x c
 Fits p x n (Err r) = r ≡ Nodes
+
+-- the n nodes of a file
+abbrev pub nodes_of : List ℕ → ℕ → List Raw
+nodes_of bs n = nodes_from n (drop 32 bs)
+
+-- they stand in it
+pub record Room (bs : List ℕ) (n : ℕ) : Type 0 where
+  pub few : n ≤ 1024
+  pub room : 32 + 16 * n ≤ length bs
+
+-- the node at index `at` fits the place p
+pub record Fitting (bs : List ℕ) (n t at : ℕ) (p : Place) : Type 0 where
+  pub room : Room bs n
+  pub shallow : p.left ≤ 200
+  pub less : at < n
+  pub fits : node_ok t p (get_or (nodes_of bs n) at zero_node) ≡ true
 
 -- the answer to reading the node at index `at` of xs at the place p
 pub record Filled (t : ℕ) (xs : List Raw) (p : Place) (at : ℕ) (r : Result Child Refusal) : Type 0 where

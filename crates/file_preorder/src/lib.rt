@@ -2,11 +2,11 @@
 // other, each call one deeper; the depth that is left falls from 200.
 #![tactic(auto)]
 
-ghost use Rattle.std.specs.Prelude.{◌≡◌, Bool, true, ◌&&◌, ◌||◌, ℕ, ◌+◌, ◌*◌, ◌<◌, ◌≤◌, eqb, ltb, length, drop, get_or, [], ◌∷◌};
+ghost use Rattle.std.specs.Prelude.{◌≡◌, ◌&&◌, ◌≤◌, get_or, [], ◌∷◌};
 ghost use Rattle.def_file.specs.Kinds.{allows, row_of, form_ok, count_ok};
 ghost use Rattle.def_file.specs.Script.{zero_node};
-ghost use Rattle.def_file.specs.Read.{Place, fields_ok, node_ok, fills, nodes_from};
-ghost use Rattle.file_preorder.specs.Child.{behind, place, root_place, Filled};
+ghost use Rattle.def_file.specs.Read.{fields_ok, fills};
+ghost use Rattle.file_preorder.specs.Child.{behind, place, root_place, nodes_of, Room, Fitting, Filled};
 
 use def_file::Raw;
 use def_file::kinds::{Class, allows, child, count_ok, form_ok, row_of, uses_bits, uses_text};
@@ -63,8 +63,8 @@ fn children(
     c: Class,
     left: usize,
 ) -> Result<Child, Refusal>
-    requires { (n ≤ 1024) × (32 + 16 * n ≤ length file.now) × (left ≤ 200) × (at < n) × (node_ok t (place c left) (get_or (nodes_from n (drop 32 file.now)) at zero_node) ≡ true) }
-    ensures { Filled t (nodes_from n (drop 32 file.now)) (place c left) at result }
+    requires { Fitting file.now n t at (place c left) }
+    ensures { Filled t (nodes_of file.now n) (place c left) at result }
 {
     let x = raw_at(file, 32 + 16 * at);
     let row = row_of(x.kind, x.form);
@@ -92,8 +92,8 @@ fn declarator(
     c: Class,
     left: usize,
 ) -> Result<Child, Refusal>
-    requires { (n ≤ 1024) × (32 + 16 * n ≤ length file.now) × (left ≤ 200) × (at < n) × (node_ok t (place c left) (get_or (nodes_from n (drop 32 file.now)) at zero_node) ≡ true) × ((get_or (nodes_from n (drop 32 file.now)) at zero_node).kind ≡ 6) }
-    ensures { Filled t (nodes_from n (drop 32 file.now)) (place c left) at result }
+    requires { Fitting file.now n t at (place c left) × ((get_or (nodes_of file.now n) at zero_node).kind ≡ 6) }
+    ensures { Filled t (nodes_of file.now n) (place c left) at result }
 {
     let x = raw_at(file, 32 + 16 * at);
     let name = node(file, n, t, at + 1, Class::Binding, left - 1)?;
@@ -110,8 +110,8 @@ fn declarator(
 // The node at index `at` and all below it, at a place of class c with `left` levels.
 #[cycle(children_declarator_node)]
 fn node(file: &[u8], n: usize, t: usize, at: usize, c: Class, left: usize) -> Result<Child, Refusal>
-    requires { (n ≤ 1024) × (32 + 16 * n ≤ length file.now) × (left ≤ 200) }
-    ensures { Filled t (nodes_from n (drop 32 file.now)) (place c left) at result }
+    requires { Room file.now n × (left ≤ 200) }
+    ensures { Filled t (nodes_of file.now n) (place c left) at result }
 {
     if n <= at || left == 0 {
         return Err(Refusal::Nodes);
@@ -129,8 +129,8 @@ fn node(file: &[u8], n: usize, t: usize, at: usize, c: Class, left: usize) -> Re
 
 // Row 6: the n nodes are one script in preorder, against the kinds, with t texts.
 pub fn nodes_ok(file: &[u8], n: usize, t: usize) -> bool
-    requires { (n ≤ 1024) × (32 + 16 * n ≤ length file.now) }
-    ensures { result ≡ fills t (root_place ∷ []) (nodes_from n (drop 32 file.now)) }
+    requires { Room file.now n }
+    ensures { result ≡ fills t (root_place ∷ []) (nodes_of file.now n) }
 {
     match node(file, n, t, 0, Class::Root, 200) {
         Ok(root) => root.behind() == n,

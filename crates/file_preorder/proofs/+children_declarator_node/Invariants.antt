@@ -1,7 +1,7 @@
 -- A node is one deeper than its children: twice the depth that is left falls, and between a node and the reader of its children one more.
-use Rattle.std.proofs.Common.{◌+◌, ◌*◌, ◌-◌, ◌≤◌, drop, get_or}
+use Rattle.std.proofs.Common.{◌+◌, ◌*◌, ◌-◌, get_or}
 use Rattle.def_file.specs.Script.{zero_node}
-use Rattle.def_file.specs.Read.{nodes_from}
+use Rattle.file_preorder.specs.Child.{nodes_of}
 use Rattle.file_preorder.proofs.Fill.{Upto}
 use Rattle.file_preorder.proofs.+children_declarator_node.Given as goal
 
@@ -16,7 +16,4 @@ decreases-node l = 2 * l.left + 1
 
 -- the first i children are read
 abbrev pub invariant-children-loop-i : goal.invariant-children-loop-i
-invariant-children-loop-i l = Upto l.t (nodes_from l.n (drop 32 l.file)) (l.left - 1) (get_or (nodes_from l.n (drop 32 l.file)) l.at zero_node) l.at l.i l.next × (l.i ≤ l.count)
-
-abbrev pub decreases-children-loop-i : goal.decreases-children-loop-i
-decreases-children-loop-i l = l.count - l.i
+invariant-children-loop-i l = Upto l.t (nodes_of l.file l.n) (l.left - 1) (get_or (nodes_of l.file l.n) l.at zero_node) l.at l.i l.next

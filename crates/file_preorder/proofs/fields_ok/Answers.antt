@@ -1,4 +1,0 @@
-use Rattle.file_preorder.proofs.fields_ok.Goals as goal
-
-pub returns : goal.returns
-returns c = cc
