@@ -1,14 +1,15 @@
 -- Stores of bytes, over the width, and copies. Assumes nothing.
-use mathlib.Core.Path.{◌≡◌, refl, sym, ap, ◌∙◌}
+use mathlib.Core.Path.{◌≡◌, refl, sym, ap, ap₂, ◌∙◌}
 use mathlib.Core.List.{List, [], ◌∷◌, ◌++◌}
-use Prim.Native.Nat.{ℕ, zero, suc, ◌+◌, ◌*◌, ◌/◌, ◌%◌, ◌^◌, ◌<◌}
-use native.Mathlib.Nat.{pow-suc, zero-add, suc-add, add-zero, mul_assoc, mul_left_comm, mod-lt, div-add-mod}
-use native.Mathlib.Numerals.{add-one}
+use Prim.Native.Nat.{ℕ, zero, suc, ◌+◌, ◌*◌, ◌/◌, ◌%◌, ◌^◌, ◌≤◌, ◌<◌}
+use native.Mathlib.Nat.{pow-suc, add-zero, div-one, div-div-eq-div-mul}
 use native.Mathlib.Omega.{arith}
-use lib.ListN.{length, get_or, set, drop, length-drop}
-use lib.Seq.{sets, paste, paste-suc, get_or-drop}
+use lib.ListN.{length, set, take, drop}
+use lib.Seq.{sets, sets-eq, drop-drop}
+use borrow.Rule.Slice.PartMut.{put_mid}
+use Rattle.std.specs.Int.{byte_at, bytes_low_first}
+use Rattle.std.proofs.Common.{append_assoc}
 use Rattle.def_file.specs.Write.{bytes}
-use Rattle.laws_roundtrip.proofs.Numbers.{bytes-length}
 
 -- a second run of stores right behind the first
 sets_more : (l vs us : List ℕ) (i j : ℕ) → j ≡ i + length vs → sets (sets l i vs) j us ≡ sets l i (vs ++ us)
@@ -25,33 +26,35 @@ first l i vs e = record { is = e }
 pub then : {l : List ℕ} {i : ℕ} {vs l₁ l₂ : List ℕ} → Stored l i vs l₁ → (j : ℕ) (us : List ℕ) → l₂ ≡ sets l₁ j us → j ≡ i + length vs → Stored l i (vs ++ us) l₂
 then {l} {i} {vs} {l₁} {l₂} s j us q e = record { is = q ∙ ap (λ (x : List ℕ). sets x j us) s.is ∙ sets_more l vs us i j e }
 
--- the bytes of a number are those of its low and of its high part
-module _ (h : ℕ) where
-  bytes-join : (k a b : ℕ) → a < 256 ^ k → bytes (k + h) (a + 256 ^ k * b) ≡ bytes k a ++ bytes h b
-  bytes-join zero a b l = let e : a + 1 * b ≡ b = omega arith in rw (zero-add, e) refl
-  bytes-join (suc k) a b l =
-      let w : 256 ^ suc k * b ≡ 256 * (256 ^ k * b) = rw pow-suc (mul_assoc (256 ^ k) 256 b ∙ mul_left_comm (256 ^ k) 256 b) in
-      let r : (a + 256 ^ suc k * b) % 256 ≡ a % 256 = omega arith in
-      let d : (a + 256 ^ suc k * b) / 256 ≡ a / 256 + 256 ^ k * b = omega arith in
-      let s : a < 256 ^ k * 256 = rw pow-suc at l in
-      rw (suc-add, r, d, bytes-join k (a / 256) b (omega arith)) refl
+-- a stretch stored at once
+pub stretch : (l vs : List ℕ) (i k : ℕ) → k ≡ length vs → i + length vs ≤ length l → put_mid i k l vs ≡ sets l i vs
+stretch l vs i k e h =
+    ap (λ (r : List ℕ). take i l ++ (vs ++ r)) (drop-drop k i l ∙ ap (λ (n : ℕ). drop (i + n) l) e)
+    ∙ sym (append_assoc (take i l) vs (drop (i + length vs) l)) ∙ sym (sets-eq vs l i h)
 
-positive : (k : ℕ) → 0 < 256 ^ k
-positive zero = omega arith
-positive (suc k) = rw pow-suc (omega (arith, positive k))
+-- the bytes of a number, as std's methods give them
+low-first : (i k n : ℕ) → bytes_low_first i k n ≡ bytes k (n / 256 ^ i)
+low-first i zero n = refl
+low-first i (suc k) n = ap₂ {C = List ℕ} (λ (b : ℕ) (bs : List ℕ). b ∷ bs) (here i) (low-first (suc i) k n ∙ ap (bytes k) next)
+  where
+    here : (i : ℕ) → byte_at i n ≡ n / 256 ^ i % 256
+    here zero = sym (ap (λ (m : ℕ). m % 256) (div-one n))
+    here (suc i) = refl
 
-pub halves : (k h x : ℕ) → bytes (k + h) x ≡ bytes k (x % 256 ^ k) ++ bytes h (x / 256 ^ k)
-halves k h x =
-    let e : x ≡ x % 256 ^ k + 256 ^ k * (x / 256 ^ k) = omega (arith, div-add-mod x (256 ^ k)) in
-    ap (bytes (k + h)) e ∙ bytes-join h k (x % 256 ^ k) (x / 256 ^ k) (mod-lt x (positive k))
+    next : n / 256 ^ suc i ≡ n / 256 ^ i / 256
+    next = rw pow-suc (sym (div-div-eq-div-mul n (256 ^ i) 256))
 
--- a number stored in two halves
-pub two : (l : List ℕ) (i k h x : ℕ) {l₁ l₂ : List ℕ} → l₁ ≡ sets l i (bytes k (x % 256 ^ k)) → l₂ ≡ sets l₁ (i + k) (bytes h (x / 256 ^ k)) → l₂ ≡ sets l i (bytes (k + h) x)
-two l i k h x p q = (then (first l i (bytes k (x % 256 ^ k)) p) (i + k) (bytes h (x / 256 ^ k)) q (omega (arith, bytes-length k (x % 256 ^ k)))).is ∙ ap (sets l i) (sym (halves k h x))
+little : (k n : ℕ) → bytes_low_first 0 k n ≡ bytes k n
+little k n = low-first 0 k n ∙ ap (bytes k) (div-one n)
 
-pub one : (l : List ℕ) (i x : ℕ) → x < 256 → set l i x ≡ sets l i (bytes 1 x)
-one l i x h = let e : x % 256 ≡ x = omega arith in rw e refl
+pub first_number : (l : List ℕ) (i k n : ℕ) {f l' : List ℕ} → f ≡ bytes_low_first 0 k n → l' ≡ sets l i f → Stored l i (bytes k n) l'
+first_number l i k n e q = first l i (bytes k n) (q ∙ ap (sets l i) (e ∙ little k n))
 
--- a copy, byte by byte
-pub copy_more : (d₀ d s : List ℕ) (at from j : ℕ) → d ≡ paste d₀ at (drop from s) j → at + j < length d₀ → from + j < length s → set d (at + j) (get_or s (from + j) 0) ≡ paste d₀ at (drop from s) (j + 1)
-copy_more d₀ d s at from j e hd hs = rw (e, add-one, ← get_or-drop from s j 0) (paste-suc d₀ at (drop from s) j 0 hd (simp length-drop (omega arith)))
+pub then_number : {l : List ℕ} {i : ℕ} {vs l₁ l₂ f : List ℕ} → Stored l i vs l₁ → (j k n : ℕ) → f ≡ bytes_low_first 0 k n → l₂ ≡ sets l₁ j f → j ≡ i + length vs → Stored l i (vs ++ bytes k n) l₂
+then_number {l₁ = l₁} s j k n e q h = then s j (bytes k n) (q ∙ ap (sets l₁ j) (e ∙ little k n)) h
+
+pub two_bytes : (k f : ℕ) → k < 256 → f < 256 → k ∷ f ∷ [] ≡ bytes 1 k ++ bytes 1 f
+two_bytes k f a b =
+    let p : k % 256 ≡ k = omega arith in
+    let q : f % 256 ≡ f = omega arith in
+    rw (p, q) refl

@@ -9,7 +9,7 @@ use def_file::Raw;
 // The bytes of a field.
 fn put<const N: usize>(b: &mut [u8], i: usize, field: [u8; N])
     requires { i + N ≤ length b.old }
-    ensures { b.new ≡ sets b.old i field }
+    ensures { b.new ≡ sets b.old i field.entry }
 {
     b[i..i + N].copy_from_slice(&field);
 }

@@ -1,11 +1,11 @@
 -- The text of a node by its number. Assumes nothing.
-use mathlib.Core.Path.{sym, ap, ◌∙◌}
+use Rattle.std.proofs.Common.{sym, ap, ◌∙◌}
 use Rattle.def_file.specs.declared.Raw.{Raw}
 use Rattle.file_write.proofs.Backs as backs
 use Rattle.file_write.proofs.nodes.text_in.Goals as goal
 
-pub returns-then-kept : goal.returns-then-kept
-returns-then-kept c = let a = c.args in ap (λ (x : Raw). x.text) c.node_in-x.ensures ∙ sym (backs.text-kept a.file.now a.kind a.m c.if-kept.true)
+pub returns-then-kind-eq29 : goal.returns-then-kind-eq29
+returns-then-kind-eq29 c = let h = c.then-kind-eq29 in ?
 
 pub returns : goal.returns
-returns c = let a = c.args in sym (backs.text-none a.file.now a.kind a.m c.if-kept.false)
+returns c = ?

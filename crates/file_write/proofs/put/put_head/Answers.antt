@@ -1,8 +1,6 @@
 -- Eight numbers, one behind the other. Assumes nothing.
-use mathlib.Core.Path.{refl}
-use Prim.Native.Nat.{◌+◌, ◌*◌}
-use Rattle.def_file.specs.Write.{bytes}
-use Rattle.file_write.proofs.Stores as stores
+use Rattle.std.proofs.Common.{◌+◌, ◌*◌, refl}
+use Rattle.file_write.proofs.Stores.{first_number, then_number}
 use Rattle.file_write.proofs.put.put_head.Goals as goal
 
 pub returns : goal.returns
@@ -11,11 +9,11 @@ returns c =
     let n = a.n in
     let t = a.t in
     let s = a.s in
-    let s0 = stores.first a.b.now 0 (bytes 4 1) c.put32.ensures in
-    let s1 = stores.then s0 4 (bytes 4 (32 + 16 * n + 4 * t + s)) c.put32-2.ensures refl in
-    let s2 = stores.then s1 8 (bytes 4 n) c.put32-3.ensures refl in
-    let s3 = stores.then s2 12 (bytes 4 32) c.put32-4.ensures refl in
-    let s4 = stores.then s3 16 (bytes 4 t) c.put32-5.ensures refl in
-    let s5 = stores.then s4 20 (bytes 4 (32 + 16 * n)) c.put32-6.ensures refl in
-    let s6 = stores.then s5 24 (bytes 4 (32 + 16 * n + 4 * t)) c.put32-7.ensures refl in
-    (stores.then s6 28 (bytes 4 s) c.put32-8.ensures refl).is
+    let s0 = first_number a.b.now 0 4 1 c.to_le_bytes.ensures c.put.ensures in
+    let s1 = then_number s0 4 4 (32 + 16 * n + 4 * t + s) c.to_le_bytes-2.ensures c.put-2.ensures refl in
+    let s2 = then_number s1 8 4 n c.to_le_bytes-3.ensures c.put-3.ensures refl in
+    let s3 = then_number s2 12 4 32 c.to_le_bytes-4.ensures c.put-4.ensures refl in
+    let s4 = then_number s3 16 4 t c.to_le_bytes-5.ensures c.put-5.ensures refl in
+    let s5 = then_number s4 20 4 (32 + 16 * n) c.to_le_bytes-6.ensures c.put-6.ensures refl in
+    let s6 = then_number s5 24 4 (32 + 16 * n + 4 * t) c.to_le_bytes-7.ensures c.put-7.ensures refl in
+    (then_number s6 28 4 s c.to_le_bytes-8.ensures c.put-8.ensures refl).is

@@ -1,8 +1,8 @@
 -- The fields of a node, one behind the other. Assumes nothing.
-use mathlib.Core.Path.{refl}
+use Rattle.std.proofs.Common.{◌+◌, ◌++◌, ap, ◌∙◌, refl, arith}
+use Rattle.std.proofs.lemmas.List.Edits.{sets}
 use Rattle.def_file.specs.Write.{bytes}
-use Rattle.file_write.proofs.Stores as stores
-use Prim.Native.Nat.{◌+◌}
+use Rattle.file_write.proofs.Stores.{first, then_number, two_bytes}
 use Rattle.file_write.proofs.put.put_raw.Goals as goal
 
 pub returns : goal.returns
@@ -10,8 +10,7 @@ returns c =
     let a = c.args in
     let x = a.x in
     let i = a.i in
-    let s1 = stores.first a.b.now i (bytes 1 x.kind) c.put8.ensures in
-    let s2 = stores.then s1 (i + 1) (bytes 1 x.form) c.put8-2.ensures refl in
-    let s4 = stores.then s2 (i + 2) (bytes 2 x.arity) c.put16.ensures refl in
-    let s8 = stores.then s4 (i + 4) (bytes 4 x.text) c.put32.ensures refl in
-    (stores.then s8 (i + 8) (bytes 8 x.bits) c.put64.ensures refl).is
+    let s2 = first a.b.now i (bytes 1 x.kind ++ bytes 1 x.form) (c.put.ensures ∙ ap (sets a.b.now i) (two_bytes x.kind x.form (omega arith) (omega arith))) in
+    let s4 = then_number s2 (i + 2) 2 x.arity c.to_le_bytes.ensures c.put-2.ensures refl in
+    let s8 = then_number s4 (i + 4) 4 x.text c.to_le_bytes-2.ensures c.put-3.ensures refl in
+    (then_number s8 (i + 8) 8 x.bits c.to_le_bytes-3.ensures c.put-4.ensures refl).is
