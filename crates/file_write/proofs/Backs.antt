@@ -1,4 +1,4 @@
--- A node turned back, case by case, and the bytes of all. Assumes nothing.
+-- A node and an identifier by their numbers, and the bytes of all nodes. Assumes nothing.
 use mathlib.Core.Path.{◌≡◌, refl, sym, ap, ◌∙◌}
 use mathlib.Core.Bool.{true, false, ◌&&◌, ◌||◌}
 use mathlib.Core.List.{List, [], ◌∷◌, ◌++◌, map, map-append, append-nil}
@@ -21,27 +21,10 @@ use Rattle.laws_roundtrip.proofs.Nodes.{node-bytes-length}
 use Rattle.file_write.specs.Back.{node_in, ident_in, text_in, named, plain, back_in}
 use Rattle.file_write.proofs.Stores.{first, then}
 
--- a number of one of n nodes
-pub within : (m n : ℕ) → (leb 1 m && leb m n) ≡ true → (1 ≤ m) × (m ≤ n)
-within m n h = let p = both (leb 1 m) (leb m n) h in (leb-true 1 m p.0, leb-true m n p.1)
-
 module _ (bs : List ℕ) where
-  module _ (n m : ℕ) (e : n ≡ u32 bs 8) where
-    pub node-there : (leb 1 m && leb m n) ≡ true → node_in bs m ≡ numbered bs m
-    unfolding node_in
-    node-there h = rw (← e, h) refl
-
-    pub node-none : (leb 1 m && leb m n) ≡ false → node_in bs m ≡ zero_node
-    unfolding node_in
-    node-none h = rw (← e, h) refl
-
-  pub text-kept : (k m : ℕ) → (eqb k 29 || eqb k 37) ≡ true → text_in bs k m ≡ (node_in bs m).text
-  unfolding text_in
-  text-kept k m h = rw h refl
-
-  pub text-none : (k m : ℕ) → (eqb k 29 || eqb k 37) ≡ false → text_in bs k m ≡ 0
-  unfolding text_in
-  text-none k m h = rw h refl
+  pub node-there : (n m : ℕ) → n ≡ u32 bs 8 → (leb 1 m && leb m n) ≡ true → node_in bs m ≡ numbered bs m
+  unfolding node_in
+  node-there n m e h = rw (← e, h) refl
 
   module _ (w : List ℕ) where
     pub ident-there : (i : ℕ) → i < get_or w 4 0 → ident_in bs w i ≡ node_in bs (get_or w (15504 + i) 0)
@@ -51,25 +34,6 @@ module _ (bs : List ℕ) where
     pub ident-none : (i : ℕ) → get_or w 4 0 ≤ i → ident_in bs w i ≡ zero_node
     unfolding ident_in
     ident-none i h = rw (le-ltb i (get_or w 4 0) h) refl
-
-    pub ident-out : (i : ℕ) → i < get_or w 4 0 → length w ≤ 15504 + i → ident_in bs w i ≡ zero_node
-    unfolding node_in
-    ident-out i h l = ident-there i h ∙ ap (node_in bs) (get_or-eq_default w 0 l)
-
-    -- the three cases of a node, by what was read of it
-    module _ (c : Core) (k : ℕ) (e : k ≡ c.kind) where
-      pub back-literal : (leb 22 k && leb k 25) ≡ true → (m : ℕ) → m ≡ c.num → (x : Raw) → x ≡ node_in bs m → x ≡ back_in bs w c
-      unfolding back_in
-      back-literal h m q x r = rw (← e, h, ← q) r
-
-      module _ (h : (leb 22 k && leb k 25) ≡ false) (a m : ℕ) (ea : a ≡ c.arity) (em : m ≡ c.num) where
-        pub back-named : (eqb k 20 || eqb k 21) ≡ true → (x : Raw) → x ≡ ident_in bs w m → named k a x ≡ back_in bs w c
-        unfolding back_in
-        back-named g x r = rw (← e, h, g, ← em, ← r, ← ea) refl
-
-        pub back-plain : (eqb k 20 || eqb k 21) ≡ false → (f t : ℕ) → f ≡ c.form → t ≡ text_in bs k m → plain (record { kind = k; form = f; arity = a; num = m }) t ≡ back_in bs w c
-        unfolding back_in
-        back-plain g f t ef et = rw (← e, h, g, ← em, ← et, ← ea, ← ef) refl
 
 -- the bytes of one node more
 node-bytes-snoc : (xs : List Raw) (x : Raw) → node_bytes (xs ++ (x ∷ [])) ≡ node_bytes xs ++ raw_bytes x
@@ -91,6 +55,6 @@ unfolding tab
 map-tab g zero f = refl
 map-tab g (suc n) f = map-append g (tab n f) (f n ∷ []) ∙ ap (λ (r : List Raw). r ++ (g (f n) ∷ [])) (map-tab g n f)
 
-pub all_back : (g : Core → Raw) (w : List ℕ) → map g (tree w) ≡ tab (get_or w 0 0) (λ k. g (node_of w k))
+pub nodes-all : (g : Core → Raw) (w o : List ℕ) (k : ℕ) {o₁ : List ℕ} → k ≡ get_or w 0 0 → o₁ ≡ sets o 0 (node_bytes (tab k (λ j. g (node_of w j)))) → o₁ ≡ sets o 0 (node_bytes (map g (tree w)))
 unfolding tree
-all_back g w = map-tab g (get_or w 0 0) (λ k. node_of w k)
+nodes-all g w o k e p = p ∙ ap (λ (xs : List Raw). sets o 0 (node_bytes xs)) (ap (λ (n : ℕ). tab n (λ j. g (node_of w j))) e ∙ sym (map-tab g (get_or w 0 0) (λ j. node_of w j)))

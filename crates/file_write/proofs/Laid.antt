@@ -13,9 +13,10 @@ use Rattle.words.specs.Layout.{tree}
 use Rattle.words.proofs.Nodes.{tree-length}
 use Rattle.laws_roundtrip.proofs.Nodes.{node-bytes-length}
 use Rattle.file_read.specs.declared.header.Header.{Header}
-use Rattle.file_read.specs.declared.header.Head.{Head}
 use Rattle.file_read.specs.Head.{headed, Counts, Headed, HeadIs}
-use Rattle.file_write.specs.declared.Written.{Written}
+use Rattle.std.specs.Prelude.{Result, Ok, Err}
+use Rattle.refusal.specs.declared.Refusal.{Refusal}
+use Rattle.refusal.specs.Number.{number}
 use Rattle.file_write.specs.Back.{back_in}
 use Rattle.file_write.specs.Written.{Answer, refused, wrote, total, in_room, fitted, written, result_bytes, left, Wrote, Counted, none, behind}
 
@@ -97,28 +98,28 @@ long-enough n room h = rw (le-leb n room h, in_room) refl
 
 -- an answer, and the buffer that it leaves
 module _ (out r : List ℕ) (a : Answer) where
-  pub left_so : (k : ℕ) → a ≡ refused k → Wrote out r r a (Written.Refused k)
+  pub left_so : (k : Refusal) → a ≡ refused (number k) → Wrote out r r a (Err k)
   left_so k e = record { is = sym e; leaves = sym (ap (left out r) e) }
 
-  done : (n : ℕ) (r' : List ℕ) → a ≡ wrote n → r' ≡ out ++ drop n r → Wrote out r r' a (Written.Done n)
+  done : (n : ℕ) (r' : List ℕ) → a ≡ wrote n → r' ≡ out ++ drop n r → Wrote out r r' a (Ok n)
   done n r' e q = record { is = sym e; leaves = q ∙ sym (ap (left out r) e) }
 
 -- all written
-pub all-wrote : (bs w r : List ℕ) (n t b : ℕ) → Counted bs w n t b → 1 ≤ get_or w 0 0 → get_or w 0 0 ≤ 1024 → 32 + 16 * get_or w 0 0 + 4 * t + b ≤ length r
-    → (r₁ p r₃ : List ℕ) (e : ℕ) → e ≡ length r → r₁ ≡ sets r 0 (head_bytes (get_or w 0 0) t b) → p ≡ sets (take (e - 32) (drop 32 r₁)) 0 (node_bytes (map (back_in bs w) (tree w)))
-    → r₃ ≡ paste (take 32 r₁ ++ (p ++ drop (e - 32) (drop 32 r₁))) (32 + 16 * get_or w 0 0) (drop (32 + 16 * n) bs) (4 * t + b)
-    → Wrote (result_bytes bs w) r r₃ (fitted bs w (length r)) (Written.Done (32 + 16 * get_or w 0 0 + 4 * t + b))
+pub all-wrote : (bs w r : List ℕ) (h : Header) → Counted bs w h → 1 ≤ get_or w 0 0 → get_or w 0 0 ≤ 1024 → 32 + 16 * get_or w 0 0 + 4 * h.texts + h.bytes ≤ length r
+    → (r₁ p r₃ : List ℕ) (e : ℕ) → e ≡ length r → r₁ ≡ sets r 0 (head_bytes (get_or w 0 0) h.texts h.bytes) → p ≡ sets (take (e - 32) (drop 32 r₁)) 0 (node_bytes (map (back_in bs w) (tree w)))
+    → r₃ ≡ paste (take 32 r₁ ++ (p ++ drop (e - 32) (drop 32 r₁))) (32 + 16 * get_or w 0 0) (drop (32 + 16 * h.nodes) bs) (4 * h.texts + h.bytes)
+    → Wrote (result_bytes bs w) r r₃ (fitted bs w (length r)) (Ok (32 + 16 * get_or w 0 0 + 4 * h.texts + h.bytes))
 unfolding result_bytes
-all-wrote bs w r n t b K some few room r₁ p r₃ e q e₁ e₂ e₃ =
+all-wrote bs w r h K some few room r₁ p r₃ e q e₁ e₂ e₃ =
     let m = get_or w 0 0 in
     let ns = node_bytes (map (back_in bs w) (tree w)) in
-    let ts = drop (32 + 16 * n) bs in
-    let size : 32 + 16 * m + 4 * t + b ≡ total bs w = omega (arith, K.texts, K.bytes) in
-    let tail : length ts ≡ 4 * t + b = simp length-drop (omega (arith, K.size)) in
-    let sum : 32 + 16 * m + (4 * t + b) ≡ 32 + 16 * m + 4 * t + b = omega arith in
-    let all = laid r (head_bytes m t b) ns ts m (4 * t + b) refl (nodes-length bs w) tail (omega arith) r₁ e₁ e q p e₂ in
-    done (result_bytes bs w) r (fitted bs w (length r)) (32 + 16 * m + 4 * t + b) r₃ (fit-room bs w (length r) some few ∙ long-enough (total bs w) (length r) (omega (arith, size)) ∙ ap wrote (sym size))
-    (rw (← K.texts, ← K.bytes, ← K.source.count) (e₃ ∙ all ∙ ap (λ (k : ℕ). head_bytes m t b ++ ns ++ ts ++ drop k r) sum))
+    let ts = drop (32 + 16 * h.nodes) bs in
+    let size : 32 + 16 * m + 4 * h.texts + h.bytes ≡ total bs w = omega (arith, K.texts, K.bytes) in
+    let tail : length ts ≡ 4 * h.texts + h.bytes = simp length-drop (omega (arith, K.size)) in
+    let sum : 32 + 16 * m + (4 * h.texts + h.bytes) ≡ 32 + 16 * m + 4 * h.texts + h.bytes = omega arith in
+    let all = laid r (head_bytes m h.texts h.bytes) ns ts m (4 * h.texts + h.bytes) refl (nodes-length bs w) tail (omega arith) r₁ e₁ e q p e₂ in
+    done (result_bytes bs w) r (fitted bs w (length r)) (32 + 16 * m + 4 * h.texts + h.bytes) r₃ (fit-room bs w (length r) some few ∙ long-enough (total bs w) (length r) (omega (arith, size)) ∙ ap wrote (sym size))
+    (rw (← K.texts, ← K.bytes, ← K.source.count) (e₃ ∙ all ∙ ap (λ (k : ℕ). head_bytes m h.texts h.bytes ++ ns ++ ts ++ drop k r) sum))
 
 -- before that: too few words, and the header
 module _ (bs w : List ℕ) (room : ℕ) where
@@ -132,17 +133,17 @@ module _ (bs w : List ℕ) (room : ℕ) where
     behind-so x e = rw (← e, le-leb 16384 (length w) l, written) refl
 
     -- by what read_header gives
-    module _ {a : Head} (h : HeadIs bs a) where
-      pub head-refused : (k : ℕ) → a ≡ Head.Refused k → written bs w room ≡ refused k
-      head-refused k e = behind-so (bad k) (h.is none ∙ ap (λ (x : Head). headed x none) e)
+    module _ {a : Result Header Refusal} (h : HeadIs bs a) where
+      pub head-refused : (k : Refusal) → a ≡ Err k → written bs w room ≡ refused (number k)
+      head-refused k e = behind-so (bad (number k)) (h.is none ∙ ap (λ (x : Result Header Refusal). headed x none) e)
 
-      module _ (x : Header) (e : a ≡ Head.Found x) where
+      module _ (x : Header) (e : a ≡ Ok x) where
         head-found : written bs w room ≡ fitted bs w room
-        head-found = behind-so none (h.is none ∙ ap (λ (y : Head). headed y none) e)
+        head-found = behind-so none (h.is none ∙ ap (λ (y : Result Header Refusal). headed y none) e)
 
-        pub counted : Counted bs w x.nodes x.texts x.bytes
+        pub counted : Counted bs w x
         counted =
-            let k : Counts bs x = subst (λ (y : Head). Headed bs y) e h.counts in
+            let k : Counts bs x = subst (λ (y : Result Header Refusal). Headed bs y) e h.counts in
             record {
               source = record { count = k.nodes; few = k.few; room = omega (arith, k.size); long = l };
               texts = k.texts;
@@ -152,5 +153,5 @@ module _ (bs w : List ℕ) (room : ℕ) where
               size = k.size;
             }
 
-        pub as-found : {out r r' : List ℕ} {y : Written} → Wrote out r r' (fitted bs w room) y → Wrote out r r' (written bs w room) y
+        pub as-found : {out r r' : List ℕ} {y : Result ℕ Refusal} → Wrote out r r' (fitted bs w room) y → Wrote out r r' (written bs w room) y
         as-found {out} {r} {r'} {y} q = subst (λ (z : Answer). Wrote out r r' z y) (sym head-found) q

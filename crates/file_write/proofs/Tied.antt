@@ -25,7 +25,8 @@ use Rattle.laws_roundtrip.proofs.Nodes.{nodes-length}
 use Rattle.laws_roundtrip.proofs.Texts.{texts-length}
 use Rattle.laws_roundtrip.proofs.Header.{and-true, passes}
 use Rattle.laws_roundtrip.proofs.Round.{found, texts-written, ends-written, body-length}
-use Rattle.file_write.specs.declared.Written.{Written}
+use Rattle.std.specs.Prelude.{Result}
+use Rattle.refusal.specs.declared.Refusal.{Refusal}
 use Rattle.file_write.specs.Back.{node_in, ident_in, text_in, back_in}
 use Rattle.file_write.specs.Written.{total, in_room, none, written, result_bytes, Wrote}
 use Rattle.file_write.proofs.Laid.{bytes-total, fit-room, behind-so}
@@ -115,5 +116,5 @@ module _ (bs w : List ℕ) (s : Script) (h : read bs ≡ script s) where
       pub answer-is : (room : ℕ) → written bs w room ≡ in_room (length (file (result_script s w))) room
       answer-is room = behind-so bs w room long none (passes (found bs s h).head none) ∙ fit-room bs w room some few ∙ ap (λ (k : ℕ). in_room k room) (sym (result-length y))
 
-      pub wrote-file : (r r' : List ℕ) (x : Written) → Wrote (result_bytes bs w) r r' (written bs w (length r)) x → Wrote (file (result_script s w)) r r' (in_room (length (file (result_script s w))) (length r)) x
+      pub wrote-file : (r r' : List ℕ) (x : Result ℕ Refusal) → Wrote (result_bytes bs w) r r' (written bs w (length r)) x → Wrote (file (result_script s w)) r r' (in_room (length (file (result_script s w))) (length r)) x
       wrote-file r r' x q = rw (← answer-is (length r), ← result-is y) q

@@ -11,6 +11,7 @@ use file_fields::fields::raw_at;
 use words::{arity_at, form_at, kind_at, layout, num_at};
 
 // Node number m of a file of n nodes; the number 0 where there is none.
+#[tactic(auto, using(std::proofs::lemmas::Bool::Decides::nat_tests), unfolding(crate::specs::Back::node_in))]
 fn node_in(file: &[u8], words: &[u32], n: usize, m: usize) -> Raw
     requires { Source file.now words.now n }
     ensures { result ≡ node_in file.now m }
@@ -22,6 +23,7 @@ fn node_in(file: &[u8], words: &[u32], n: usize, m: usize) -> Raw
 }
 
 // Identifier i, by the first node that has it.
+#[tactic(auto, using(std::proofs::lemmas::Bool::Decides::nat_tests), unfolding(crate::specs::Back::ident_in))]
 fn ident_in(file: &[u8], words: &[u32], n: usize, i: u32) -> Raw
     requires { Source file.now words.now n }
     ensures { result ≡ ident_in file.now words.now i }
@@ -37,6 +39,7 @@ fn ident_in(file: &[u8], words: &[u32], n: usize, i: u32) -> Raw
 }
 
 // The text of node number m, for a kind that keeps it.
+#[tactic(auto, using(std::proofs::lemmas::Bool::Decides::nat_tests), unfolding(crate::specs::Back::text_in))]
 fn text_in(file: &[u8], words: &[u32], n: usize, kind: u32, m: usize) -> u32
     requires { Source file.now words.now n }
     ensures { result ≡ text_in file.now kind m }
@@ -48,6 +51,7 @@ fn text_in(file: &[u8], words: &[u32], n: usize, kind: u32, m: usize) -> u32
 }
 
 // Node k of the tree, as a node of the file.
+#[tactic(auto, using(std::proofs::lemmas::Bool::Decides::nat_tests), unfolding(crate::specs::Back::back_in))]
 fn back(file: &[u8], words: &[u32], n: usize, k: usize) -> Raw
     requires { Source file.now words.now n × (k < 1024) }
     ensures { result ≡ back_in file.now words.now (node_of words.now k) }

@@ -1,8 +1,6 @@
 -- Header, nodes and texts, one behind the other. Assumes nothing.
-use mathlib.Core.Path.{◌∙◌}
-use Prim.Native.Nat.{◌≤◌, ◌<◌}
-use native.Mathlib.Omega.{arith}
-use lib.ListN.{length, get_or}
+use Rattle.std.proofs.Common.{◌≤◌, ◌<◌, length, get_or, ◌∙◌, arith}
+use Rattle.refusal.specs.declared.Refusal.TheVariants.{Room, Buffer}
 use Rattle.file_write.specs.Written.{fitted, total, result_bytes}
 use Rattle.file_write.proofs.Laid as laid
 use Rattle.file_write.proofs.write_counted.Goals as goal
@@ -16,7 +14,7 @@ returns-then-m-eq0 c =
     let bs = a.file.now in
     let w = a.words.now in
     let r = a.res.now in
-    laid.left_so (result_bytes bs w) r (fitted bs w (length r)) 9 (laid.fit_none bs w (length r) c.if-m-eq0.true)
+    laid.left_so (result_bytes bs w) r (fitted bs w (length r)) Room (laid.fit_none bs w (length r) c.if-m-eq0.true)
 
 pub returns-then-m-gt1024 : goal.returns-then-m-gt1024
 returns-then-m-gt1024 c =
@@ -25,7 +23,7 @@ returns-then-m-gt1024 c =
     let w = a.words.now in
     let r = a.res.now in
     let l : 1 ≤ get_or w 0 0 = omega arith in
-    laid.left_so (result_bytes bs w) r (fitted bs w (length r)) 9 (laid.fit-many bs w (length r) l c.if-m-gt1024.true)
+    laid.left_so (result_bytes bs w) r (fitted bs w (length r)) Room (laid.fit-many bs w (length r) l c.if-m-gt1024.true)
 
 pub returns-then-res-total : goal.returns-then-res-total
 returns-then-res-total c =
@@ -37,7 +35,7 @@ returns-then-res-total c =
     let l : 1 ≤ get_or w 0 0 = omega arith in
     let h : get_or w 0 0 ≤ 1024 = omega arith in
     let q : length r < total bs w = omega (arith, K.texts, K.bytes) in
-    laid.left_so (result_bytes bs w) r (fitted bs w (length r)) 10 (laid.fit-room bs w (length r) l h ∙ laid.too_short (total bs w) (length r) q)
+    laid.left_so (result_bytes bs w) r (fitted bs w (length r)) Buffer (laid.fit-room bs w (length r) l h ∙ laid.too_short (total bs w) (length r) q)
 
 pub returns : goal.returns
 returns c =
@@ -46,5 +44,5 @@ returns c =
     let some : 1 ≤ get_or w 0 0 = omega (arith, c.if-m-eq0) in
     let few : get_or w 0 0 ≤ 1024 = omega (arith, c.if-m-gt1024) in
     let r₁ = c.put_head.new.b in
-    laid.all-wrote a.file.now w a.res.now a.n a.t a.b c.requires some few c.if-res-total.false r₁ c.put_nodes.new.out c.copy.new.dst (length r₁)
+    laid.all-wrote a.file.now w a.res.now a.header c.requires some few c.if-res-total.false r₁ c.put_nodes.new.out c.copy.new.dst (length r₁)
     c.put_head.auto.b c.put_head.ensures c.put_nodes.ensures c.copy.ensures
