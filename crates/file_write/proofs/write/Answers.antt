@@ -1,5 +1,6 @@
 -- Words and header first. Assumes nothing.
 use Rattle.std.proofs.Common.{length}
+use Rattle.std.proofs.lemmas.Result.{err_from_is_err_and}
 use Rattle.refusal.specs.declared.Refusal.TheVariants.{Call}
 use Rattle.file_write.specs.Written.{written, result_bytes}
 use Rattle.file_write.proofs.Laid as laid
@@ -29,4 +30,5 @@ returns-in_err-header c =
     let bs = a.file.now in
     let w = a.words.now in
     let r = a.res.now in
-    laid.left_so (result_bytes bs w) r (written bs w (length r)) _ (laid.head-refused bs w (length r) c.if-words-lt16384.false c.read_header.ensures _ c.in_err-header.was)
+    let p = err_from_is_err_and c.from_residual.result c.from_residual.ensures.1 in
+    rw (p.1, p.2) (laid.left_so (result_bytes bs w) r (written bs w (length r)) _ (laid.head-refused bs w (length r) c.if-words-lt16384.false c.read_header.ensures _ c.in_err-header.was))
