@@ -4,28 +4,29 @@ use mathlib.Core.List.{List, [], ◌∷◌, ◌++◌}
 use mathlib.Core.Option.{Option, none, some}
 use Prim.Native.Nat.{ℕ, zero, suc, ◌+◌, ◌-◌, ◌≤◌, ◌<◌, min}
 use native.Mathlib.Omega.{arith}
-use borrow.Author.Tests.{lt-ltb, le-ltb, ne_eqb}
+use borrow.Author.Tests.{lt-ltb, le-ltb}
 use mathlib.Core.Bool.{Bool, true, false, not, ◌&&◌}
 use lib.ListN.{length, get_or, get_elem?, take, drop, length-take, take-append-drop}
 use lib.Dec.{eqb}
+use Rattle.std.specs.Prelude.{Option as Maybe, Some, None, Result, Ok, Err, IfSome}
+use Rattle.words.specs.Place as place
+use Rattle.refusal.specs.declared.Refusal.{Refusal}
+use Rattle.refusal.specs.declared.Refusal.TheVariants.{Depth}
 use Rattle.def_tree.specs.Tree.{Tree, Core}
-use Rattle.def_pass.specs.Scope.{VarInfo, Stack, find_in, find_constant, Free, is_param, has_same_this}
+use Rattle.def_pass.specs.Scope.{VarInfo, Stack, find_in, find_constant, Free, has_same_this}
 use Rattle.scope_constants.specs.Consts.{Found}
-use Rattle.scope_values.specs.declared.Constant.{Constant}
-use Rattle.scope_values.specs.declared.Constant.TheVariants as constant
 use Rattle.words.specs.Tab.{get_d-tab, sum-part}
 use Rattle.words.specs.Layout.{tree, run}
+use Rattle.words.specs.declared.Run.{Run}
 use Rattle.words.proofs.Nodes.{tree-length, run_length}
 use Rattle.def_pass.specs.Tree.{count_o, height}
 use Rattle.def_tree.specs.Tree.{plant, first_t, count}
-use Rattle.words_scopes.specs.State.{Good, Head, Fits, split, heads, flags, binds, consts, stack, bind_at, index_in, off, len_at, run_at, value_of, var_type_of, targeted}
+use Rattle.words_scopes.specs.State.{Good, Head, Fits, split, heads, flags, binds, consts, stack, bind_at, index_in, off, len_at, run_at, value_of, targeted}
 use Rattle.words_scopes.proofs.Split.{no_bind, tested}
 use Rattle.scope_values.proofs.Count.{length-binds, fits-binds, nodes-bind}
 use Rattle.scope_find.specs.Look.{node_tree, at_place, idx_here, idx_at, first}
 use Rattle.scope_find.proofs.Facts.{placed, idx-find}
 use Rattle.words_nodes.specs.Nodes.{tree_from, value_from, Swapped}
-use Rattle.words_nodes.specs.declared.Step.{Step}
-use Rattle.words_nodes.specs.declared.Step.TheVariants.{Done, Refused}
 use Rattle.words_nodes.proofs.Trees.{count-some}
 use Rattle.words_nodes.proofs.Splice.{run-count}
 use Rattle.scope_var_info.specs.Handles.{bindings_of, numbered, tree_o, with_index, indexed, of_bindings, of_constants, Held, Sits, held, Puts}
@@ -64,16 +65,12 @@ module _ (w : List ℕ) (g : Good w) where
   at-binds k h = get_d-tab (get_or w 1 0) (λ j. bind_at w j) k no_bind h
 
   -- a number that a binding has
-  pub number_in : (b : ℕ) → 0 < b → b ≤ get_or w 1 0 → numbered (stack w) b ≡ some (bind_at w (b - 1))
-  number_in zero a h = absurd (omega arith)
-  number_in (suc k) a h =
-      let e : suc k - 1 ≡ k = omega arith in
-      rw (e, bindings-stack w g) (elem_in (binds w) k no_bind (omega (arith, length-binds w g)) ∙ ap some (at-binds k (omega arith)))
+  pub number_in : (k : ℕ) → k < get_or w 1 0 → numbered (stack w) (suc k) ≡ some (bind_at w k)
+  number_in k h = rw (bindings-stack w g) (elem_in (binds w) k no_bind (omega (arith, length-binds w g)) ∙ ap some (at-binds k h))
 
   -- and one that none has
-  pub number-out : (b : ℕ) → get_or w 1 0 < b → numbered (stack w) b ≡ none
-  number-out zero h = absurd (omega arith)
-  number-out (suc k) h = rw (bindings-stack w g) (elem_out (binds w) k (omega (arith, length-binds w g)))
+  pub number-out : (k : ℕ) → get_or w 1 0 ≤ k → numbered (stack w) (suc k) ≡ none
+  number-out k h = rw (bindings-stack w g) (elem_out (binds w) k (omega (arith, length-binds w g)))
 
   pub number-most : (r : ℕ) → r ≤ get_or w 1 0 → r ≤ length (bindings_of (stack w))
   number-most r h = rw (bindings-stack w g) (omega (arith, length-binds w g))
@@ -81,12 +78,16 @@ module _ (w : List ℕ) (g : Good w) where
   -- a place in the words is a number
   pub number-place : (r : ℕ) → r ≤ get_or w 1 0 → at_place w r ≡ numbered (stack w) r
   number-place zero h = refl
-  number-place (suc k) h = let e : suc k - 1 ≡ k = omega arith in sym (number_in (suc k) (omega arith) h ∙ ap (λ (j : ℕ). some (bind_at w j)) e)
+  number-place (suc k) h = sym (number_in k (omega arith))
 
--- a number that is not 0, and not past the last
-pub number-some : (st : Stack) (b : ℕ) → (b ≡ 0 → ⊥) → b ≤ length (bindings_of st) → numbered st b ≡ some (get_or (bindings_of st) (b - 1) no_bind)
-number-some st zero z h = absurd (z refl)
-number-some st (suc k) z h = let e : suc k - 1 ≡ k = omega arith in rw e (elem_in (bindings_of st) k no_bind (omega arith))
+-- an answer is a number or 0
+pub placed-most : (o : Maybe ℕ) (n : ℕ) → IfSome o (λ k. k < n) → place.placed o ≤ n
+placed-most None n h = omega arith
+placed-most (Some k) n h = let l : k < n = h in omega arith
+
+-- a number that is not past the last
+pub number-some : (st : Stack) (k : ℕ) → suc k ≤ length (bindings_of st) → numbered st (suc k) ≡ some (get_or (bindings_of st) k no_bind)
+number-some st k h = elem_in (bindings_of st) k no_bind (omega arith)
 
 -- the tree at a node
 module _ (w : List ℕ) (i : ℕ) where
@@ -141,18 +142,14 @@ sits-at {w} {v} {at} {m} s e n =
 
 -- the constant that was found
 module _ (w : List ℕ) (x : ℕ) where
-  pub const-unknown : {q : Constant} → q ≡ constant.Unknown → Found w x q → find_constant x (stack w) ≡ none
-  const-unknown e f = subst (λ (q : Constant). Found w x q) e f
-
-  pub const-at : {q : Constant} (at m : ℕ) → q ≡ constant.At at m → Found w x q → (find_constant x (stack w) ≡ some (value_from w of_constants at m)) × Held w of_constants at m
-  const-at at m e f =
-      let h = subst (λ (q : Constant). Found w x q) e f in
-      (h.0 ∙ value-some (run w 3088 at m) (omega (arith, run_length w 3088 at m, h.1)), record { some = h.1; inside = h.2; whole = h.3 })
+  pub const-at : (r : Run) → Found w x (Some r) → (find_constant x (stack w) ≡ some (value_from w of_constants r.at r.len)) × Held w of_constants r.at r.len
+  const-at r h =
+      (h.0 ∙ value-some (run w 3088 r.at r.len) (omega (arith, run_length w 3088 r.at r.len, h.1)), record { some = h.1; inside = h.2; whole = h.3 })
 
   -- an identifier that it gives is not targeted
-  pub const_free : (q : Constant) → Found w x q → Free (targeted w) (find_constant x (stack w))
-  const_free constant.Unknown f = subst (Free (targeted w)) (sym f) tt
-  const_free (constant.At at m) f = subst (Free (targeted w)) (sym f.0) f.4
+  pub const_free : (q : Maybe Run) → Found w x q → Free (targeted w) (find_constant x (stack w))
+  const_free None f = subst (Free (targeted w)) (sym f) tt
+  const_free (Some r) f = subst (Free (targeted w)) (sym f.0) f.4
 
 pub held-count : {w : List ℕ} {base at m : ℕ} → Held w base at m → count (value_from w base at m) ≡ m
 held-count {w} {base} {at} {m} h = run-count w base at m h.some h.whole
@@ -170,36 +167,29 @@ count_none (some t) z = absurd (omega (arith, count-some t))
 
 -- a value in the place of a tree: none, and one that is too deep
 module _ (w : List ℕ) (p i : ℕ) where
-  pub puts_none : (o v : Option Tree) → v ≡ none → Puts Done w w p i o v
-  puts_none o v e = subst (λ (x : Option Tree). Puts Done w w p i o x) (sym e) (go o)
+  pub puts_none : (o v : Option Tree) → v ≡ none → Puts (Ok tt) w w p i o v
+  puts_none o v e = subst (λ (x : Option Tree). Puts (Ok tt) w w p i o x) (sym e) (go o)
     where
-      go : (o : Option Tree) → Puts Done w w p i o none
+      go : (o : Option Tree) → Puts (Ok tt) w w p i o none
       go none = (refl, refl)
       go (some t) = (refl, refl)
 
-  pub puts-as : (r : Step) (u : List ℕ) (o v v' : Option Tree) → v' ≡ v → Puts r w u p i o v → Puts r w u p i o v'
+  pub puts-as : (r : Result Unit Refusal) (u : List ℕ) (o v v' : Option Tree) → v' ≡ v → Puts r w u p i o v → Puts r w u p i o v'
   puts-as r u o v v' e h = subst (λ (x : Option Tree). Puts r w u p i o x) (sym e) h
 
   module _ (e : Tree) where
-    pub puts-nowhere : tree_o (tree w) i ≡ none → Puts Done w w p i (tree_o (tree w) i) (some e)
-    puts-nowhere q = subst (λ (o : Option Tree). Puts Done w w p i o (some e)) (sym q) (refl, refl)
+    pub puts-nowhere : tree_o (tree w) i ≡ none → Puts (Ok tt) w w p i (tree_o (tree w) i) (some e)
+    puts-nowhere q = subst (λ (o : Option Tree). Puts (Ok tt) w w p i o (some e)) (sym q) (refl, refl)
 
-    pub puts-at : (r : Step) (u : List ℕ) → i < get_or w 0 0 → Swapped r w u p i e → Puts r w u p i (tree_o (tree w) i) (some e)
+    pub puts-at : (r : Result Unit Refusal) (u : List ℕ) → i < get_or w 0 0 → Swapped r w u p i e → Puts r w u p i (tree_o (tree w) i) (some e)
     puts-at r u h s = subst (λ (o : Option Tree). Puts r w u p i o (some e)) (sym (tree-in w i h)) s
 
-    pub puts-swapped : (r : Step) (u : List ℕ) (v : Option Tree) → i < get_or w 0 0 → v ≡ some e → Puts r w u p i (tree_o (tree w) i) v → Swapped r w u p i e
+    pub puts-swapped : (r : Result Unit Refusal) (u : List ℕ) (v : Option Tree) → i < get_or w 0 0 → v ≡ some e → Puts r w u p i (tree_o (tree w) i) v → Swapped r w u p i e
     puts-swapped r u v h q s =
         subst (λ (o : Option Tree). Puts r w u p i o (some e)) (tree-in w i h) (subst (λ (x : Option Tree). Puts r w u p i (tree_o (tree w) i) x) q s)
 
-    pub too-deep : 201 < p → Swapped (Refused 8) w w p i e
-    too-deep h = (rw (lt-ltb 201 (p + height e) (omega arith)) refl, omega arith, refl)
-
--- the word of a parameter's type
-pub param-code : (n : ℕ) → eqb n 0 ≡ is_param (var_type_of n)
-param-code zero = refl
-param-code (suc zero) = ne_eqb 1 0 (λ e. omega arith)
-param-code (suc (suc zero)) = ne_eqb 2 0 (λ e. omega arith)
-param-code (suc (suc (suc n))) = ne_eqb (suc (suc (suc n))) 0 (λ e. omega arith)
+    pub too-deep : 201 < p → Swapped (Err Depth) w w p i e
+    too-deep h = (rw (lt-ltb 201 (p + height e) (omega arith)) refl, refl)
 
 -- has_same_this without an init
 pub same_none : (o : Option VarInfo) → has_same_this o none ≡ true

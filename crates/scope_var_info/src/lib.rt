@@ -178,7 +178,8 @@ pub fn find_constant(w: &[u32], x: u8) -> Option<usize>
     requires { Good w.now }
     ensures { (count_of result ≡ counted_o (find_constant x (stack w.now))) × (IfSome result (λ m. m ≤ 512)) × (Free (targeted w.now) (find_constant x (stack w.now))) }
 {
-    scope_constants::find_constant(w, x).map(|r| r.len)
+    let r = scope_constants::find_constant(w, x)?;
+    Some(r.len)
 }
 
 // That value, if there is one, takes the place of the tree at node i, at depth p, if rows 8 and 9 let it; an identifier is none that is targeted.
