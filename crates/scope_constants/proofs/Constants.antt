@@ -3,6 +3,8 @@ use mathlib.Core.Path.{◌≡◌, refl, sym, ap, ◌∙◌}
 use mathlib.Core.List.{List, [], ◌∷◌, ◌++◌}
 use mathlib.Core.Bool.{Bool, true, false, ◌||◌}
 use mathlib.Core.Option.{Option, none, some}
+use Rattle.std.proofs.Common as std
+use Rattle.std.proofs.Common.{Some, None}
 use Prim.Native.Nat.{ℕ, zero, suc, ◌+◌, ◌-◌, ◌*◌, ◌≤◌, ◌<◌}
 use native.Mathlib.Omega.{arith}
 use borrow.Author.Tests.{eq-eqb, ne_eqb}
@@ -12,15 +14,19 @@ use lib.Seq.{drop-set-add, take-set-le, get_or-drop, take-append-le, drop-append
 use Rattle.def_tree.specs.Base.{or_else}
 use Rattle.def_tree.specs.Tree.{Tree, Core}
 use Rattle.def_pass.specs.Tree.{count_o}
-use Rattle.def_pass.specs.Scope.{VarInfo, Stack, const_in, put_const, untargeted, add_const, find_constant, has_constant, flat, is_some, recorded_nodes, live}
+use Rattle.def_pass.specs.Scope.{VarInfo, Stack, const_in, put_const, untargeted, add_const, find_constant, has_constant, flat, is_some, Free, recorded_nodes, live}
 use Rattle.words.specs.Tab.{tab, tab-zero, length-tab, get_d-tab, take-tab, sum-part}
 use Rattle.words.specs.Layout.{run, core_from}
 use Rattle.words.proofs.Nodes.{run_length}
-use Rattle.words_scopes.specs.State.{Head, split, head_at, heads_at, heads, flags, binds, consts, stack, const_at, clen_at, off, coff, crun_at, CFits, Good, value_of}
+use Rattle.words_scopes.specs.State.{Head, split, head_at, heads_at, heads, flags, binds, consts, stack, const_at, clen_at, off, coff, crun_at, CFits, Good, targeted, value_of}
 use Rattle.words_scopes.proofs.Split.{tested}
 use Rattle.words_scopes.proofs.Grow.{some-head}
-use Rattle.scope_values.specs.Steps.{Listed, over}
-use Rattle.scope_constants.specs.Consts.{Own}
+use Rattle.words.specs.declared.Run.{Run}
+use Rattle.scope_values.specs.Steps.{Listed, over, Offered, run_value}
+use Rattle.scope_values.proofs.Listed.{room, count-tree, same_nodes, same-run}
+use Rattle.words_scopes.proofs.Words.{targeted-same}
+use Rattle.words.specs.Place.{FirstAt}
+use Rattle.scope_constants.specs.Consts.{Found, Own}
 use Rattle.scope_values.proofs.Count.{total, nodes_b, nodes_c, total-set, total-append, recorded-split, live-split, recorded-is, live-is, total-binds, total-consts, length-binds, length-consts, fits-binds, fits-consts, nodes-const}
 
 abbrev pub Const : Type 0
@@ -116,31 +122,8 @@ module _ (w : List ℕ) (c : ℕ) where
       pub here-miss : c ≤ r → (const_in x (drop a tab_c) ≡ none) × ((v : Option Tree) → put_const x v (drop a tab_c) ≡ drop a tab_c ++ ((x, v) ∷ []))
       here-miss h = const-miss x (drop a tab_c) (λ j l. other-c j (omega (arith, len-c)) (omega (arith, len-c)))
 
--- a walk outwards
-module _ (w : List ℕ) (x k e r : ℕ) (f : CFits (heads_at w (suc k)) e) (low : get_or w (7184 + k * 4 + 2) 0 ≤ r) (miss : (j : ℕ) → get_or w (7184 + k * 4 + 2) 0 ≤ j → j < r → get_or w (6672 + j * 2) 0 ≡ x → ⊥) where
-  abbrev a : ℕ
-  a = get_or w (7184 + k * 4 + 2) 0
-
-  behind : (o : Option (Option Tree)) → const_in x (drop a (tab_c w e)) ≡ o → find_c x (heads_at w (suc k)) (tab_c w e) ≡ or_else (flat o) (find_c x (heads_at w k) (tab_c w a))
-  unfolding heads_at
-  behind o q = rw (q, take-tab a e (λ j. const_at w j) f.0) refl
-
-  pub next_fits : (a ≤ e) × CFits (heads_at w k) a
-  unfolding heads_at
-  next_fits = (f.0, f.1)
-
-  pub find-hit : r < e → get_or w (6672 + r * 2) 0 ≡ x → find_c x (heads_at w (suc k)) (tab_c w e) ≡ or_else (const_at w r).1 (find_c x (heads_at w k) (tab_c w a))
-  find-hit h q = behind (some (const_at w r).1) (here-hit w e a x r low miss h q).0
-
-  pub find-miss : e ≤ r → find_c x (heads_at w (suc k)) (tab_c w e) ≡ find_c x (heads_at w k) (tab_c w a)
-  find-miss h = behind none (here-miss w e a x r low miss h).0
-
-pub find-all : (w : List ℕ) (x : ℕ) → find_constant x (stack w) ≡ find_c x (heads_at w (get_or w 2 0)) (tab_c w (get_or w 3 0))
-unfolding stack heads consts
-find-all w x = find-split x (heads_at w (get_or w 2 0)) (flags w) (binds w) (tab (get_or w 3 0) (λ j. const_at w j))
-
 -- a value of no node, and of some
-pub empty-const : (w : List ℕ) (r : ℕ) → clen_at w r ≡ 0 → (const_at w r).1 ≡ none
+empty-const : (w : List ℕ) (r : ℕ) → clen_at w r ≡ 0 → (const_at w r).1 ≡ none
 unfolding run
 empty-const w r z = rw (z, tab-zero (λ j. core_from w (3088 + (coff w r + j) * 2))) refl
 
@@ -148,32 +131,84 @@ some-value : (xs : List Core) → 0 < length xs → (o : Option Tree) → or_els
 some-value [] h o = absurd (omega arith)
 some-value (y ∷ xs) h o = refl
 
-pub full-const : (w : List ℕ) (r : ℕ) (o : Option Tree) → 0 < clen_at w r → or_else (const_at w r).1 o ≡ (const_at w r).1
+full-const : (w : List ℕ) (r : ℕ) (o : Option Tree) → 0 < clen_at w r → or_else (const_at w r).1 o ≡ (const_at w r).1
 full-const w r o z = some-value (crun_at w r) (omega (arith, run_length w 3088 (coff w r) (clen_at w r))) o
 
+-- a walk outwards has come to the first k scopes, whose constants end before e
+pub record Walked (w : List ℕ) (x k e : ℕ) : Type 0 where
+  pub most : e ≤ get_or w 3 0
+  pub fits : CFits (heads_at w k) e
+  pub is : find_constant x (stack w) ≡ find_c x (heads_at w k) (tab_c w e)
+
+pub walked_all : (w : List ℕ) → Good w → (x : ℕ) → Walked w x (get_or w 2 0) (get_or w 3 0)
+unfolding stack heads consts
+walked_all w g x = record { most = omega arith; fits = g.cfits; is = find-split x (heads_at w (get_or w 2 0)) (flags w) (binds w) (tab (get_or w 3 0) (λ j. const_at w j)) }
+
+pub walked_none : {w : List ℕ} {x k e : ℕ} → k ≡ 0 → Walked w x k e → find_constant x (stack w) ≡ none
+unfolding heads_at
+walked_none {w} {x} {k} {e} z t = rw z at t.is
+
+-- its next scope
+module _ (w : List ℕ) (x k e : ℕ) (h : 0 < k) (t : Walked w x k e) where
+  abbrev a : ℕ
+  a = get_or w (7184 + (k - 1) * 4 + 2) 0
+
+  fits-here : CFits (heads_at w (suc (k - 1))) e
+  fits-here = let q : k ≡ suc (k - 1) = omega arith in rw q at t.fits
+
+  behind : (o : Option (Option Tree)) → const_in x (drop a (tab_c w e)) ≡ o → find_constant x (stack w) ≡ or_else (flat o) (find_c x (heads_at w (k - 1)) (tab_c w a))
+  unfolding heads_at
+  behind o p =
+      let q : k ≡ suc (k - 1) = omega arith in
+      t.is ∙ ap (λ (n : ℕ). find_c x (heads_at w n) (tab_c w e)) q ∙ rw (p, take-tab a e (λ j. const_at w j) fits-here.0) refl
+
+  pub next_fits : (a ≤ e) × CFits (heads_at w (k - 1)) a
+  unfolding heads_at
+  next_fits = (fits-here.0, fits-here.1)
+
+  walked_to : find_constant x (stack w) ≡ find_c x (heads_at w (k - 1)) (tab_c w a) → Walked w x (k - 1) a
+  walked_to p = record { most = omega (arith, t.most, next_fits.0); fits = next_fits.1; is = p }
+
+  pub walked-miss : FirstAt w 6672 2 a e x None → Walked w x (k - 1) a
+  walked-miss m = walked_to (behind none (here-miss w e a x e next_fits.0 m (omega arith)).0)
+
+  module _ (r : ℕ) (f : FirstAt w 6672 2 a e x (Some r)) where
+    hit : find_constant x (stack w) ≡ or_else (const_at w r).1 (find_c x (heads_at w (k - 1)) (tab_c w a))
+    hit = behind (some (const_at w r).1) (here-hit w e a x r f.0 f.3 f.1 f.2).0
+
+    pub walked-empty : clen_at w r ≡ 0 → Walked w x (k - 1) a
+    walked-empty z = walked_to (hit ∙ rw (empty-const w r z) refl)
+
+    pub found_there : (g : Good w) → 0 < clen_at w r → (at : ℕ) → at ≡ coff w r → Found w x (Some (record { at = at; len = clen_at w r }))
+    found_there g z at e =
+        let l : r < get_or w 3 0 = omega (arith, f.1, t.most) in
+        let part = sum-part (λ j. clen_at w j) r (get_or w 3 0) l in
+        rw e (hit ∙ full-const w r (find_c x (heads_at w (k - 1)) (tab_c w a)) z, z, omega (arith, g.cvals), g.cwhole r l, g.cfree r l)
+
 -- has_constant: one scan of all
-module _ (w : List ℕ) (g : Good w) (x r : ℕ) (miss : (j : ℕ) → 0 ≤ j → j < r → get_or w (6672 + j * 2) 0 ≡ x → ⊥) where
+module _ (w : List ℕ) (g : Good w) (x : ℕ) where
   has_all : has_constant x (stack w) ≡ is_some (const_in x (tab_c w (get_or w 3 0)))
   unfolding stack consts
   has_all = has_split x (heads w) (flags w) (binds w) (tab_c w (get_or w 3 0)) (rw length-tab g.cfits)
 
-  pub has-hit : r < get_or w 3 0 → get_or w (6672 + r * 2) 0 ≡ x → has_constant x (stack w) ≡ true
-  has-hit h q = has_all ∙ ap (λ (o : Option (Option Tree)). is_some o) (here-hit w (get_or w 3 0) 0 x r (omega arith) miss h q).0
-
-  pub has-miss : get_or w 3 0 ≤ r → has_constant x (stack w) ≡ false
-  has-miss h = has_all ∙ ap (λ (o : Option (Option Tree)). is_some o) (here-miss w (get_or w 3 0) 0 x r (omega arith) miss h).0
+  pub has-first : (o : std.Option ℕ) → FirstAt w 6672 2 0 (get_or w 3 0) x o → has_constant x (stack w) ≡ std.is_some o
+  has-first None m = has_all ∙ ap (λ (o : Option (Option Tree)). is_some o) (here-miss w (get_or w 3 0) 0 x (get_or w 3 0) (omega arith) m (omega arith)).0
+  has-first (Some k) h = has_all ∙ ap (λ (o : Option (Option Tree)). is_some o) (here-hit w (get_or w 3 0) 0 x k h.0 h.3 h.1 h.2).0
 
 -- the innermost scope
 put-split : (tg : ℕ → Bool) (x : ℕ) (v : Option Tree) (h : Head) (hs : List Head) (fl : List ℕ) (bs : List VarInfo) (cs cs' : List Const) → take h.cstart cs' ≡ take h.cstart cs → drop h.cstart cs' ≡ put_const x (untargeted tg v) (drop h.cstart cs)
     → add_const tg x v (split (h ∷ hs) fl bs cs) ≡ split (h ∷ hs) fl bs cs'
 put-split tg x v h hs fl bs cs cs' t d = rw (t, d) refl
 
-module _ (w : List ℕ) (g : Good w) (z : 0 < get_or w 2 0) (x r : ℕ) where
+module _ (w : List ℕ) (g : Good w) (z : 0 < get_or w 2 0) where
   abbrev d : ℕ
   d = get_or w 2 0 - 1
 
   abbrev top : ℕ
   top = get_or w (7184 + d * 4 + 2) 0
+
+  abbrev c : ℕ
+  c = get_or w 3 0
 
   heads-top : heads w ≡ head_at w d ∷ heads_at w d
   unfolding heads
@@ -182,28 +217,26 @@ module _ (w : List ℕ) (g : Good w) (z : 0 < get_or w 2 0) (x r : ℕ) where
   pub top-fits : top ≤ get_or w 3 0
   top-fits = let f : CFits (head_at w d ∷ heads_at w d) (get_or w 3 0) = rw heads-top at g.cfits in f.0
 
-  module _ (low : top ≤ r) (most : r ≤ get_or w 3 0) (hit : r < get_or w 3 0 → get_or w (6672 + r * 2) 0 ≡ x) (miss : (j : ℕ) → top ≤ j → j < r → get_or w (6672 + j * 2) 0 ≡ x → ⊥) where
-    abbrev c : ℕ
-    c = get_or w 3 0
-
-    put-there : r < c → (tg : ℕ → Bool) (u : Option Tree) → add_const tg x u (stack w) ≡ split (heads w) (flags w) (binds w) (set (consts w) r (x, untargeted tg u))
+  module _ (x : ℕ) where
+    put-there : (r : ℕ) → FirstAt w 6672 2 top c x (Some r) → (tg : ℕ → Bool) (u : Option Tree) → add_const tg x u (stack w) ≡ split (heads w) (flags w) (binds w) (set (consts w) r (x, untargeted tg u))
     unfolding stack consts
-    put-there h tg u =
+    put-there r h tg u =
         let s : top + (r - top) ≡ r = omega arith in
         let v = untargeted tg u in
-        rw heads-top (put-split tg x u (head_at w d) (heads_at w d) (flags w) (binds w) (tab_c w c) (set (tab_c w c) r (x, v)) (take-set-le top (tab_c w c) r (x, v) low)
-        (ap (λ (n : ℕ). drop top (set (tab_c w c) n (x, v))) (sym s) ∙ drop-set-add top (tab_c w c) (r - top) (x, v) ∙ sym ((here-hit w c top x r low miss h (hit h)).1 v)))
+        rw heads-top (put-split tg x u (head_at w d) (heads_at w d) (flags w) (binds w) (tab_c w c) (set (tab_c w c) r (x, v)) (take-set-le top (tab_c w c) r (x, v) h.0)
+        (ap (λ (n : ℕ). drop top (set (tab_c w c) n (x, v))) (sym s) ∙ drop-set-add top (tab_c w c) (r - top) (x, v) ∙ sym ((here-hit w c top x r h.0 h.3 h.1 h.2).1 v)))
 
-    put-absent : c ≤ r → (tg : ℕ → Bool) (u : Option Tree) → add_const tg x u (stack w) ≡ split (heads w) (flags w) (binds w) (consts w ++ ((x, untargeted tg u) ∷ []))
+    put-absent : FirstAt w 6672 2 top c x None → (tg : ℕ → Bool) (u : Option Tree) → add_const tg x u (stack w) ≡ split (heads w) (flags w) (binds w) (consts w ++ ((x, untargeted tg u) ∷ []))
     unfolding stack consts
     put-absent h tg u =
         let l : top ≤ length (tab_c w c) = rw length-tab top-fits in
         let v = untargeted tg u in
         rw heads-top (put-split tg x u (head_at w d) (heads_at w d) (flags w) (binds w) (tab_c w c) (tab_c w c ++ ((x, v) ∷ [])) (take-append-le top (tab_c w c) ((x, v) ∷ []) l)
-        (drop-append-le top (tab_c w c) ((x, v) ∷ []) l ∙ sym ((here-miss w c top x r low miss h).1 v)))
+        (drop-append-le top (tab_c w c) ((x, v) ∷ []) l ∙ sym ((here-miss w c top x c top-fits h (omega arith)).1 v)))
 
-    pub own : Own w x r
-    own = record { most = most; named = hit; there = put-there; absent = put-absent }
+    pub own : (o : std.Option ℕ) → FirstAt w 6672 2 top c x o → Own w x o
+    own None h = put-absent h
+    own (Some r) h = (h.1, h.2, put-there r h)
 
 -- row 9 of a constant replaced, and appended
 module _ (w : List ℕ) (g : Good w) where
@@ -216,7 +249,7 @@ module _ (w : List ℕ) (g : Good w) where
 
   pub cfits-more : 0 < get_or w 2 0 → CFits (heads w) (get_or w 3 0 + 1)
   cfits-more z =
-      let e = heads-top w g z 0 0 in
+      let e = heads-top w g z in
       let f : CFits (head_at w (get_or w 2 0 - 1) ∷ heads_at w (get_or w 2 0 - 1)) (get_or w 3 0) = rw e at g.cfits in
       rw e (omega (arith, f.0), f.1)
 
@@ -239,18 +272,41 @@ module _ (w : List ℕ) (g : Good w) where
       let l : live (stack_c (consts w ++ (c ∷ []))) ≡ live (stack w) + 1 = omega (arith, live-split (heads w) (flags w) (binds w) (consts w ++ (c ∷ [])) (fits-binds w g) f, live-is w g, len, length-binds w g, length-consts w g) in
       rw (r, l) refl
 
+-- a run of the tree in place of the value of constant k: what `passes` and `set_const` ask, and what `passes` tells
+module _ (w : List ℕ) (g : Good w) (k : ℕ) (h : k < get_or w 3 0) (r : Run) (o : Offered w r) where
+  pub passes-asks : Good w × (clen_at w k ≤ recorded_nodes (stack w)) × (r.len ≤ 1024) × (0 ≤ 1)
+  passes-asks = let part = sum-part (λ j. clen_at w j) k (get_or w 3 0) h in (g, omega (arith, recorded-is w g), omega (arith, g.nodes, o.inside), omega arith)
+
+  pub put-room : (p : Bool) → p ≡ (ltb 512 (recorded_nodes (stack w) - clen_at w k + r.len) || ltb 256 (live (stack w) + 0)) → p ≡ false
+      → r.len + (off w (get_or w 1 0) + coff w (get_or w 3 0)) ≤ 512 + clen_at w k
+  put-room p is e =
+      let part = passes-asks.1 in
+      let l = room (recorded_nodes (stack w) - clen_at w k + r.len) (live (stack w) + 0) (sym is ∙ e) in
+      omega (arith, l.0, recorded-is w g)
+
+  pub over-run : (i : ℕ) → over (stack_c w g (set (consts w) k (i, run_value w r))) ≡ (ltb 512 (recorded_nodes (stack w) - clen_at w k + r.len) || ltb 256 (live (stack w) + 0))
+  over-run i = over-cput w g k (i, run_value w r) h ∙ ap (λ (n : ℕ). ltb 512 (recorded_nodes (stack w) - clen_at w k + n) || ltb 256 (live (stack w) + 0)) (count-tree w r.at r.len o.one)
+
 -- a constant without a value was appended: what a value for it has to fit, and what it then is
 pub record Pushed (w u : List ℕ) (x : ℕ) : Type 0 where
   pub count : get_or u 3 0 ≡ get_or w 3 0 + 1
   pub vals : off u (get_or u 1 0) + coff u (get_or u 3 0) ≡ off w (get_or w 1 0) + coff w (get_or w 3 0)
   pub set : (v : Option Tree) → set (consts u) (get_or w 3 0) (get_or u (6672 + get_or w 3 0 * 2) 0, v) ≡ consts w ++ ((x, v) ∷ [])
+  pub value : (r : Run) → Offered w r → run_value u r ≡ run_value w r
+  pub offered : (r : Run) → Offered w r → Offered u r
+  pub free : (r : Run) → Offered w r → Free (targeted w) (run_value w r) → Free (targeted u) (run_value u r)
 
 pub after_push : (w u : List ℕ) → Good w → (x : ℕ) → Listed w u (binds w) (consts w ++ ((x, none) ∷ [])) → Pushed w u x
 after_push w u g x l =
     let n : get_or u 3 0 ≡ get_or w 3 0 + 1 = sym (length-consts u l.good) ∙ ap length l.consts ∙ length-append (consts w) ((x, none) ∷ []) ∙ ap (λ (k : ℕ). k + 1) (length-consts w g) in
     let name : get_or u (6672 + get_or w 3 0 * 2) 0 ≡ x = sym (ap (λ (c : Const). c.0) (const-there u l.good (get_or w 3 0) (omega arith))) ∙ ap (λ (cs : List Const). (get_or cs (get_or w 3 0) no_const).0) l.consts ∙ ap (λ (c : Const). c.0) (get_or_at (consts w) (x, none) [] no_const (get_or w 3 0) (length-consts w g)) in
+    let nodes = same_nodes w u l.tree in
+    let same = λ (r : Run) (o : Offered w r). same-run w u r.at r.len l.tree o.inside in
     record {
       count = n;
       vals = omega (arith, total-consts u l.good, ap (total nodes_c) l.consts, total-append nodes_c (consts w) ((x, none) ∷ []), total-consts w g, total-binds u l.good, ap (total nodes_b) l.binds, total-binds w g);
       set = λ v. rw (name, l.consts) (set_at (consts w) (x, none) [] (x, v) (get_or w 3 0) (length-consts w g));
+      value = λ r o. ap value_of (same r o);
+      offered = λ r o. record { inside = omega (arith, o.inside); one = rw (same r o) o.one };
+      free = λ r o f. rw (same r o, targeted-same w u (λ j a b. l.others.high j (omega arith) (omega arith))) f;
     }

@@ -18,6 +18,8 @@ use Rattle.words.specs.Layout.{yes, run, core_from, node_of}
 use Rattle.words.specs.Tab.{get_d-tab, tab-zero}
 use Rattle.words.proofs.Nodes.{run_length, run-at, tree-at}
 use Rattle.words_scopes.specs.State.{Good, Named, targeted, value_of, run_of}
+use Rattle.words.specs.declared.Run.{Run}
+use Rattle.scope_values.specs.Steps.{Offered, run_value}
 use Rattle.scope_constants.specs.Consts.{Left}
 
 untargeted-is : (tg : ℕ → Bool) (xs : List Core) → 0 < length xs → untargeted tg (value_of xs) ≡ pick (eqb (get_or xs 0 no_core).kind 21 && tg (get_or xs 0 no_core).num) none (value_of xs)
@@ -41,29 +43,29 @@ empty : (w : List ℕ) (i : ℕ) → run w 16 i 0 ≡ []
 unfolding run
 empty w i = tab-zero (λ j. core_from w (16 + (i + j) * 2))
 
-module _ (w : List ℕ) (i m : ℕ) where
-  pub none_left : m ≡ 0 → Left w i m 0
-  none_left z = record { most = omega arith; is = rw (z, empty w i) refl; one = rw (empty w i) refl }
+-- what is left of a run: all of it, or nothing
+module _ (w : List ℕ) (r : Run) (o : Offered w r) where
+  pub left-empty : r.len ≡ 0 → Left w r r
+  left-empty z = record { is = rw (z, empty w r.at) refl; offered = o }
 
-  module _ (h : 0 < m) (one : run_of (value_of (run w 16 i m)) ≡ run w 16 i m) where
-    test : untargeted (targeted w) (value_of (run w 16 i m)) ≡ pick (eqb (node_of w i).kind 21 && targeted w (node_of w i).num) none (value_of (run w 16 i m))
+  module _ (h : 0 < r.len) where
+    test : untargeted (targeted w) (run_value w r) ≡ pick (eqb (node_of w r.at).kind 21 && targeted w (node_of w r.at).num) none (run_value w r)
     test =
-        let f : get_or (run w 16 i m) 0 no_core ≡ node_of w i = run-at w 16 i m 0 h ∙ ap (λ (n : ℕ). core_from w (16 + n * 2)) (omega arith) in
-        untargeted-is (targeted w) (run w 16 i m) (omega (arith, run_length w 16 i m)) ∙ rw f refl
+        let f : get_or (run w 16 r.at r.len) 0 no_core ≡ node_of w r.at = run-at w 16 r.at r.len 0 h ∙ ap (λ (n : ℕ). core_from w (16 + n * 2)) (omega arith) in
+        untargeted-is (targeted w) (run w 16 r.at r.len) (omega (arith, run_length w 16 r.at r.len)) ∙ rw f refl
 
-    pub other-left : ((node_of w i).kind ≡ 21 → ⊥) → Left w i m m
-    other-left e = record { most = omega arith; is = rw test (rw (ne_eqb (node_of w i).kind 21 e) refl); one = one }
+    pub left_other : ((node_of w r.at).kind ≡ 21 → ⊥) → Left w r r
+    left_other e = record { is = rw test (rw (ne_eqb (node_of w r.at).kind 21 e) refl); offered = o }
 
-    module _ (e : (node_of w i).kind ≡ 21) (l : (node_of w i).num < 256) where
-      pub free_all : flag_at w 16016 (node_of w i).num ≡ 0 → Left w i m m
-      free_all z = record { most = omega arith; is = rw test (rw (eq-eqb (node_of w i).kind 21 e, targeted-at w (node_of w i).num l, z) refl); one = one }
+    module _ (e : (node_of w r.at).kind ≡ 21) (l : (node_of w r.at).num < 256) where
+      pub left_free : yes (flag_at w 16016 (node_of w r.at).num) ≡ false → Left w r r
+      left_free z = record { is = rw test (rw (eq-eqb (node_of w r.at).kind 21 e, targeted-at w (node_of w r.at).num l, z) refl); offered = o }
 
-      pub targeted-none : (flag_at w 16016 (node_of w i).num ≡ 0 → ⊥) → Left w i m 0
-      targeted-none z = record { most = omega arith; is = rw test (rw (eq-eqb (node_of w i).kind 21 e, targeted-at w (node_of w i).num l, set (flag_at w 16016 (node_of w i).num) z, empty w i) refl); one = rw (empty w i) refl }
-        where
-          set : (n : ℕ) → (n ≡ 0 → ⊥) → yes n ≡ true
-          set zero h = absurd (h refl)
-          set (suc n) h = refl
+      pub left_none : yes (flag_at w 16016 (node_of w r.at).num) ≡ true → Left w r (record { at = r.at; len = 0 })
+      left_none z = record {
+        is = rw test (rw (eq-eqb (node_of w r.at).kind 21 e, targeted-at w (node_of w r.at).num l, z, empty w r.at) refl);
+        offered = record { inside = omega (arith, o.inside); one = rw (empty w r.at) refl };
+      }
 
 -- an identifier's number is one of 256
 pub named-node : {w : List ℕ} → Good w → (i : ℕ) → i < get_or w 0 0 → (node_of w i).kind ≡ 21 → (node_of w i).num < 256

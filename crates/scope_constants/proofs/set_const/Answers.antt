@@ -16,7 +16,7 @@ pub splice-requires : goal.splice-requires
 splice-requires c =
     let w = c.args.w.now in
     let part = sums.sum-part (λ j. clen_at w j) c.args.k (get_or w 3 0) c.requires.1 in
-    (c.requires.0.long, omega arith, omega arith, omega (arith, c.requires.0.nodes, c.requires.2), omega (arith, c.const_offset-at.ensures.0, c.const_offset-end.ensures.0), omega (arith, c.const_offset-end.ensures.1), omega (arith, c.requires.3, c.const_offset-end.ensures.0))
+    (c.requires.0.long, omega arith, omega arith, omega (arith, c.requires.0.nodes, c.requires.2.inside), omega (arith, c.const_offset-at.ensures.0, c.const_offset-end.ensures.0), omega (arith, c.const_offset-end.ensures.1), omega (arith, c.requires.4, c.const_offset-end.ensures.0))
 
 pub shape_of-w : goal.shape_of-w
 shape_of-w c = simp length-set c.splice.auto.w
@@ -25,4 +25,4 @@ pub returns : goal.returns
 returns c =
     let w = c.args.w.now in
     let s = rw (c.const_offset-at.ensures.0, c.const_offset-end.ensures.0) at c.splice.ensures in
-    words.const-set w c.splice.new.w c.requires.0 c.args.k c.args.i c.args.m c.requires.1 c.requires.2 c.requires.3 s c.requires.4 c.requires.5
+    words.const-set w c.splice.new.w c.requires.0 c.args.k c.args.r.at c.args.r.len c.requires.1 c.requires.2.inside c.requires.4 s c.requires.2.one c.requires.3
