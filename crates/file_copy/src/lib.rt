@@ -2,8 +2,7 @@
 #![tactic(auto)]
 
 ghost use Rattle.std.specs.Prelude.{◌≡◌};
-ghost use Rattle.refusal.specs.Number.{number};
-ghost use Rattle.file_write.specs.Written.{refused, says};
+ghost use Rattle.file_write.specs.Written.{says};
 ghost use Rattle.file_copy.specs.Copy.{CopyIs, numbers};
 
 use file_read::read::read;
@@ -19,20 +18,22 @@ pub struct Copied {
     pub length: usize,
 }
 
-// A refusal's number, and else nothing.
-impl From<Refusal> for Copied {
-    ghost from_gives = { λ r c. c ≡ numbers (refused (number r)) };
+impl From<Result<usize, Refusal>> for Copied {
+    ghost from_gives = { λ x c. c ≡ numbers (says x) };
 
-    fn from(refusal: Refusal) -> Copied {
-        Copied {
-            refused: u32::from(refusal),
-            length: 0,
+    fn from(answer: Result<usize, Refusal>) -> Copied {
+        match answer {
+            Ok(length) => Copied { refused: 0, length },
+            Err(refusal) => Copied {
+                refused: u32::from(refusal),
+                length: 0,
+            },
         }
     }
 }
 
-// The same, with the words cleared.
-fn copy(file: &[u8], res: &mut [u8], words: &mut [u32]) -> Result<usize, Refusal>
+// Rows 1 to 7, then row 10. What is written is the file itself.
+pub fn copy(file: &[u8], res: &mut [u8], words: &mut [u32]) -> Result<usize, Refusal>
     ensures { CopyIs file.now res.old res.new words.old words.new (numbers (says result)) }
 {
     read(file, words)?;
@@ -41,13 +42,10 @@ fn copy(file: &[u8], res: &mut [u8], words: &mut [u32]) -> Result<usize, Refusal
     written
 }
 
-// Rows 1 to 7, then row 10. What is written is the file itself.
+// `copy` for C.
 #[unsafe(no_mangle)]
 pub extern "C" fn negbosun_copy(file: &[u8], res: &mut [u8], words: &mut [u32]) -> Copied
     ensures { CopyIs file.now res.old res.new words.old words.new result }
 {
-    match copy(file, res, words) {
-        Ok(length) => Copied { refused: 0, length },
-        Err(refusal) => Copied::from(refusal),
-    }
+    Copied::from(copy(file, res, words))
 }

@@ -3,10 +3,10 @@
 
 ghost use Rattle.std.specs.Prelude.{◌≡◌};
 ghost use Rattle.pass_answers.specs.Entry.{enough, inlined, InlineIs};
-ghost use Rattle.pass_answers.specs.Roots.{listed_roots, bound, RootsIs, RootIs};
+ghost use Rattle.pass_answers.specs.Roots.{counted, bound, RootsIs, RootIs};
 
 use file_write::write;
-use pass_answers::{Inlined, RootBinding, Roots};
+use pass_answers::{Done, Inlined, RootBinding, Roots};
 use pass_roots::{Root, root_at, write_roots};
 use pass_run::inline::inline_file;
 use refusal::Refusal;
@@ -19,13 +19,13 @@ fn enough(runs: u32, words: usize) -> bool
     (1 <= runs) & (runs <= 16) & (16384 <= words)
 }
 
-// The result's length, the runs done, and whether the last one left the mark.
-fn inline(
+// Rows 1 to 10. What is written is the result's file.
+pub fn inline(
     file: &[u8],
     res: &mut [u8],
     words: &mut [u32],
     runs: u32,
-) -> Result<Inlined, Refusal>
+) -> Result<Done, Refusal>
     ensures { InlineIs file.now res.old res.new words.old words.new runs (inlined result) }
 {
     if !enough(runs, words.len()) {
@@ -34,22 +34,22 @@ fn inline(
     let ran = inline_file(file, words, runs)?;
     let written = write(file, words, res);
     clear(words);
-    Ok(Inlined {
-        refused: 0,
+    Ok(Done {
         length: written?,
         runs: ran.runs,
-        changed: u32::from(ran.changed),
+        changed: ran.changed,
     })
 }
 
-// How many root bindings there are.
-fn list(
+// Rows 1 to 10, of the pass over the file. What is written are the root bindings, oldest first, five words for each: text number, context's low
+// and high half, prevented mark, how often an identifier was replaced by its value. Answers how many they are.
+pub fn list(
     file: &[u8],
     roots: &mut [u32],
     words: &mut [u32],
     runs: u32,
 ) -> Result<usize, Refusal>
-    ensures { RootsIs file.now roots.old roots.new words.old words.new runs (listed_roots result) }
+    ensures { RootsIs file.now roots.old roots.new words.old words.new runs (counted result) }
 {
     if !enough(runs, words.len()) {
         return Err(Refusal::Call);
@@ -60,8 +60,8 @@ fn list(
     written
 }
 
-// The n-th root binding, if there is one.
-fn find(file: &[u8], words: &mut [u32], runs: u32, n: u32) -> Result<Option<Root>, Refusal>
+// Rows 1 to 9, of the pass over the file. The answer is the n-th root binding, from 0, oldest first, or that there is none.
+pub fn find(file: &[u8], words: &mut [u32], runs: u32, n: u32) -> Result<Option<Root>, Refusal>
     ensures { RootIs file.now words.old words.new runs n (bound result) }
 {
     if !enough(runs, words.len()) {
@@ -73,7 +73,7 @@ fn find(file: &[u8], words: &mut [u32], runs: u32, n: u32) -> Result<Option<Root
     Ok(root)
 }
 
-// Rows 1 to 10. What is written is the result's file.
+// `inline` for C.
 #[unsafe(no_mangle)]
 pub extern "C" fn negbosun_inline(
     file: &[u8],
@@ -83,14 +83,10 @@ pub extern "C" fn negbosun_inline(
 ) -> Inlined
     ensures { InlineIs file.now res.old res.new words.old words.new runs result }
 {
-    match inline(file, res, words, runs) {
-        Ok(answer) => answer,
-        Err(refusal) => Inlined::from(refusal),
-    }
+    Inlined::from(inline(file, res, words, runs))
 }
 
-// Rows 1 to 10, of the pass over the file. What is written are the root bindings, oldest first, five words for each: text number, context's low
-// and high half, prevented mark, how often an identifier was replaced by its value.
+// `list` for C.
 #[unsafe(no_mangle)]
 pub extern "C" fn negbosun_roots(
     file: &[u8],
@@ -100,19 +96,13 @@ pub extern "C" fn negbosun_roots(
 ) -> Roots
     ensures { RootsIs file.now roots.old roots.new words.old words.new runs result }
 {
-    match list(file, roots, words, runs) {
-        Ok(count) => Roots { refused: 0, count },
-        Err(refusal) => Roots::from(refusal),
-    }
+    Roots::from(list(file, roots, words, runs))
 }
 
-// Rows 1 to 9, of the pass over the file. The answer is the n-th root binding, from 0, oldest first, or that there is none.
+// `find` for C.
 #[unsafe(no_mangle)]
 pub extern "C" fn negbosun_root(file: &[u8], words: &mut [u32], runs: u32, n: u32) -> RootBinding
     ensures { RootIs file.now words.old words.new runs n result }
 {
-    match find(file, words, runs, n) {
-        Ok(root) => RootBinding::from(root),
-        Err(refusal) => RootBinding::from(refusal),
-    }
+    RootBinding::from(find(file, words, runs, n))
 }

@@ -5,6 +5,7 @@ use Rattle.def_pass.specs.Entry.{Entry, refused, passed, entry}
 use Rattle.file_copy.specs.Copy.{WordsAre}
 use Rattle.refusal.specs.declared.Refusal.{Refusal}
 use Rattle.refusal.specs.Number.{number}
+use Rattle.pass_answers.specs.declared.Done.{Done}
 use Rattle.pass_answers.specs.declared.Inlined.{Inlined}
 
 -- row 1
@@ -16,9 +17,9 @@ abbrev pub numbers : Entry → Inlined
 numbers (refused m) = record { refused = m; length = 0; runs = 0; changed = 0 }
 numbers (passed n k c out rs) = record { refused = 0; length = n; runs = k; changed = to_nat c }
 
--- an answer, or the number of the refusal in its place
-abbrev pub inlined : Result Inlined Refusal → Inlined
-inlined (Ok c) = c
+-- the same of the answer that they are made of
+abbrev pub inlined : Result Done Refusal → Inlined
+inlined (Ok d) = record { refused = 0; length = d.length; runs = d.runs; changed = to_nat d.changed }
 inlined (Err r) = record { refused = number r; length = 0; runs = 0; changed = 0 }
 
 -- the result buffer r after an answer: a refusal leaves it as it was, and the bytes behind the result stay

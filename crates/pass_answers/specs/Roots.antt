@@ -32,10 +32,10 @@ abbrev pub numbers : Listing → Roots
 numbers (refused m) = record { refused = m; count = 0 }
 numbers (listed rs) = record { refused = 0; count = length rs }
 
--- how many root bindings there are, or the number of the refusal
-abbrev pub listed_roots : Result ℕ Refusal → Roots
-listed_roots (Ok n) = record { refused = 0; count = n }
-listed_roots (Err r) = record { refused = number r; count = 0 }
+-- the same of the count that they are made of
+abbrev pub counted : Result ℕ Refusal → Roots
+counted (Ok n) = record { refused = 0; count = n }
+counted (Err r) = record { refused = number r; count = 0 }
 
 -- for all arguments; the words are kept by row 1, and after all else the first 16,384 are 0 and those past them kept
 pub record RootsIs (bs r r' w w' : List ℕ) (runs : ℕ) (c : Roots) : Type 0 where
@@ -58,7 +58,7 @@ nth_numbers (stopped m) = record { refused = m; found = 0; context = 0; text = 0
 nth_numbers (given none) = record { refused = 0; found = 0; context = 0; text = 0; prevented = 0; count = 0 }
 nth_numbers (given (some r)) = record { refused = 0; found = 1; context = r.key.bits; text = r.key.text; prevented = to_nat r.mark; count = r.count }
 
--- a root binding, that there is none, or the number of the refusal
+-- the same of the binding that they are made of
 abbrev pub bound : Result (Maybe Binding) Refusal → RootBinding
 bound (Err r) = record { refused = number r; found = 0; context = 0; text = 0; prevented = 0; count = 0 }
 bound (Ok None) = record { refused = 0; found = 0; context = 0; text = 0; prevented = 0; count = 0 }

@@ -1,12 +1,20 @@
-// What the C functions of the pass answer.
+// What the functions of the pass answer, in Rattle and in C.
 #![tactic(auto)]
 
-ghost use Rattle.std.specs.Prelude.{◌≡◌, Ok, Err};
+ghost use Rattle.std.specs.Prelude.{◌≡◌};
 ghost use Rattle.pass_answers.specs.Entry.{inlined};
-ghost use Rattle.pass_answers.specs.Roots.{listed_roots, bound};
+ghost use Rattle.pass_answers.specs.Roots.{counted, bound};
 
 use pass_roots::Root;
 use refusal::Refusal;
+
+// The result's length, the runs done, and whether the last one left the mark.
+#[derive(Clone, Copy, Debug, PartialEq, Eq)]
+pub struct Done {
+    pub length: usize,
+    pub runs: u32,
+    pub changed: bool,
+}
 
 // A refusal's number; or 0, the result's length, the runs done, and 1 if the last one left the mark.
 #[repr(C)]
@@ -18,15 +26,23 @@ pub struct Inlined {
     pub changed: u32,
 }
 
-impl From<Refusal> for Inlined {
-    ghost from_gives = { λ r a. a ≡ inlined (Err r) };
+impl From<Result<Done, Refusal>> for Inlined {
+    ghost from_gives = { λ x a. a ≡ inlined x };
 
-    fn from(refusal: Refusal) -> Inlined {
-        Inlined {
-            refused: u32::from(refusal),
-            length: 0,
-            runs: 0,
-            changed: 0,
+    fn from(answer: Result<Done, Refusal>) -> Inlined {
+        match answer {
+            Ok(done) => Inlined {
+                refused: 0,
+                length: done.length,
+                runs: done.runs,
+                changed: u32::from(done.changed),
+            },
+            Err(refusal) => Inlined {
+                refused: u32::from(refusal),
+                length: 0,
+                runs: 0,
+                changed: 0,
+            },
         }
     }
 }
@@ -39,13 +55,16 @@ pub struct Roots {
     pub count: usize,
 }
 
-impl From<Refusal> for Roots {
-    ghost from_gives = { λ r a. a ≡ listed_roots (Err r) };
+impl From<Result<usize, Refusal>> for Roots {
+    ghost from_gives = { λ x a. a ≡ counted x };
 
-    fn from(refusal: Refusal) -> Roots {
-        Roots {
-            refused: u32::from(refusal),
-            count: 0,
+    fn from(answer: Result<usize, Refusal>) -> Roots {
+        match answer {
+            Ok(count) => Roots { refused: 0, count },
+            Err(refusal) => Roots {
+                refused: u32::from(refusal),
+                count: 0,
+            },
         }
     }
 }
@@ -63,36 +82,29 @@ pub struct RootBinding {
     pub count: u32,
 }
 
-impl From<Refusal> for RootBinding {
-    ghost from_gives = { λ r a. a ≡ bound (Err r) };
+impl From<Result<Option<Root>, Refusal>> for RootBinding {
+    ghost from_gives = { λ x a. a ≡ bound x };
 
-    fn from(refusal: Refusal) -> RootBinding {
-        RootBinding {
-            refused: u32::from(refusal),
-            found: 0,
-            context: 0,
-            text: 0,
-            prevented: 0,
-            count: 0,
-        }
-    }
-}
-
-impl From<Option<Root>> for RootBinding {
-    ghost from_gives = { λ o a. a ≡ bound (Ok o) };
-
-    fn from(root: Option<Root>) -> RootBinding {
-        match root {
-            Some(r) => RootBinding {
+    fn from(answer: Result<Option<Root>, Refusal>) -> RootBinding {
+        match answer {
+            Ok(Some(root)) => RootBinding {
                 refused: 0,
                 found: 1,
-                context: r.context,
-                text: r.text,
-                prevented: u32::from(r.prevented),
-                count: r.count,
+                context: root.context,
+                text: root.text,
+                prevented: u32::from(root.prevented),
+                count: root.count,
             },
-            None => RootBinding {
+            Ok(None) => RootBinding {
                 refused: 0,
+                found: 0,
+                context: 0,
+                text: 0,
+                prevented: 0,
+                count: 0,
+            },
+            Err(refusal) => RootBinding {
+                refused: u32::from(refusal),
                 found: 0,
                 context: 0,
                 text: 0,
