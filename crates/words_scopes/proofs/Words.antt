@@ -1,5 +1,6 @@
 -- How reads and stores of the words show in the stack of scopes. Assumes nothing.
 use Rattle.std.proofs.Common.{◌≡◌, ℕ, zero, suc, ◌+◌, ◌-◌, ◌*◌, ◌%◌, ◌<◌, ◌≤◌, Bool, true, false, not, ◌&&◌, ◌||◌, T, eqb, List, [], ◌∷◌, ◌++◌, map, length, get_or, drop, set, sym, refl, ap, ◌∙◌, subst, ⊎_elim, eq-or-lt_of_le, arith, length-drop, length-set, get_or-drop, get_or-set_other, get_or-set_same, drop-set-lt, eq-eqb, ne_eqb}
+use Rattle.std.proofs.Common as std
 use mathlib.Core.Option.{Option, none, some}
 use Rattle.words_prevent.specs.Mark as marks
 use Rattle.words_prevent.specs.declared.Binding.{Binding}
@@ -337,11 +338,11 @@ pub counted : (w : List ℕ) (g : Good w) (k : ℕ) (h : k < get_or w 1 0) (x : 
 counted w g k h = (let v = (get_or w (8080 + k) 0 + 1) % 4294967296 in changed g (count_kept w g k h v) k h count_one (count-this w g k h v) (count-other w g k h v) (count-good w g k h v))
 
 -- the identifier that a value is: by its first node
-pub name-is : (xs : List Core) → 0 < length xs → name_of (value_of xs) ≡ pick (eqb (get_or xs 0 no_core).kind 21) (get_or xs 0 no_core).num 256
+pub name-is : (xs : List Core) → 0 < length xs → name_of (value_of xs) ≡ pick (eqb (get_or xs 0 no_core).kind 21) (std.Some (get_or xs 0 no_core).num) std.None
 name-is [] h = absurd (omega arith)
 name-is (c ∷ xs) h = refl
 
-pub name-none : (xs : List Core) → length xs ≡ 0 → name_of (value_of xs) ≡ 256
+pub name-none : (xs : List Core) → length xs ≡ 0 → name_of (value_of xs) ≡ std.None
 name-none [] h = refl
 name-none (c ∷ xs) h = absurd (omega arith)
 
@@ -349,26 +350,22 @@ module _ (w : List ℕ) (k : ℕ) where
   run-first : 0 < len_at w k → get_or (run_at w k) 0 no_core ≡ core_from w (2064 + off w k * 2)
   run-first h = run-at w 2064 (off w k) (len_at w k) 0 h ∙ ap (λ (n : ℕ). core_from w (2064 + n * 2)) (omega arith)
 
-  pub named_none : len_at w k ≡ 0 → 256 ≡ name_of (bind_at w k).value
+  pub named_none : len_at w k ≡ 0 → std.None ≡ name_of (bind_at w k).value
   named_none z = sym (name-none (run_at w k) (run_length w 2064 (off w k) (len_at w k) ∙ z))
 
   module _ (o : ℕ) (z : 0 < len_at w k) (at : o ≡ off w k) where
-    named-test : name_of (bind_at w k).value ≡ pick (eqb (get_or w (2064 + o * 2) 0 % 64) 21) (get_or w (2064 + o * 2 + 1) 0) 256
+    named-test : name_of (bind_at w k).value ≡ pick (eqb (get_or w (2064 + o * 2) 0 % 64) 21) (std.Some (get_or w (2064 + o * 2 + 1) 0)) std.None
     named-test = name-is (run_at w k) (omega (arith, run_length w 2064 (off w k) (len_at w k))) ∙ rw (at, run-first z) refl
 
-    pub named-ident : get_or w (2064 + o * 2) 0 % 64 ≡ 21 → get_or w (2064 + o * 2 + 1) 0 ≡ name_of (bind_at w k).value
+    pub named-ident : get_or w (2064 + o * 2) 0 % 64 ≡ 21 → std.Some (get_or w (2064 + o * 2 + 1) 0) ≡ name_of (bind_at w k).value
     named-ident e = sym (named-test ∙ rw (eq-eqb (get_or w (2064 + o * 2) 0 % 64) 21 e) refl)
 
-    pub named_other : (get_or w (2064 + o * 2) 0 % 64 ≡ 21 → ⊥) → 256 ≡ name_of (bind_at w k).value
+    pub named_other : (get_or w (2064 + o * 2) 0 % 64 ≡ 21 → ⊥) → std.None ≡ name_of (bind_at w k).value
     named_other e = sym (named-test ∙ rw (ne_eqb (get_or w (2064 + o * 2) 0 % 64) 21 e) refl)
 
 -- a binding as a record
-pub record-eq : {a a' b b' : ℕ} {c c' : Bool} → a ≡ a' → b ≡ b' → c ≡ c' → ◌≡◌ {A = Binding} (record { id = a; value = b; prevented = c }) (record { id = a'; value = b'; prevented = c' })
+pub record-eq : {a a' : ℕ} {b b' : std.Option ℕ} {c c' : Bool} → a ≡ a' → b ≡ b' → c ≡ c' → ◌≡◌ {A = Binding} (record { id = a; value = b; prevented = c }) (record { id = a'; value = b'; prevented = c' })
 record-eq p q r = cc
-
-pub not-zero : (v : ℕ) → not (eqb v 0) ≡ yes v
-not-zero zero = refl
-not-zero (suc v) = ap not (ne_eqb (suc v) 0 (λ e. omega arith))
 
 -- record i of a window is stored
 pub record-put : (w : List ℕ) (k i : ℕ) (bs : List Binding) (b : Binding) → i < length bs → b ≡ record_at w (k + i) → ((j : ℕ) → j < i → get_or bs j no_record ≡ record_at w (k + j))
@@ -382,22 +379,22 @@ get_d_map f (b ∷ bs) zero d l = refl
 get_d_map f (b ∷ bs) (suc j) d l = get_d_map f bs j d (omega arith)
 
 -- the mark that a record gets is the one that prevent_inline gives
-pick-name : (b : Bool) (m x : ℕ) → x < 256 → eqb (pick b m 256) x ≡ (b && eqb m x)
-pick-name true m x l = refl
-pick-name false m x l = ne_eqb 256 x (λ e. omega arith)
+pick-name : (b : Bool) (m x : ℕ) → marks.is_ident_of (pick b (std.Some m) std.None) x ≡ (b && eqb m x)
+pick-name true m x = refl
+pick-name false m x = refl
 
-name-hit : (x : ℕ) (v : Option Tree) → x < 256 → eqb (name_of v) x ≡ value_is x v
-name-hit x none l = ne_eqb 256 x (λ e. omega arith)
-name-hit x (some t) l = pick-name (is_ident t) (num t) x l
+name-hit : (x : ℕ) (v : Option Tree) → marks.is_ident_of (name_of v) x ≡ value_is x v
+name-hit x none = refl
+name-hit x (some t) = pick-name (is_ident t) (num t) x
 
 or-or : (a b c : Bool) → ((a || b) || c) ≡ (a || (b || c))
 or-or true b c = refl
 or-or false b c = refl
 
-pub mark-or : (w : List ℕ) (k x : ℕ) → x < 256 → (marks.marked x (record_at w k)).prevented ≡ ((bind_at w k).inline_prevented || hit_at w k x)
-mark-or w k x l =
-    or-or (bind_at w k).inline_prevented (eqb (bind_at w k).id x) (eqb (name_of (bind_at w k).value) x)
-    ∙ ap (λ (t : Bool). (bind_at w k).inline_prevented || (eqb (bind_at w k).id x || t)) (name-hit x (bind_at w k).value l)
+pub mark-or : (w : List ℕ) (k x : ℕ) → (marks.marked x (record_at w k)).prevented ≡ ((bind_at w k).inline_prevented || hit_at w k x)
+mark-or w k x =
+    or-or (bind_at w k).inline_prevented (eqb (bind_at w k).id x) (marks.is_ident_of (name_of (bind_at w k).value) x)
+    ∙ ap (λ (t : Bool). (bind_at w k).inline_prevented || (eqb (bind_at w k).id x || t)) (name-hit x (bind_at w k).value)
 
 -- a binding that has its mark is as if it were marked
 prevent-same : (b : VarInfo) → true ≡ b.inline_prevented → prevent b ≡ b
@@ -437,8 +434,8 @@ module _ (w : List ℕ) (k x : ℕ) where
     pub missing-name : get_or w (4112 + k * 10) 0 ≡ x → true ≡ missing w k x
     missing-name e = sym (rw (h, eq-eqb (get_or w (4112 + k * 10) 0) x e) refl)
 
-    pub missing-value : x < 256 → (get_or w (4112 + k * 10) 0 ≡ x → ⊥) → (v : ℕ) → v ≡ name_of (bind_at w k).value → eqb v x ≡ missing w k x
-    missing-value l d v e = ap (λ (m : ℕ). eqb m x) e ∙ name-hit x (bind_at w k).value l ∙ sym (rw (h, ne_eqb (get_or w (4112 + k * 10) 0) x d) refl)
+    pub missing-value : (get_or w (4112 + k * 10) 0 ≡ x → ⊥) → (v : std.Option ℕ) → v ≡ name_of (bind_at w k).value → marks.is_ident_of v x ≡ missing w k x
+    missing-value d v e = ap (λ (m : std.Option ℕ). marks.is_ident_of m x) e ∙ name-hit x (bind_at w k).value ∙ sym (rw (h, ne_eqb (get_or w (4112 + k * 10) 0) x d) refl)
 
   -- it is not: marked, it is what it is
   pub missing-not : (r : Bool) → r ≡ missing w k x → r ≡ false → bind_at w k ≡ prevent_one x (bind_at w k)
@@ -526,9 +523,9 @@ ahead-next w x k i bs f j l h =
     ap (λ (m : ℕ). get_or bs m no_record) (omega arith) ∙ f (j + 1) (omega arith) (omega arith) ∙ ap (λ (m : ℕ). marks.marked x (record_at w m)) (omega arith)
 
 -- the next of them has the mark that its binding is to have
-pub ahead-this : (w : List ℕ) (x k i : ℕ) (bs : List Binding) → x < 256 → Ahead w x k i bs → i < 8 → k < get_or w 1 0 → (get_or bs i no_record).prevented ≡ ((bind_at w k).inline_prevented || hit_at w k x)
-ahead-this w x k i bs b f l h =
-    ap (λ (m : ℕ). (get_or bs m no_record).prevented) (omega arith) ∙ ap (λ (c : Binding). c.prevented) (f 0 (omega arith) (omega arith)) ∙ ap (λ (m : ℕ). (marks.marked x (record_at w m)).prevented) (omega arith) ∙ mark-or w k x b
+pub ahead-this : (w : List ℕ) (x k i : ℕ) (bs : List Binding) → Ahead w x k i bs → i < 8 → k < get_or w 1 0 → (get_or bs i no_record).prevented ≡ ((bind_at w k).inline_prevented || hit_at w k x)
+ahead-this w x k i bs f l h =
+    ap (λ (m : ℕ). (get_or bs m no_record).prevented) (omega arith) ∙ ap (λ (c : Binding). c.prevented) (f 0 (omega arith) (omega arith)) ∙ ap (λ (m : ℕ). (marks.marked x (record_at w m)).prevented) (omega arith) ∙ mark-or w k x
 
 map_snoc : (f : VarInfo → VarInfo) (bs : List VarInfo) (b : VarInfo) → map f (bs ++ (b ∷ [])) ≡ map f bs ++ (f b ∷ [])
 map_snoc f [] b = refl
