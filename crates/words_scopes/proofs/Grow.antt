@@ -1,13 +1,17 @@
 -- A binding appended, a scope opened: the counts grow. Assumes nothing.
-use Rattle.std.proofs.Common.{◌≡◌, ℕ, zero, suc, ◌+◌, ◌-◌, ◌*◌, ◌<◌, ◌≤◌, ◌⊎◌, List, [], ◌∷◌, ◌++◌, length, get_or, set, sym, refl, ap, ◌∙◌, inl, inr, ⊎_elim, eq-or-lt_of_le, add-one, arith, length-set, get_or-set_other, get_or-set_same}
+use Rattle.std.proofs.Common.{◌≡◌, ℕ, zero, suc, ◌+◌, ◌-◌, ◌*◌, ◌<◌, ◌≤◌, ◌⊎◌, List, [], ◌∷◌, ◌++◌, length, get_or, set, sym, refl, ap, ◌∙◌, subst, inl, inr, ⊎_elim, eq-or-lt_of_le, add-one, arith, length-set, get_or-set_other, get_or-set_same}
 use Rattle.def_pass.specs.Scope.{VarInfo, append, new_scope}
 use Rattle.words.specs.Tab.{tab, tab-suc, tab-zero, length-tab, get_d-tab, get_d-tab-out, tab-ext, below_or_not, same_or_not, sum-next, sum-ext, sum-part}
 use Rattle.words.specs.Layout.{yes, Agree, core_from, run, tree}
-use Rattle.words.specs.Moved.{Put4, Put5, Zeroed}
+use Rattle.words.specs.Moved.{Put, Zeroed}
 use Rattle.words.proofs.Nodes.{run-same, beyond-same}
 use Rattle.words.specs.Flags.{flag_at}
 use Rattle.words.proofs.Flags.{flag-none}
-use Rattle.words_scopes.specs.State.{value_of, var_type_of, alias_at, scope_kind_of, bare_of, len_at, off, run_at, const_at, bind_at, Head, unres_at, head_at, heads_at, heads, flags, binds, consts, split, stack, Fits, Good, Past, Becomes, Beside, place}
+use Rattle.words_scopes.specs.State.{value_of, var_type_of, alias_at, scope_kind_of, bare_of, recorded, len_at, off, run_at, const_at, bind_at, Head, unres_at, head_at, heads_at, heads, flags, binds, consts, split, stack, Fits, Good, Past, Becomes, Beside, place}
+use Rattle.words_scopes.specs.Kinds.{type_of, alias_of}
+use Rattle.words_scopes.specs.declared.Record.{Record}
+use Rattle.std.specs.Int.{from_bool}
+use Rattle.words.proofs.Yes.{yes-from_bool}
 use Rattle.words_scopes.specs.Index.{Entered}
 use Rattle.words_scopes.proofs.Split as laws
 use Rattle.words_scopes.proofs.Index.{place-past, place_other, place-again, place-last}
@@ -28,8 +32,8 @@ pub top-begins : (w : List ℕ) → Good w → 0 < get_or w 2 0 → get_or w (71
 unfolding heads
 top-begins w g z = let f : Fits (head_at w (get_or w 2 0 - 1) ∷ heads_at w (get_or w 2 0 - 1)) (get_or w 1 0) = rw (some-head w (get_or w 2 0) z) at g.fits in f.0
 
-module _ (w t u v : List ℕ) (g : Good w) (h : get_or w 1 0 + get_or w 3 0 < 256) (z : 0 < get_or w 2 0) (id kind alias reads prevented undef sensitive hoisted times : ℕ) (small : id < 256)
-    (zeroth : Entered w t (get_or w 1 0) id (get_or w (7184 + (get_or w 2 0 - 1) * 4 + 1) 0)) (one : Put5 t u (4112 + get_or w 1 0 * 10) id kind alias reads prevented) (two : Put5 u v (4112 + get_or w 1 0 * 10 + 5) undef sensitive hoisted 0 0) where
+module _ (w t v : List ℕ) (g : Good w) (h : get_or w 1 0 + get_or w 3 0 < 256) (z : 0 < get_or w 2 0) (id kind alias reads prevented undef sensitive hoisted times : ℕ) (small : id < 256)
+    (zeroth : Entered w t (get_or w 1 0) id (get_or w (7184 + (get_or w 2 0 - 1) * 4 + 1) 0)) (one : Put t v (4112 + get_or w 1 0 * 10) (id ∷ kind ∷ alias ∷ reads ∷ prevented ∷ undef ∷ sensitive ∷ hoisted ∷ 0 ∷ 0 ∷ [])) where
   abbrev n : ℕ
   n = get_or w 1 0
 
@@ -40,36 +44,30 @@ module _ (w t u v : List ℕ) (g : Good w) (h : get_or w 1 0 + get_or w 3 0 < 25
   last j d e = get_or-set_other (set v (8080 + n) times) 1 j (n + 1) 0 d ∙ get_or-set_other v (8080 + n) j times 0 e
 
   tail : (j : ℕ) → 6672 ≤ j → (j ≡ 8080 + n → ⊥) → get_or w' j 0 ≡ get_or t j 0
-  tail j l d = last j (λ e. omega arith) d ∙ two.high j (omega arith) ∙ one.high j (omega arith)
+  tail j l d = last j (λ e. omega arith) d ∙ one.high j (omega arith)
 
   out : (j : ℕ) → (j < 4112 + n * 10) ⊎ (((4112 + n * 10 + 10 ≤ j) × (j < 7568)) ⊎ ((8080 ≤ j) × (j ≡ 8080 + n → ⊥))) → (j ≡ 1 → ⊥) → get_or w' j 0 ≡ get_or w j 0
   out j o d = ⊎_elim
-      (λ (l : j < 4112 + n * 10). last j d (λ e. omega arith) ∙ two.low j (omega arith) ∙ one.low j l ∙ zeroth.other j (λ e. omega arith) (λ e. omega arith))
+      (λ (l : j < 4112 + n * 10). last j d (λ e. omega arith) ∙ one.low j l ∙ zeroth.other j (λ e. omega arith) (λ e. omega arith))
       (λ o'. ⊎_elim
-      (λ (l : (4112 + n * 10 + 10 ≤ j) × (j < 7568)). last j d (λ e. omega arith) ∙ two.high j (omega arith) ∙ one.high j (omega arith) ∙ zeroth.other j (λ e. omega arith) (λ e. omega arith))
+      (λ (l : (4112 + n * 10 + 10 ≤ j) × (j < 7568)). last j d (λ e. omega arith) ∙ one.high j (omega arith) ∙ zeroth.other j (λ e. omega arith) (λ e. omega arith))
       (λ (l : (8080 ≤ j) × (j ≡ 8080 + n → ⊥)). tail j (omega arith) l.1 ∙ zeroth.other j (λ e. omega arith) (λ e. omega arith)) o') o
 
   times-old : (j : ℕ) → j < 256 → (j ≡ n → ⊥) → get_or w' (8080 + j) 0 ≡ get_or w (8080 + j) 0
   times-old j l d = out (8080 + j) (inr (inr (omega arith, λ e. d (omega arith)))) (λ e. omega arith)
 
   times-new : get_or w' (8080 + n) 0 ≡ times
-  times-new = let l = g.long in get_or-set_other (set v (8080 + n) times) 1 (8080 + n) (n + 1) 0 (λ e. omega arith) ∙ get_or-set_same v (8080 + n) times 0 (omega (arith, two.size, one.size, zeroth.size))
+  times-new = let l = g.long in get_or-set_other (set v (8080 + n) times) 1 (8080 + n) (n + 1) 0 (λ e. omega arith) ∙ get_or-set_same v (8080 + n) times 0 (omega (arith, one.size, zeroth.size))
 
   pub count : get_or w' 1 0 ≡ n + 1
-  count = let l = g.long in get_or-set_same (set v (8080 + n) times) 1 (n + 1) 0 (simp length-set (omega (arith, two.size, one.size, zeroth.size)))
+  count = let l = g.long in get_or-set_same (set v (8080 + n) times) 1 (n + 1) 0 (simp length-set (omega (arith, one.size, zeroth.size)))
 
   -- the new record
-  first : (j : ℕ) → 4112 + n * 10 ≤ j → j < 4112 + n * 10 + 5 → get_or w' j 0 ≡ get_or u j 0
-  first j a b = last j (λ e. omega arith) (λ e. omega arith) ∙ two.low j (omega arith)
-
-  second : (q : ℕ) → q < 5 → get_or w' (4112 + n * 10 + 5 + q) 0 ≡ get_or v (4112 + n * 10 + 5 + q) 0
-  second q a = last (4112 + n * 10 + 5 + q) (λ e. omega arith) (λ e. omega arith)
-
-  at : (q s x : ℕ) → q < 5 → s ≡ 4112 + n * 10 + 5 + q → get_or v (4112 + n * 10 + 5 + q) 0 ≡ x → get_or w' s 0 ≡ x
-  at q s x l e f = rw e (second q l ∙ f)
+  at : (q x s : ℕ) → q < 10 → get_or (id ∷ kind ∷ alias ∷ reads ∷ prevented ∷ undef ∷ sensitive ∷ hoisted ∷ 0 ∷ 0 ∷ []) q 0 ≡ x → s ≡ 4112 + n * 10 + q → get_or w' s 0 ≡ x
+  at q x s l e f = rw f (last (4112 + n * 10 + q) (λ e. omega arith) (λ e. omega arith) ∙ one.here q l ∙ e)
 
   len-new : len_at w' n ≡ 0
-  len-new = at 3 (4112 + n * 10 + 8) 0 (omega arith) (omega arith) two.at3
+  len-new = at 8 0 (4112 + n * 10 + 8) (omega arith) refl (omega arith)
 
   len-old : (j : ℕ) → j < n → len_at w' j ≡ len_at w j
   len-old j l = out (4112 + j * 10 + 8) (inl (omega arith)) (λ e. omega arith)
@@ -92,12 +90,12 @@ module _ (w t u v : List ℕ) (g : Good w) (h : get_or w 1 0 + get_or w 3 0 < 25
 
   bind-new : bind_at w' n ≡ new
   bind-new =
-      let at₁ : (s x : ℕ) → 4112 + n * 10 ≤ s → s < 4112 + n * 10 + 5 → get_or u s 0 ≡ x → get_or w' s 0 ≡ x = λ s x a b e. first s a b ∙ e in
-      bind-eq (at₁ (4112 + n * 10) id (omega arith) (omega arith) one.at0) (ap var_type_of (at₁ (4112 + n * 10 + 1) kind (omega arith) (omega arith) one.at1)) (ap alias_at (at₁ (4112 + n * 10 + 2) alias (omega arith) (omega arith) one.at2)) (at₁ (4112 + n * 10 + 3) reads (omega arith) (omega arith) one.at3)
-      (ap yes (at₁ (4112 + n * 10 + 4) prevented (omega arith) (omega arith) one.at4)) (ap yes (last (4112 + n * 10 + 5) (λ e. omega arith) (λ e. omega arith) ∙ two.at0)) (ap value_of run-new) (ap yes (at 1 (4112 + n * 10 + 6) sensitive (omega arith) (omega arith) two.at1)) (ap yes (at 2 (4112 + n * 10 + 7) hoisted (omega arith) (omega arith) two.at2)) times-new
+      let cell : (q x : ℕ) → q < 10 → get_or (id ∷ kind ∷ alias ∷ reads ∷ prevented ∷ undef ∷ sensitive ∷ hoisted ∷ 0 ∷ 0 ∷ []) q 0 ≡ x → get_or w' (4112 + n * 10 + q) 0 ≡ x = λ q x l e. at q x (4112 + n * 10 + q) l e refl in
+      bind-eq (at 0 id (4112 + n * 10) (omega arith) refl (omega arith)) (ap var_type_of (cell 1 kind (omega arith) refl)) (ap alias_at (cell 2 alias (omega arith) refl)) (cell 3 reads (omega arith) refl)
+      (ap yes (cell 4 prevented (omega arith) refl)) (ap yes (cell 5 undef (omega arith) refl)) (ap value_of run-new) (ap yes (cell 6 sensitive (omega arith) refl)) (ap yes (cell 7 hoisted (omega arith) refl)) times-new
 
   flag-new : get_or w' (4112 + n * 10 + 9) 0 ≡ 0
-  flag-new = at 4 (4112 + n * 10 + 9) 0 (omega arith) (omega arith) two.at4
+  flag-new = at 9 0 (4112 + n * 10 + 9) (omega arith) refl (omega arith)
 
   heads-new : heads w' ≡ heads w
   unfolding heads
@@ -113,7 +111,7 @@ module _ (w t u v : List ℕ) (g : Good w) (h : get_or w 1 0 + get_or w 3 0 < 25
   pushed-consts = out 3 (inl (omega arith)) (λ e. omega arith)
 
   size : length w' ≡ length w
-  size = simp length-set (two.size ∙ one.size ∙ zeroth.size)
+  size = simp length-set (one.size ∙ zeroth.size)
 
   push-tree : tree w' ≡ tree w
   push-tree = part-tree w' g (out 0 (inl (omega arith)) (λ e. omega arith)) (λ j a b. out j (inl (omega arith)) (λ e. omega arith))
@@ -161,7 +159,7 @@ module _ (w t u v : List ℕ) (g : Good w) (h : get_or w 1 0 + get_or w 3 0 < 25
   upto-old k l = tab-ext k (λ j. bind_at w' j) (λ j. bind_at w j) (λ j m. bind-old j (omega arith))
 
   name_new : get_or w' (4112 + n * 10) 0 ≡ id
-  name_new = first (4112 + n * 10) (omega arith) (omega arith) ∙ one.at0
+  name_new = at 0 id (4112 + n * 10) (omega arith) refl (omega arith)
 
   shadow-new : get_or w' (7824 + n) 0 ≡ place (get_or w' (4112 + n * 10) 0) (heads w) (tab n (λ j. bind_at w j))
   unfolding binds
@@ -190,7 +188,7 @@ module _ (w t u v : List ℕ) (g : Good w) (h : get_or w 1 0 + get_or w 3 0 < 25
     fits = rw (heads-new, count) push-fits;
     cfits = rw (heads-new, out 3 (inl (omega arith)) (λ e. omega arith)) g.cfits;
     ids = rw count (λ k l. ⊎_elim
-        (λ (e : k ≡ n). rw (e, first (4112 + n * 10) (omega arith) (omega arith), one.at0) small)
+        (λ (e : k ≡ n). rw (e, name_new) small)
         (λ (q : k < n). rw (out (4112 + k * 10) (inl (omega arith)) (λ e. omega arith)) (g.ids k q))
         (eq-or-lt_of_le (omega arith)));
     cids = rw (out 3 (inl (omega arith)) (λ e. omega arith)) (λ k l. rw (ct (6672 + k * 2) (omega arith) (omega arith)) (g.cids k l));
@@ -221,6 +219,16 @@ module _ (w t u v : List ℕ) (g : Good w) (h : get_or w 1 0 + get_or w 3 0 < 25
     rest = beyond-same w w' size (λ j a. out j (inr (inr (omega arith, λ e. omega arith))) (λ e. omega arith));
   }
 
+  -- all of it, by the binding that the words say
+  pub grown : (b : VarInfo) → new ≡ b → Becomes w w' (append b (stack w)) × Past (n + 1) w w' × (get_or w' 1 0 ≡ n + 1) × (get_or w' 3 0 ≡ get_or w 3 0)
+  grown b e = (subst (λ (v : VarInfo). Becomes w w' (append v (stack w))) e pushed, pushed-past, count, pushed-consts)
+
+-- a binding without a value, by its words and by its record
+pub bare-is : (i k a p u s h c : ℕ) (r : Record) → var_type_of k ≡ type_of r.kind → alias_at a ≡ alias_of r.alias → p ≡ from_bool r.prevented → u ≡ from_bool r.undefined → s ≡ from_bool r.this_sensitive → h ≡ from_bool r.hoisted
+    → bare_of i k a r.reads p u s h c ≡ recorded i r c
+bare-is i k a p u s h c r ek ea ep eu es eh =
+    bind-eq refl ek ea refl (ap yes ep ∙ yes-from_bool r.prevented) (ap yes eu ∙ yes-from_bool r.undefined) refl (ap yes es ∙ yes-from_bool r.this_sensitive) (ap yes eh ∙ yes-from_bool r.hoisted) refl
+
 -- the first n bindings are kept
 module _ {w : List ℕ} (y : List ℕ) (g : Good w) (n : ℕ) (h : n ≤ get_or w 1 0) (bs : Agree 2064 3088 w y) (bt : Agree 4112 (4112 + n * 10) w y) where
   pub part_off : (k : ℕ) → k ≤ n → off y k ≡ off w k
@@ -241,7 +249,7 @@ module _ {w : List ℕ} (y : List ℕ) (g : Good w) (n : ℕ) (h : n ≤ get_or 
   part-flags = tab-ext n (λ k. get_or y (4112 + k * 10 + 9) 0) (λ k. get_or w (4112 + k * 10 + 9) 0) (λ k l. bt (4112 + k * 10 + 9) (omega arith) (omega arith))
 
 -- a scope is opened
-module _ (w u v : List ℕ) (g : Good w) (h : get_or w 2 0 < 32) (kind : ℕ) (one : Zeroed w u (7312 + get_or w 2 0 * 8) 8) (two : Put4 u v (7184 + get_or w 2 0 * 4) kind (get_or w 1 0) (get_or w 3 0) 0) where
+module _ (w u v : List ℕ) (g : Good w) (h : get_or w 2 0 < 32) (kind : ℕ) (one : Zeroed w u (7312 + get_or w 2 0 * 8) 8) (two : Put u v (7184 + get_or w 2 0 * 4) (kind ∷ get_or w 1 0 ∷ get_or w 3 0 ∷ 0 ∷ [])) where
   abbrev d : ℕ
   d = get_or w 2 0
 
@@ -262,8 +270,8 @@ module _ (w u v : List ℕ) (g : Good w) (h : get_or w 2 0 < 32) (kind : ℕ) (o
   deeper : get_or x 2 0 ≡ d + 1
   deeper = let l = g.long in get_or-set_same v 2 (d + 1) 0 (omega (arith, two.size, one.size))
 
-  at4 : (q : ℕ) → q < 4 → (y : ℕ) → get_or v (7184 + d * 4 + q) 0 ≡ y → get_or x (7184 + d * 4 + q) 0 ≡ y
-  at4 q l y e = get_or-set_other v 2 (7184 + d * 4 + q) (d + 1) 0 (λ z. omega arith) ∙ e
+  at4 : (q y z : ℕ) → q < 4 → get_or (kind ∷ get_or w 1 0 ∷ get_or w 3 0 ∷ 0 ∷ []) q 0 ≡ y → z ≡ 7184 + d * 4 + q → get_or x z 0 ≡ y
+  at4 q y z l e f = rw f (get_or-set_other v 2 (7184 + d * 4 + q) (d + 1) 0 (λ z. omega arith) ∙ two.here q l ∙ e)
 
   heads-open : heads x ≡ head_at x d ∷ heads w
   unfolding heads heads_at
@@ -291,13 +299,13 @@ module _ (w u v : List ℕ) (g : Good w) (h : get_or w 2 0 < 32) (kind : ℕ) (o
   oq = λ j a b. keeps j (inr (inr (omega arith))) (λ e. omega arith)
 
   kind_at : get_or x (7184 + d * 4) 0 ≡ kind
-  kind_at = get_or-set_other v 2 (7184 + d * 4) (d + 1) 0 (λ z. omega arith) ∙ two.at0
+  kind_at = at4 0 kind (7184 + d * 4) (omega arith) refl (omega arith)
 
   start-at : (head_at x d).start ≡ get_or w 1 0
-  start-at = at4 1 (omega arith) (get_or w 1 0) two.at1
+  start-at = at4 1 (get_or w 1 0) (7184 + d * 4 + 1) (omega arith) refl refl
 
   cstart-at : (head_at x d).cstart ≡ get_or w 3 0
-  cstart-at = at4 2 (omega arith) (get_or w 3 0) two.at2
+  cstart-at = at4 2 (get_or w 3 0) (7184 + d * 4 + 2) (omega arith) refl refl
 
   n1 : get_or x 1 0 ≡ get_or w 1 0
   n1 = low 1 (omega arith) (λ e. omega arith)
@@ -360,7 +368,7 @@ module _ (w u v : List ℕ) (g : Good w) (h : get_or w 2 0 < 32) (kind : ℕ) (o
   opened = record {
     good = open-good;
     is = rw (heads-open, open-parts.0, open-parts.1, open-parts.2)
-        (laws.open-split (scope_kind_of kind) (head_at x d) (heads w) (flags w) (binds w) (consts w) (ap scope_kind_of kind_at) (at4 3 (omega arith) 0 two.at3) unset (start-at ∙ sym open-lengths.1) (cstart-at ∙ sym open-lengths.2) (open-lengths.0 ∙ sym open-lengths.1));
+        (laws.open-split (scope_kind_of kind) (head_at x d) (heads w) (flags w) (binds w) (consts w) (ap scope_kind_of kind_at) (at4 3 0 (7184 + d * 4 + 3) (omega arith) refl refl) unset (start-at ∙ sym open-lengths.1) (cstart-at ∙ sym open-lengths.2) (open-lengths.0 ∙ sym open-lengths.1));
     tree = open-tree;
     others = record { low = λ j a b. low j (omega arith) (λ e. omega arith); high = λ j a b. keeps j (inr (inr (omega arith))) (λ e. omega arith) };
     rest = beyond-same w x x-size (λ j a. keeps j (inr (inr (omega arith))) (λ e. omega arith));

@@ -441,6 +441,10 @@ module _ (w : List ℕ) (k x : ℕ) where
   pub missing-not : (r : Bool) → r ≡ missing w k x → r ≡ false → bind_at w k ≡ prevent_one x (bind_at w k)
   missing-not r e n = one-still (bind_at w k) (bind_at w k).inline_prevented (hit_at w k x) refl (sym n ∙ e)
 
+-- the values up to a binding's own have room
+pub room : (w : List ℕ) → Good w → (k : ℕ) → k < get_or w 1 0 → off w k + len_at w k ≤ 512
+room w g k h = omega (arith, sum-part (λ j. len_at w j) k (get_or w 1 0) h, g.vals)
+
 -- the sweep over all bindings: the first k are done
 pub record Swept (w₀ w : List ℕ) (x k : ℕ) : Type 0 where
   pub kept : Kept w₀ w

@@ -5,7 +5,8 @@ use Rattle.words_scopes.proofs.Words.{up_to}
 use Rattle.words_scopes.proofs.find_by_walk.Given as goal
 
 abbrev pub invariant-loop-k : goal.invariant-loop-k
-invariant-loop-k l = (l.k ≤ 32) × (l.e ≤ get_or l.w 1 0) × Fits (heads_at l.w l.k) l.e × (place l.x (heads l.w) (binds l.w) ≡ place l.x (heads_at l.w l.k) (up_to l.w l.e))
-
-abbrev pub decreases-loop-k : goal.decreases-loop-k
-decreases-loop-k l = l.k
+invariant-loop-k l = record {
+  within : l.e ≤ get_or l.w 1 0;
+  fits : Fits (heads_at l.w l.k) l.e;
+  same : place l.x (heads l.w) (binds l.w) ≡ place l.x (heads_at l.w l.k) (up_to l.w l.e);
+}
