@@ -1,4 +1,5 @@
 -- What a call of a walk or of a step is given: that trees begin there, after what was done before it. Assumes nothing.
+use Rattle.std.proofs.Common.{Ok}
 use mathlib.Core.Path.{◌≡◌, sym, ap, ◌∙◌, subst}
 use mathlib.Core.List.{List, []}
 use Prim.Native.Nat.{ℕ, suc, ◌+◌, ◌-◌, ◌≤◌, ◌<◌}
@@ -18,10 +19,8 @@ use Rattle.words_nodes.proofs.Walks.{forest-at-is}
 use Rattle.words_nodes.proofs.Loops.{forest-first}
 use Rattle.shape.proofs.Shapes.{room-stays, trees-end}
 use Rattle.words_state.specs.State.{abs, Acts, Act, Turns}
-use Rattle.walk_ident.specs.declared.Next.{Next}
-use Rattle.walk_ident.specs.declared.Next.TheVariants.{At}
 use Rattle.walk_laws.specs.Did.{Did, Here}
-use Rattle.walk_laws.proofs.Rooms.{whole_of, room-one, room-kids, room-less, room-node, room-behind, room_next, did-is}
+use Rattle.walk_laws.proofs.Rooms.{whole_of, room-one, room-kids, room-less, room-node, room-behind, room_next}
 
 -- the node at i, as the readers of a node and `skip` ask for it
 pub here-node : {w : List ℕ} {i p d : ℕ} → Here w 1 i p d → i < get_or w 0 0
@@ -58,52 +57,50 @@ here-level h = record { planted = h.planted; room = h.room; depth = omega (arith
 pub here-turn : {w u : List ℕ} {s : St} {n i p d : ℕ} → Turns w u s → Here w n i p d → Here u n i p d
 here-turn {w} {u} {s} {n} {i} t h = record { planted = t.ok.planted; room = subst (λ (xs : List Core). Room xs n i) (sym t.nodes) h.room; depth = h.depth }
 
-act-nodes : (w u : List ℕ) {e : ℕ} (q : Res St Nothing) → e ≡ 0 → Acts u e (carry {F = Flat St} (λ s a. record { nodes = tree w; rest = s }) (λ a. a) q) → tree u ≡ tree w
-act-nodes w u (stop m) z a = absurd (omega (arith, z, a.1))
-act-nodes w u (done s x) z a = ap (λ (st : Flat St). st.nodes) a.1
+act-nodes : (w u : List ℕ) (q : Res St Nothing) → Acts u 0 (carry {F = Flat St} (λ s a. record { nodes = tree w; rest = s }) (λ a. a) q) → tree u ≡ tree w
+act-nodes w u (stop m) a = absurd (omega (arith, a.1))
+act-nodes w u (done s x) a = ap (λ (st : Flat St). st.nodes) a.1
 
-pub here-act : {w u : List ℕ} {e : ℕ} (q : Res St Nothing) {n i p d : ℕ} → e ≡ 0 → Act w u e (carry {F = Flat St} (λ s a. record { nodes = tree w; rest = s }) (λ a. a) q) → Here w n i p d → Here u n i p d
-here-act {w} {u} {e} q {n} {i} z a h = record { planted = a.ok.planted; room = subst (λ (xs : List Core). Room xs n i) (sym (act-nodes w u q z a.acts)) h.room; depth = h.depth }
+pub here-act : {w u : List ℕ} (q : Res St Nothing) {n i p d : ℕ} → Act w u 0 (carry {F = Flat St} (λ s a. record { nodes = tree w; rest = s }) (λ a. a) q) → Here w n i p d → Here u n i p d
+here-act {w} {u} q {n} {i} a h = record { planted = a.ok.planted; room = subst (λ (xs : List Core). Room xs n i) (sym (act-nodes w u q a.acts)) h.room; depth = h.depth }
 
-pub here-rest : (m : M St Nothing) {w u : List ℕ} {e n i p d : ℕ} → e ≡ 0 → Act w u e (on_rest m (abs w)) → Here w n i p d → Here u n i p d
-here-rest m {w} z a h = here-act (m (abs w).rest) z a h
+pub here-rest : (m : M St Nothing) {w u : List ℕ} {n i p d : ℕ} → Act w u 0 (on_rest m (abs w)) → Here w n i p d → Here u n i p d
+here-rest m {w} a h = here-act (m (abs w).rest) a h
 
-pub here-tree : (m : Tree → M St Nothing) (k : ℕ) {w u : List ℕ} {e n i p d : ℕ} → e ≡ 0 → Act w u e (act m k (abs w)) → Here w n i p d → Here u n i p d
-here-tree m k {w} z a h = here-act (m (tree_at (abs w) k) (abs w).rest) z a h
+pub here-tree : (m : Tree → M St Nothing) (k : ℕ) {w u : List ℕ} {n i p d : ℕ} → Act w u 0 (act m k (abs w)) → Here w n i p d → Here u n i p d
+here-tree m k {w} a h = here-act (m (tree_at (abs w) k) (abs w).rest) a h
 
-pub here-trees : (m : Forest → M St Nothing) (q k : ℕ) {w u : List ℕ} {e n i p d : ℕ} → e ≡ 0 → Act w u e (act_f m q k (abs w)) → Here w n i p d → Here u n i p d
-here-trees m q k {w} z a h = here-act (m (forest_at (abs w) q k) (abs w).rest) z a h
+pub here-trees : (m : Forest → M St Nothing) (q k : ℕ) {w u : List ℕ} {n i p d : ℕ} → Act w u 0 (act_f m q k (abs w)) → Here w n i p d → Here u n i p d
+here-trees m q k {w} a h = here-act (m (forest_at (abs w) q k) (abs w).rest) a h
 
 -- what was read of a node stays read
-pub arity-act : {w u : List ℕ} {e : ℕ} (q : Res St Nothing) {m i p d : ℕ} → e ≡ 0 → Act w u e (carry {F = Flat St} (λ s a. record { nodes = tree w; rest = s }) (λ a. a) q) → Here w 1 i p d → m ≡ (node_of w i).arity → m ≡ (node_of u i).arity
-arity-act {w} {u} {e} q {m} {i} z a h r =
-    let n = act-nodes w u q z a.acts in
-    r ∙ ap (λ c. c.arity) (sym (tree-at w i (here-node h)) ∙ ap (λ (xs : List Core). get_or xs i no_core) (sym n) ∙ tree-at u i (here-node (here-act q z a h)))
+pub arity-act : {w u : List ℕ} (q : Res St Nothing) {m i p d : ℕ} → Act w u 0 (carry {F = Flat St} (λ s a. record { nodes = tree w; rest = s }) (λ a. a) q) → Here w 1 i p d → m ≡ (node_of w i).arity → m ≡ (node_of u i).arity
+arity-act {w} {u} q {m} {i} a h r =
+    let n = act-nodes w u q a.acts in
+    r ∙ ap (λ c. c.arity) (sym (tree-at w i (here-node h)) ∙ ap (λ (xs : List Core). get_or xs i no_core) (sym n) ∙ tree-at u i (here-node (here-act q a h)))
 
-pub arity-tree : (m : Tree → M St Nothing) (k : ℕ) {w u : List ℕ} {e n i p d : ℕ} → e ≡ 0 → Act w u e (act m k (abs w)) → Here w 1 i p d → n ≡ (node_of w i).arity → n ≡ (node_of u i).arity
-arity-tree m k {w} z a h r = arity-act (m (tree_at (abs w) k) (abs w).rest) z a h r
+pub arity-tree : (m : Tree → M St Nothing) (k : ℕ) {w u : List ℕ} {n i p d : ℕ} → Act w u 0 (act m k (abs w)) → Here w 1 i p d → n ≡ (node_of w i).arity → n ≡ (node_of u i).arity
+arity-tree m k {w} a h r = arity-act (m (tree_at (abs w) k) (abs w).rest) a h r
 
 -- after a walk of all n: as many begin there; after one of n, and after k of n: the others begin behind
-module _ {f : Forest → M St Forest} {g : Walks St} (s : SimF f g) {w u : List ℕ} {a : Next} {j n i p d : ℕ} (h : Here w n i p d) (e : a ≡ At j) where
-  pub here-again : Did w u a (g n i (abs w)) → Here u n i p d
-  here-again x = let y = subst (λ (b : Next). Did w u b (g n i (abs w))) e x in record { planted = y.ok.planted; room = room-stays s (abs w) n i (whole_of h.planted) h.room (did-is y); depth = h.depth }
+module _ {f : Forest → M St Forest} {g : Walks St} (s : SimF f g) {w u : List ℕ} {j n i p d : ℕ} (h : Here w n i p d) where
+  pub here-again : Did w u (Ok j) (g n i (abs w)) → Here u n i p d
+  here-again x = record { planted = x.ok.planted; room = room-stays s (abs w) n i (whole_of h.planted) h.room x.is; depth = h.depth }
 
-  pub here-behind : (k : ℕ) → k < n → Did w u a (g k i (abs w)) → Here u 1 j p d
+  pub here-behind : (k : ℕ) → k < n → Did w u (Ok j) (g k i (abs w)) → Here u 1 j p d
   here-behind k l x =
-      let y = subst (λ (b : Next). Did w u b (g k i (abs w))) e x in
       let r : Room (tree w) (k + 1) i = room-less (omega arith) h.room in
-      record { planted = y.ok.planted; room = room-behind s h.planted r y; depth = h.depth }
+      record { planted = x.ok.planted; room = room-behind s h.planted r x; depth = h.depth }
 
-module _ {f : Tree → M St Tree} {g : Walk St} (s : Sim f g) {w u : List ℕ} {a : Next} {j n i p d : ℕ} (h : Here w n i p d) (e : a ≡ At j) where
-  pub here-next : (n ≡ 0 → ⊥) → Did w u a (g i (abs w)) → Here u (n - 1) j p d
+module _ {f : Tree → M St Tree} {g : Walk St} (s : Sim f g) {w u : List ℕ} {j n i p d : ℕ} (h : Here w n i p d) where
+  pub here-next : (n ≡ 0 → ⊥) → Did w u (Ok j) (g i (abs w)) → Here u (n - 1) j p d
   here-next z x =
-      let y = subst (λ (b : Next). Did w u b (g i (abs w))) e x in
       let m : n ≡ suc (n - 1) = omega (arith, z) in
-      record { planted = y.ok.planted; room = room_next s h.planted (subst (λ (k : ℕ). Room (tree w) k i) m h.room) y; depth = h.depth }
+      record { planted = x.ok.planted; room = room_next s h.planted (subst (λ (k : ℕ). Room (tree w) k i) m h.room) x; depth = h.depth }
 
-  pub here-still : n ≡ 1 → Did w u a (g i (abs w)) → Here u n i p d
+  pub here-still : n ≡ 1 → Did w u (Ok j) (g i (abs w)) → Here u n i p d
   unfolding many
-  here-still o x = subst (λ (k : ℕ). Here u k i p d) (sym o) (here-again (sim-each s) (subst (λ (k : ℕ). Here w k i p d) o h) e x)
+  here-still o x = subst (λ (k : ℕ). Here u k i p d) (sym o) (here-again (sim-each s) (subst (λ (k : ℕ). Here w k i p d) o h) x)
 
 -- a node before it
 pub here-below : {w : List ℕ} {n i p d : ℕ} (q : ℕ) → q < i → Here w n i p d → Planted w × (q < get_or w 0 0)
@@ -126,11 +123,10 @@ here-root {w} g =
     record { planted = g; room = room-one g l; depth = omega arith }
 
 -- a walk of a tree ends where the tree ends
-pub walk_end : {f : Tree → M St Tree} {g : Walk St} (s : Sim f g) {w u : List ℕ} {a : Next} {j i p d : ℕ} → Here w 1 i p d → a ≡ At j → Did w u a (g i (abs w)) → j ≡ i + count (tree_from (tree u) i)
+pub walk_end : {f : Tree → M St Tree} {g : Walk St} (s : Sim f g) {w u : List ℕ} {j i p d : ℕ} → Here w 1 i p d → Did w u (Ok j) (g i (abs w)) → j ≡ i + count (tree_from (tree u) i)
 unfolding many
-walk_end {g = g} s {w} {u} {a} {j} {i} h e x =
-    let y = subst (λ (b : Next). Did w u b (many g 1 i (abs w))) e x in
-    let l = here-node (here-again (sim-each s) h e x) in
-    let t = trees-end (sim-each s) (abs w) 1 i (whole_of h.planted) h.room (did-is y) in
+walk_end {g = g} s {w} {u} {j} {i} h x =
+    let l = here-node (here-again (sim-each s) h x) in
+    let t = trees-end (sim-each s) (abs w) 1 i (whole_of h.planted) h.room x.is in
     let c : counts (forest_at (abs u) 1 i) ≡ count (tree_from (tree u) i) + 0 = ap counts (forest-at-is (abs u) 1 i ∙ forest-first (tree u) i (omega (arith, l, tree-length u))) in
     omega (arith, t, c)

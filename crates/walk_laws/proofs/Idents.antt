@@ -1,4 +1,6 @@
 -- An identifier's steps: a constant, a value, `void 0`, or nothing. Assumes nothing.
+use Rattle.std.proofs.Common.{Result, Ok}
+use Rattle.refusal.specs.declared.Refusal.{Refusal}
 use mathlib.Core.Path.{◌≡◌, refl, sym, ap, subst}
 use mathlib.Core.Bool.{Bool, true, false, not}
 use mathlib.Core.List.{List}
@@ -12,45 +14,32 @@ use Rattle.def_tree.specs.Tree.{Tree, Core, form, num}
 use Rattle.def_tree.specs.Combine.{Res, stop, done, Nothing, and_then, carry, tree_at, iff, Flat, node_at, act, put, skip}
 use Rattle.def_tree.proofs.Sims.{sim-act, sim_put}
 use Rattle.words.specs.Layout.{tree}
-use Rattle.def_pass.specs.Tree.{void_zero, count_o}
+use Rattle.def_pass.specs.Tree.{void_zero}
 use Rattle.def_pass.specs.Scope.{VarInfo, var_inline_prevented, find_binding, add_read}
 use Rattle.def_pass.specs.Walk.{St, modify, mark, when, set_changed, tally, same_ident, replace}
 use Rattle.shape.specs.Shape.{Room}
 use Rattle.words_state.specs.State.{rest, abs, Acts, Act}
 use Rattle.laws_flat.specs.WalkF.{WalksF, test_read, inline_value_f, found_f, ident_inlining_f, ident_analysis_f, after_ident_f}
-use Rattle.walk_ident.specs.declared.Next.{Next}
-use Rattle.walk_ident.specs.declared.Next.TheVariants.{At}
 use Rattle.walk_ident.specs.Steps as steps
-use Rattle.scope_var_info.specs.Handles.{held}
-use Rattle.scope_var_info.proofs.Numbers.{held-some, count_none}
-use Rattle.walk_ident.specs.declared.Found.{Found}
-use Rattle.walk_ident.specs.declared.Found.TheVariants as found
-use Rattle.walk_ident.specs.Steps.{analysis_f, Goes, Fate, stays, undefined, inlined, fate_by, fate_of, fate_at, const_f, value_f, swap_f}
-use Rattle.walk_laws.specs.Did.{Lands, Did, Here}
+use Rattle.scope_var_info.specs.Handles.{held, counted_o}
+use Rattle.walk_ident.specs.Steps.{analysis_f, Fate, stays, undefined, inlined, fate_by, fate_of, fate_at, const_f, value_f, swap_f}
+use Rattle.walk_laws.specs.Did.{Did, Here}
 use Rattle.walk_laws.proofs.Heres.{here-still}
 use Rattle.walk_laws.proofs.Ways.{iff-yes, iff-no, in-inlining, in-analysis, ident-by}
 
--- a step's answer as a walk's
-pub goes-did : {w u : List ℕ} {a : Next} {r : Res (Flat St) ℕ} → Goes w u a r → Did w u a r
-goes-did {w} {u} {a} {r} g = record { ok = g.ok; lands = go r g.lands }
-  where
-    go : (r : Res (Flat St) ℕ) → steps.Lands a (abs u) r → Lands a u r
-    go (stop n) l = subst (λ (b : Next). Lands b u (stop n)) (sym l) refl
-    go (done st j) l = subst (λ (b : Next). Lands b u (done st j)) (sym l.0) (refl, l.1)
-
 -- where the tree was, a tree is
-module _ {w u : List ℕ} {a : Next} {i p d j : ℕ} (q : ℕ) (e : Tree) (h : Here w 1 i p d) (z : a ≡ At j) where
-  pub here-const : Did w u a (const_f q e i (abs w)) → Here u 1 i p d
-  here-const x = here-still (sim-act (λ t. modify (set_changed true)) (λ b. sim-act (λ t. replace q t e) (λ b. sim_put e))) h z refl x
+module _ {w u : List ℕ} {i p d j : ℕ} (q : ℕ) (e : Tree) (h : Here w 1 i p d) where
+  pub here-const : Did w u (Ok j) (const_f q e i (abs w)) → Here u 1 i p d
+  here-const x = here-still (sim-act (λ t. modify (set_changed true)) (λ b. sim-act (λ t. replace q t e) (λ b. sim_put e))) h refl x
 
-  pub here-value : Did w u a (value_f q e i (abs w)) → Here u 1 i p d
-  here-value x = here-still (sim-act (λ t. when (not (same_ident t e)) (modify (λ s. tally (num t) (set_changed true s)))) (λ b. sim-act (λ t. replace q t e) (λ b. sim_put e))) h z refl x
+  pub here-value : Did w u (Ok j) (value_f q e i (abs w)) → Here u 1 i p d
+  here-value x = here-still (sim-act (λ t. when (not (same_ident t e)) (modify (λ s. tally (num t) (set_changed true s)))) (λ b. sim-act (λ t. replace q t e) (λ b. sim_put e))) h refl x
 
 pub here-lower : {w : List ℕ} {n i p d : ℕ} → Here w n i p (d + 1) → Here w n i p d
 here-lower h = record { planted = h.planted; room = h.room; depth = omega (arith, h.depth) }
 
 -- what was found, by what becomes of the identifier
-module _ (v : WalksF) (p i : ℕ) {w u : List ℕ} {a : Next} where
+module _ (v : WalksF) (p i : ℕ) {w u : List ℕ} {a : Result ℕ Refusal} where
   fate-stays : (b : VarInfo) (o : Option Tree) → fate_by b.is_undefined o ≡ stays → Did w u a (skip i (abs w)) → Did w u a (inline_value_f v p b o i (abs w))
   fate-stays b none e d = go b.is_undefined e
     where
@@ -106,20 +95,19 @@ module _ (v : WalksF) (p i : ℕ) {w u : List ℕ} {a : Next} where
 
 -- what the steps answered
 module _ (w : List ℕ) (i : ℕ) where
-  pub const-some : (m : ℕ) → m ≡ count_o (steps.constant_at (abs w) i) → 0 < m → steps.constant_at (abs w) i ≡ some (held (steps.constant_at (abs w) i))
-  const-some m e z = held-some (steps.constant_at (abs w) i) (omega (arith, e))
+  pub const-some : {m : ℕ} → some m ≡ counted_o (steps.constant_at (abs w) i) → steps.constant_at (abs w) i ≡ some (held (steps.constant_at (abs w) i))
+  const-some {m} e = go (steps.constant_at (abs w) i) e
+    where
+      go : (o : Option Tree) → some m ≡ counted_o o → o ≡ some (held o)
+      go none e = absurd (let y : ◌≡◌ {A = ℕ} 0 1 = cc in omega arith)
+      go (some t) e = refl
 
-  pub const-none : (m : ℕ) → m ≡ count_o (steps.constant_at (abs w) i) → m ≤ 0 → steps.constant_at (abs w) i ≡ none
-  const-none m e z = count_none (steps.constant_at (abs w) i) (omega (arith, e))
-
-  pub fated-nothing : {c : Found} → c ≡ found.Nothing → steps.Fated w i c → fate_at (abs w) i ≡ stays
-  fated-nothing e n = subst (λ (c : Found). steps.Fated w i c) e n
-
-  pub fated-void : {c : Found} → c ≡ found.Void → steps.Fated w i c → fate_at (abs w) i ≡ undefined
-  fated-void e n = subst (λ (c : Found). steps.Fated w i c) e n
-
-  pub fated-value : {c : Found} (b : ℕ) → c ≡ found.Value b → steps.Fated w i c → (fate_at (abs w) i ≡ inlined (steps.value_by w b)) × steps.Has w b
-  fated-value b e n = subst (λ (c : Found). steps.Fated w i c) e n
+  pub const-none : none ≡ counted_o (steps.constant_at (abs w) i) → steps.constant_at (abs w) i ≡ none
+  const-none e = go (steps.constant_at (abs w) i) e
+    where
+      go : (o : Option Tree) → ◌≡◌ {A = Option ℕ} none (counted_o o) → o ≡ none
+      go none e = refl
+      go (some t) e = absurd (let y : ◌≡◌ {A = ℕ} 0 1 = cc in omega arith)
 
 -- Analysis leaves the nodes
 pub here-analysis : {w u : List ℕ} {i p d : ℕ} → Here w 1 i p d → Act w u 0 (analysis_f i (abs w)) → Here u 1 i p d

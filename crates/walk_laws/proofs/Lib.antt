@@ -1,4 +1,3 @@
-pub mod Codes
 pub mod Declrs
 pub mod Heres
 pub mod Idents

@@ -1,5 +1,6 @@
 -- Where trees begin: the children of a node, and what stands behind a tree that was walked. Assumes nothing.
-use mathlib.Core.Path.{◌≡◌, refl, sym, ap, ap₂, ◌∙◌, subst}
+use Rattle.std.proofs.Common.{Ok}
+use mathlib.Core.Path.{◌≡◌, refl, sym, ap, ◌∙◌, subst}
 use mathlib.Core.List.{List, [], ◌∷◌}
 use native.Mathlib.Numerals.{add-one}
 use Prim.Native.Nat.{ℕ, suc, ◌+◌, ◌≤◌, ◌<◌}
@@ -7,7 +8,7 @@ use native.Mathlib.Omega.{arith}
 use lib.ListN.{length, get_or, drop, length-drop}
 use lib.Seq.{drop-cons, drop-drop}
 use Rattle.def_tree.specs.Tree.{Tree, Forest, Core, no_core, length_f, counts, plant, take_f}
-use Rattle.def_tree.specs.Combine.{Res, stop, done, M, Flat, forest_at, Walk, Walks, many}
+use Rattle.def_tree.specs.Combine.{M, forest_at, Walk, Walks, many}
 use Rattle.def_tree.proofs.Sims.{Sim, SimF, sim-each}
 use Rattle.def_tree.proofs.Whole.{Whole, whole_drop, length-drop_f}
 use Rattle.words.specs.Layout.{tree, node_of}
@@ -18,8 +19,7 @@ use Rattle.words_nodes.proofs.Trees.{one-whole, plant-behind, trees-le}
 use Rattle.shape.specs.Shape.{Room}
 use Rattle.shape.proofs.Shapes.{shape-trees}
 use Rattle.words_state.specs.State.{abs}
-use Rattle.walk_ident.specs.declared.Next.TheVariants.{At}
-use Rattle.walk_laws.specs.Did.{Lands, Did}
+use Rattle.walk_laws.specs.Did.{Did}
 
 pub whole_of : {w : List ℕ} → Planted w → Whole (tree w)
 whole_of g = one-whole g.one
@@ -53,25 +53,17 @@ room-less l r = record { low = r.low; trees = omega (arith, r.trees) }
 pub room-node : (w : List ℕ) {n i : ℕ} → 0 < n → Room (tree w) n i → i < get_or w 0 0
 room-node w {n} {i} h r = omega (arith, r.low, r.trees, trees-le (drop i (tree w)), length-drop i (tree w), tree-length w)
 
--- what was done, as an equation
-pub did-is : {w u : List ℕ} {j : ℕ} {r : Res (Flat St) ℕ} → Did w u (At j) r → r ≡ done (abs u) j
-did-is {w} {u} {j} {r} d = go r d.lands
-  where
-    go : (r : Res (Flat St) ℕ) → Lands (At j) u r → r ≡ done (abs u) j
-    go (stop m) l = absurd l
-    go (done st k) l = ap₂ {C = Res (Flat St) ℕ} done (sym l.1) (sym l.0)
-
 -- behind n of n + m trees that were walked, m trees begin
 module _ {f : Forest → M St Forest} {g : Walks St} (h : SimF f g) {w u : List ℕ} {n m i j : ℕ} (P : Planted w) (r : Room (tree w) (n + m) i) where
-  pub room-behind : Did w u (At j) (g n i (abs w)) → Room (tree u) m j
+  pub room-behind : Did w u (Ok j) (g n i (abs w)) → Room (tree u) m j
   unfolding forest_at
   room-behind d =
-      let s = shape-trees h (abs w) n i (whole_of P) (room-less (omega arith) r) (did-is d) in
+      let s = shape-trees h (abs w) n i (whole_of P) (room-less (omega arith) r) d.is in
       record { low = s.inside.1; trees = rw (s.back ∙ sym (drop-drop (counts (take_f n (plant (drop i (tree w))))) i (tree w)), plant-behind n (drop i (tree w)) (whole_drop i (tree w) (whole_of P)), length-drop_f) (omega (arith, r.trees)) }
 
 -- and behind one
 module _ {f : Tree → M St Tree} {g : Walk St} (h : Sim f g) {w u : List ℕ} {m i j : ℕ} (P : Planted w) (r : Room (tree w) (suc m) i) where
-  pub room_next : Did w u (At j) (g i (abs w)) → Room (tree u) m j
+  pub room_next : Did w u (Ok j) (g i (abs w)) → Room (tree u) m j
   unfolding many
   room_next d = room-behind (sim-each h) P (subst (λ (k : ℕ). Room (tree w) k i) (plus m) r) d
     where

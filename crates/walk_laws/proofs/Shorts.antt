@@ -1,4 +1,6 @@
 -- What is passed at once: a node without a handler of its own, and one without a step behind its handler. Assumes nothing.
+use Rattle.std.proofs.Common.{Result, Ok}
+use Rattle.refusal.specs.declared.Refusal.{Refusal}
 use mathlib.Core.Path.{◌≡◌, refl, sym, ap, ◌∙◌}
 use mathlib.Core.Bool.{Bool, true, false, not, ◌&&◌, ◌||◌}
 use mathlib.Core.List.{List}
@@ -16,8 +18,6 @@ use Rattle.words_nodes.specs.Nodes.{tree_from}
 use Rattle.words_state.specs.State.{abs}
 use Rattle.laws_flat.specs.WalkF.{WalksF, walks_f, handle_f, plain_f, own_f, after_f, after_ident_f}
 use Rattle.laws_flat.proofs.Sim.{sims, sim-own}
-use Rattle.walk_ident.specs.declared.Next.{Next}
-use Rattle.walk_ident.specs.declared.Next.TheVariants.{At}
 use Rattle.walk_laws.specs.Did.{Did, Here, bare_node, settled_node}
 use Rattle.walk_laws.proofs.Laws.{many-none}
 use Rattle.walk_laws.proofs.Heres.{walk_end}
@@ -47,13 +47,13 @@ literal : (k : ℕ) → (eqb k 21 ≡ true) ⊎ (eqb k 22 ≡ true) → (k ≡ 2
 literal k o z = ⊎_elim (λ e. absurd (z (eqb-true k 21 e))) (λ e. ap (λ (m : ℕ). not (eqb m 21) && (not (eqb m 32) && not (eqb m 33))) (eqb-true k 22 e)) o
 
 module _ (v : WalksF) {w : List ℕ} {i p d : ℕ} (h : Here w 1 i p d) where
-  pub bare-own : bare_node (node_of w i) ≡ true → Did w w (At (i + 1)) (own_f v p i (abs w))
+  pub bare-own : bare_node (node_of w i) ≡ true → Did w w (Ok (i + 1)) (own_f v p i (abs w))
   unfolding handle_f plain_f
   bare-own b =
       let s = bare_parts (eqb (node_of w i).arity 0) (eqb (node_of w i).kind 21) (eqb (node_of w i).kind 22) b in
       own-by v h_plain h refl (plain-kind (node_of w i).kind s.1) (on-kids (λ q. many (v.full q)) h (sym (eqb-true (node_of w i).arity 0 s.0)) (many-none (v.full (p + 1)) (i + 1) h.planted))
 
-  pub settled-after : {j : ℕ} → settled_node (node_of w i) ≡ true → j ≡ i + count (tree_from (tree w) i) → Did w w (At j) (after_f v p i (abs w))
+  pub settled-after : {j : ℕ} → settled_node (node_of w i) ≡ true → j ≡ i + count (tree_from (tree w) i) → Did w w (Ok j) (after_f v p i (abs w))
   settled-after b e =
       let s = settled-parts (eqb (node_of w i).kind 21) (eqb (node_of w i).kind 32) (eqb (node_of w i).kind 33) b in
       let at : (m : ℕ) → eqb (node_of w i).kind m ≡ false → eqb (node_at (abs w) i).kind m ≡ false = λ m x. ap (λ (c : Core). eqb c.kind m) (node-is h) ∙ x in
@@ -61,15 +61,15 @@ module _ (v : WalksF) {w : List ℕ} {i p d : ℕ} (h : Here w 1 i p d) where
 
 module _ {w : List ℕ} {i p l : ℕ} (h : Here w 1 i p (l - 1 + 1)) (z : l ≡ 0 → ⊥) (b : bare_node (node_of w i) ≡ true) where
   -- an identifier without children: its steps alone
-  pub bare-ident : {u : List ℕ} {a : Next} {k : ℕ} → k ≡ (node_of w i).kind → k ≡ 21 → Did w u a (after_ident_f (walks_f (l - 1)) p i (abs w)) → Did w u a ((walks_f l).full p i (abs w))
-  bare-ident e q d = full-then p i l z refl (bare-own (walks_f (l - 1)) h b) (after-ident (walks_f (l - 1)) p i (kind-yes h e q) d)
+  pub bare-ident : {u : List ℕ} {a : Result ℕ Refusal} {k : ℕ} → k ≡ (node_of w i).kind → k ≡ 21 → Did w u a (after_ident_f (walks_f (l - 1)) p i (abs w)) → Did w u a ((walks_f l).full p i (abs w))
+  bare-ident e q d = full-then p i l z (bare-own (walks_f (l - 1)) h b) (after-ident (walks_f (l - 1)) p i (kind-yes h e q) d)
 
   -- a literal: past it
-  pub bare-other : {k : ℕ} → k ≡ (node_of w i).kind → (k ≡ 21 → ⊥) → Did w w (At (i + 1)) ((walks_f l).full p i (abs w))
+  pub bare-other : {k : ℕ} → k ≡ (node_of w i).kind → (k ≡ 21 → ⊥) → Did w w (Ok (i + 1)) ((walks_f l).full p i (abs w))
   bare-other e q =
       let s = bare_parts (eqb (node_of w i).arity 0) (eqb (node_of w i).kind 21) (eqb (node_of w i).kind 22) b in
       let o = bare-own (walks_f (l - 1)) h b in
-      full-then p i l z refl o (settled-after (walks_f (l - 1)) h (literal (node_of w i).kind s.1 (λ x. q (e ∙ x))) (walk_end (sim-own (sims (l - 1)) p) h refl o))
+      full-then p i l z o (settled-after (walks_f (l - 1)) h (literal (node_of w i).kind s.1 (λ x. q (e ∙ x))) (walk_end (sim-own (sims (l - 1)) p) h o))
 
 -- the two tests, by what was read of a node
 module _ (c : Core) where
