@@ -11,6 +11,7 @@ use native.Mathlib.Omega.{arith}
 use borrow.Author.Tests.{eq-eqb, ne_eqb}
 use lib.ListN.{length, get_or, drop, drop_of_length-le}
 use lib.Dec.{eqb}
+use Rattle.std.specs.List.{range_with_len, list_any}
 use lib.Seq.{get_or-drop, drop-cons}
 use Rattle.def_tree.specs.Base.{pick, or_else}
 use Rattle.def_tree.specs.Tree.{Tree, Forest, node, nil, cons, kind, num, kids, Core, no_core, take_f, drop_f, plant, first_t}
@@ -48,27 +49,26 @@ pub found-is : (w : List ℕ) (x r : ℕ) → r ≡ place x (heads w) (binds w) 
 found-is w x r e h = found_at w x r e ∙ at-is w r h
 
 -- a value's kind is its first node's
-first_kind : (xs : List Core) → kind_o (value_of xs) ≡ (get_or xs 0 no_core).kind
-first_kind [] = refl
-first_kind (x ∷ xs) = refl
+first_kind : (xs : List Core) → 0 < length xs → kind_o (value_of xs) ≡ some (get_or xs 0 no_core).kind
+first_kind [] l = absurd (omega arith)
+first_kind (x ∷ xs) l = refl
 
 module _ (w : List ℕ) (k : ℕ) where
-  pub kind-none : len_at w k ≡ 0 → 0 ≡ kind_o (value_of (run_at w k))
-  kind-none z = sym (first_kind (run_at w k) ∙ empty (run_at w k) (run_length w 2064 (off w k) (len_at w k) ∙ z))
+  size : length (run_at w k) ≡ len_at w k
+  size = run_length w 2064 (off w k) (len_at w k)
+
+  pub kind-none : len_at w k ≡ 0 → none ≡ kind_o (value_of (run_at w k))
+  kind-none z = empty (run_at w k) (size ∙ z)
     where
-      empty : (xs : List Core) → length xs ≡ 0 → (get_or xs 0 no_core).kind ≡ 0
+      empty : (xs : List Core) → length xs ≡ 0 → none ≡ kind_o (value_of xs)
       empty [] e = refl
       empty (x ∷ xs) e = absurd (omega arith)
 
-  pub kind-first : (o : ℕ) → o ≡ off w k → (len_at w k ≡ 0 → ⊥) → get_or w (2064 + o * 2) 0 % 64 ≡ kind_o (value_of (run_at w k))
+  pub kind-first : (o : ℕ) → o ≡ off w k → (len_at w k ≡ 0 → ⊥) → some (get_or w (2064 + o * 2) 0 % 64) ≡ kind_o (value_of (run_at w k))
   kind-first o e z =
       let p : 0 < len_at w k = omega arith in
       let q : off w k + 0 ≡ o = omega arith in
-      sym (first_kind (run_at w k) ∙ ap (λ (c : Core). c.kind) (run-at w 2064 (off w k) (len_at w k) 0 p ∙ ap (λ (n : ℕ). core_from w (2064 + n * 2)) q))
-
-pub member-kind : (v : Option Tree) → member_o v ≡ (eqb (kind_o v) 37 || eqb (kind_o v) 38)
-member-kind none = refl
-member-kind (some t) = refl
+      sym (first_kind (run_at w k) (omega (arith, size)) ∙ ap (λ (c : Core). some c.kind) (run-at w 2064 (off w k) (len_at w k) 0 p ∙ ap (λ (n : ℕ). core_from w (2064 + n * 2)) q))
 
 -- VarInfo::is_inline_prevented
 module _ (b : VarInfo) where
@@ -81,12 +81,6 @@ module _ (b : VarInfo) where
 
     pub prevented-value : b.this_sensitive ≡ true → var_inline_prevented b ≡ member_o b.value
     prevented-value s = rw (e, s) refl
-
-    pub prevented-member : (s : b.this_sensitive ≡ true) → kind_o b.value ≡ 37 → var_inline_prevented b ≡ true
-    prevented-member s q = prevented-value s ∙ member-kind b.value ∙ rw (eq-eqb (kind_o b.value) 37 q) refl
-
-    pub prevented-other : (s : b.this_sensitive ≡ true) → (kind_o b.value ≡ 37 → ⊥) → var_inline_prevented b ≡ eqb (kind_o b.value) 38
-    prevented-other s q = prevented-value s ∙ member-kind b.value ∙ rw (ne_eqb (kind_o b.value) 37 q) refl
 
 -- read_prevents_inlining, by the binding found
 pub var-no : (n : ℕ) → (n ≡ 1 → ⊥) → is_var (var_type_of n) ≡ false
@@ -266,20 +260,20 @@ module _ (w : List ℕ) (k : ℕ) where
   pub bar-out : (j : ℕ) → (j ≡ 0 → ⊥) → first w (suc k) ≤ a + (j - 1) → (scope_at w k).inline_barriers j ≡ false
   bar-out j z h = let e : j ≡ suc (j - 1) = omega arith in ap (scope_at w k).inline_barriers e ∙ later (j - 1) ∙ ap yes (get_d-tab-out (first w (suc k)) (λ i. get_or w (4112 + i * 10 + 9) 0) (a + (j - 1)) 0 h)
 
--- does one of the numbers pass the test
-module _ (p : ℕ → Bool) (a : ℕ) where
-  pub any_next : (n : ℕ) → any_from p a (n + 1) ≡ (any_from p a n || p (a + n))
-  any_next n = ap (any_from p a) (add-one n)
+-- does one of the numbers pass the test: looked at from the last one on, and from the first one on
+any-first : (p : ℕ → Bool) (a n : ℕ) → any_from p a (suc n) ≡ (p a || any_from p (a + 1) n)
+any-first p a zero = let z : a + 0 ≡ a = omega arith in rw z (sym (or-false (p a)))
+any-first p a (suc n) =
+    let s : a + suc n ≡ a + 1 + n = omega arith in
+    rw (any-first p a n, s) (or_assoc (p a) (any_from p (a + 1) n) (p (a + 1 + n)))
+  where
+    or_assoc : (x y z : Bool) → (x || y || z) ≡ (x || (y || z))
+    or_assoc true y z = refl
+    or_assoc false y z = refl
 
-  pub any-more : (n m : ℕ) → n ≤ m → any_from p a n ≡ true → any_from p a m ≡ true
-  any-more n zero h e = let z : n ≡ 0 = omega arith in sym (ap (any_from p a) z) ∙ e
-  any-more n (suc m) h e = ⊎_elim (λ (q : n ≡ suc m). sym (ap (any_from p a) q) ∙ e) (λ (q : n < suc m). rw (any-more n m (omega arith) e) refl) (eq-or-lt_of_le h)
-
-  pub any_none : (n : ℕ) → any_from p a n ≡ false → p (a + n) ≡ false → any_from p a (n + 1) ≡ false
-  any_none n e q = any_next n ∙ rw (e, q) refl
-
-  pub any_here : (n m : ℕ) → n < m → p (a + n) ≡ true → any_from p a m ≡ true
-  any_here n m h e = any-more (n + 1) m (omega arith) (any_next n ∙ rw e (or-true (any_from p a n)))
+pub any-listed : (p : ℕ → Bool) (a n : ℕ) → any_from p a n ≡ list_any p (range_with_len a n)
+any-listed p a zero = refl
+any-listed p a (suc n) = any-first p a n ∙ ap (λ t. p a || t) (any-listed p (a + 1) n)
 
 pub between-up : (p : ℕ → Bool) (v b : ℕ) → v ≤ b → between v b p ≡ any_from p v (b + 1 - v)
 between-up p v b h = ⊎_elim

@@ -15,7 +15,6 @@ use Rattle.def_pass.specs.Scope.{VarInfo, Scope, Stack, is_fn, is_loop, is_block
 use Rattle.words.specs.Tab.{tab, length-tab, get_d-tab}
 use Rattle.words_scopes.specs.State.{bind_at, const_at, heads_at, heads, stack, Fits, CFits, Good, scope_kind_of, index_in}
 use Rattle.words_scopes.proofs.Split as laws
-use Rattle.words_scopes.proofs.Words.{up_to, scan-hit, scan-miss}
 use Rattle.words_scopes.proofs.Look as outwards
 use Rattle.scope_find.specs.Look.{first, cfirst, scope_at, below, at_place}
 
@@ -87,42 +86,7 @@ module _ (w : List ℕ) (g : Good w) where
     unfolding below scope_at
     below_next = outwards.outer-next w k (first w (suc k)) (cfirst w (suc k)) fits.0 fits.1 ∙ rw (first-in w k h, cfirst-in w k h) refl
 
-    -- x is in scope k at r, and not before; or not at all
-    module _ (x r : ℕ) (low : first w k ≤ r) (miss : (j : ℕ) → first w k ≤ j → j < r → get_or w (4112 + j * 10) 0 ≡ x → ⊥) where
-      abbrev e : ℕ
-      e = first w (suc k)
-
-      abbrev bs : List VarInfo
-      bs = drop (get_or w (7184 + k * 4 + 1) 0) (up_to w e)
-
-      low' : get_or w (7184 + k * 4 + 1) 0 ≤ r
-      low' = rw (first-in w k h) at low
-
-      miss' : (j : ℕ) → get_or w (7184 + k * 4 + 1) 0 ≤ j → j < r → get_or w (4112 + j * 10) 0 ≡ x → ⊥
-      miss' = rw (first-in w k h) at miss
-
-      pub found-hit : r < e → get_or w (4112 + r * 10) 0 ≡ x → find_in x (scope_at w k).bindings ≡ at_place w (r + 1)
-      unfolding scope_at
-      found-hit l q =
-          let t = scan-hit w x k e r fits.0 low' miss' l q in
-          let a : ℕ = get_or w (7184 + k * 4 + 1) 0 in
-          let s : a + (r - a) ≡ r = omega (arith, low') in
-          laws.in-found x bs t.0
-          ∙ ap (λ (n : ℕ). some (get_or bs n laws.no_bind)) t.1
-          ∙ ap some (get_or-drop a (up_to w e) (r - a) laws.no_bind ∙ rw s (get_d-tab e (λ j. bind_at w j) r laws.no_bind l))
-          ∙ ap (at_place w) (sym (add-one r))
-
-      pub found-index : r < e → get_or w (4112 + r * 10) 0 ≡ x → r + 1 ≡ suc (first w k + index_in x (scope_at w k).bindings)
-      unfolding scope_at
-      found-index l q =
-          let t = scan-hit w x k e r fits.0 low' miss' l q in
-          omega (arith, t.1, low, first-in w k h)
-
-      pub found-miss : e ≤ r → find_in x (scope_at w k).bindings ≡ none
-      unfolding scope_at
-      found-miss l = laws.in-none x bs (scan-miss w x k e r fits.0 low' miss' l)
-
-    -- the same of its constants, where only whether there is one is asked
+    -- x is among its constants at r, and not before; or not at all
     module _ (x r : ℕ) (low : cfirst w k ≤ r) (miss : (j : ℕ) → cfirst w k ≤ j → j < r → get_or w (6672 + j * 2) 0 ≡ x → ⊥) where
       abbrev ce : ℕ
       ce = cfirst w (suc k)

@@ -1,21 +1,15 @@
--- The invariant: none passed so far. Assumes nothing.
-use mathlib.Core.Path.{◌≡◌, refl, sym, ◌∙◌}
-use native.Mathlib.Omega.{arith}
+-- The bindings of a stretch, one after the other. Assumes nothing.
+use Rattle.std.proofs.Common.{◌+◌, sym, ◌∙◌, arith, rules}
+use Rattle.std.proofs.lemmas.Iterator.{YieldsList-from_range}
+use Rattle.std.proofs.lemmas.Iterator.Search.{any_from_yields_List}
 use Rattle.words_scopes.specs.State.{stack}
 use Rattle.scope_find.specs.Look.{bars_here}
 use Rattle.scope_find.proofs.Facts as facts
 use Rattle.scope_find.proofs.barrier_exists.Goals as goal
 
-pub loop-n-init : goal.loop-n-init
-loop-n-init c = (omega arith, refl)
-
-pub returns-then-bar : goal.returns-then-bar
-returns-then-bar c = sym (facts.any_here (bars_here (stack c.args.w.now)) c.args.a c.loop-n.n c.args.m c.loop-n-test.true (sym c.bar.ensures ∙ c.if-bar.true))
-
-pub loop-n-preserved : goal.loop-n-preserved
-loop-n-preserved c = (omega arith, facts.any_none (bars_here (stack c.args.w.now)) c.args.a c.loop-n.n c.loop-n.invariant.1 (sym c.bar.ensures ∙ c.if-bar.false))
-
 pub returns : goal.returns
 returns c =
-    let e : c.loop-n.n ≡ c.args.m = omega arith in
-    sym (rw e at c.loop-n.invariant.1)
+    let a = c.args.a in
+    let m = c.args.m in
+    let bars = bars_here (stack c.args.w.now) in
+    any_from_yields_List bars _ _ _ c.any.ensures.ran (YieldsList-from_range a (a + m) m (cc) (omega arith)) (λ x b q h. search rules) ∙ sym (facts.any-listed bars a m)

@@ -10,6 +10,3 @@ use Rattle.scope_find.proofs.bound_outwards.Given as goal
 
 abbrev pub invariant-loop-k : goal.invariant-loop-k
 invariant-loop-k l = (l.k ≤ get_or l.w 2 0) × ((scope_for true l.x (stack l.w)).0 ≡ (scope_for true l.x (below l.w l.k)).0) × (place l.x (heads l.w) (binds l.w) ≡ place_below l.w l.x l.k)
-
-abbrev pub decreases-loop-k : goal.decreases-loop-k
-decreases-loop-k l = l.k

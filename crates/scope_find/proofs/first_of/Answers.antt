@@ -1,10 +1,7 @@
--- Where a scope begins. Assumes nothing.
-use mathlib.Core.Path.{sym}
-use Rattle.scope_find.proofs.Out as out
+-- Where a scope's bindings begin. Assumes nothing.
+use Rattle.scope_find.specs.Look.{first}
 use Rattle.scope_find.proofs.first_of.Goals as goal
 
-pub returns-then-k-w : goal.returns-then-k-w
-returns-then-k-w c = sym (out.first-in c.args.w.now c.args.k c.if-k-w.true)
-
 pub returns : goal.returns
-returns c = sym (out.first-end c.args.w.now c.args.k c.if-k-w.false)
+unfolding first
+returns c = c.start_of.ensures

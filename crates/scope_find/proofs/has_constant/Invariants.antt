@@ -9,6 +9,3 @@ use Rattle.scope_find.proofs.has_constant.Given as goal
 
 abbrev pub invariant-loop-k : goal.invariant-loop-k
 invariant-loop-k l = (l.k ≤ get_or l.w 2 0) × (has_constant l.x (stack l.w) ≡ has_constant l.x (below l.w l.k))
-
-abbrev pub decreases-loop-k : goal.decreases-loop-k
-decreases-loop-k l = l.k

@@ -6,6 +6,3 @@ use Rattle.scope_find.proofs.held_below.Given as goal
 
 abbrev pub invariant-loop-k : goal.invariant-loop-k
 invariant-loop-k l = (l.k ≤ l.d) × (held l.x (below l.w l.d) ≡ held l.x (below l.w l.k)) × (l.p ≡ place_below l.w l.x l.k)
-
-abbrev pub decreases-loop-k : goal.decreases-loop-k
-decreases-loop-k l = l.k

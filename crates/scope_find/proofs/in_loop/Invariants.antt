@@ -9,6 +9,3 @@ use Rattle.scope_find.proofs.in_loop.Given as goal
 
 abbrev pub invariant-loop-k : goal.invariant-loop-k
 invariant-loop-k l = (l.k ≤ get_or l.w 2 0) × (in_loop (stack l.w) ≡ in_loop (below l.w l.k))
-
-abbrev pub decreases-loop-k : goal.decreases-loop-k
-decreases-loop-k l = l.k

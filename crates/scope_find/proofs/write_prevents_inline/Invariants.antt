@@ -9,6 +9,3 @@ use Rattle.scope_find.proofs.write_prevents_inline.Given as goal
 
 abbrev pub invariant-loop-k : goal.invariant-loop-k
 invariant-loop-k l = (l.k ≤ get_or l.w 2 0) × (write_prevents_inline l.x (stack l.w) ≡ write_prevents_inline l.x (below l.w l.k)) × (place l.x (heads l.w) (binds l.w) ≡ place_below l.w l.x l.k)
-
-abbrev pub decreases-loop-k : goal.decreases-loop-k
-decreases-loop-k l = l.k
