@@ -3,12 +3,14 @@ use mathlib.Core.Path.{◌≡◌, refl, sym, ap, ◌∙◌}
 use mathlib.Core.List.{List, [], ◌∷◌}
 use mathlib.Core.Bool.{Bool, true, false, ◌||◌, ◌&&◌, not}
 use mathlib.Core.Option.{Option, none, some}
+use Rattle.std.proofs.Common.{Option as Answer, Some, None, SomeIff}
+use Rattle.words.specs.Place.{placed as at}
 use mathlib.Core.Logic.{◌⊎◌, ⊎_elim}
 use Prim.Native.Nat.{ℕ, zero, suc, ◌+◌, ◌-◌, ◌*◌, ◌%◌, ◌≤◌, ◌<◌}
 use native.Mathlib.Nat.{eq-or-lt_of_le}
 use native.Mathlib.Numerals.{add-one}
 use native.Mathlib.Omega.{arith}
-use borrow.Author.Tests.{eq-eqb, ne_eqb}
+use borrow.Author.Tests.{eq-eqb, ne_eqb, eqb-true}
 use lib.ListN.{length, get_or, drop, drop_of_length-le}
 use lib.Dec.{eqb}
 use Rattle.std.specs.List.{range_with_len, list_any}
@@ -16,7 +18,7 @@ use lib.Seq.{get_or-drop, drop-cons}
 use Rattle.def_tree.specs.Base.{pick, or_else}
 use Rattle.def_tree.specs.Tree.{Tree, Forest, node, nil, cons, kind, num, kids, Core, no_core, take_f, drop_f, plant, first_t}
 use Rattle.def_pass.specs.Scope.{VarInfo, Scope, Stack, is_var, is_some, find_in, has_in, const_in, find_binding, idx_val, member_o, free_to_read, var_inline_prevented, is_hoisted_prevented, read_prevents_inlining, write_prevents_inline, scope_for, should_prevent_inline_because_of_scope, any_from, between, ident_of, mark_of, mark_of_id, is_inline_prevented, has_same_this}
-use Rattle.def_pass.specs.Tree.{head_t}
+use Rattle.def_pass.specs.Tree.{is_member, head_t}
 use Rattle.words.specs.Tab.{tab, get_d-tab, get_d-tab-out}
 use Rattle.words.specs.Layout.{yes, core_from, node_of, tree}
 use Rattle.words.proofs.Nodes.{run_length, run-at, tree-length, tree-at}
@@ -35,6 +37,11 @@ flag (suc v) = ap not (ne_eqb (suc v) 0 (λ e. omega arith))
 pub flag-set : (v : ℕ) → (v ≡ 0 → ⊥) → yes v ≡ true
 flag-set zero h = absurd (h refl)
 flag-set (suc v) h = refl
+
+-- a number less one, if there is one, by its place
+pub placed-less : (n : ℕ) (r : Answer ℕ) → SomeIff r (1 ≤ n) (n - 1) → at r ≡ n
+placed-less n None h = omega arith
+placed-less n (Some k) h = omega arith
 
 -- the innermost binding, by its place
 pub found_at : (w : List ℕ) (x r : ℕ) → r ≡ place x (heads w) (binds w) → find_binding x (stack w) ≡ at_place w r
@@ -123,12 +130,12 @@ find-yes x b bs e = ap (λ (p : Bool). elim p [ true ↦ some b | false ↦ find
 index-by : (x : ℕ) (b : VarInfo) (bs : List VarInfo) (p : Bool) → eqb b.id x ≡ p → index_in x (b ∷ bs) ≡ elim p [ true ↦ 0 | false ↦ suc (index_in x bs) ]
 index-by x b bs p e = ap (λ (q : Bool). elim q [ true ↦ 0 | false ↦ suc (index_in x bs) ]) e
 
--- the binding found, with its place
-abbrev pub placed : ℕ → Option VarInfo → Option (ℕ × VarInfo)
-placed n none = none
-placed n (some b) = some (n, b)
+-- the binding found, with its index
+abbrev pub with_index : ℕ → Option VarInfo → Option (ℕ × VarInfo)
+with_index n none = none
+with_index n (some b) = some (n, b)
 
-pub idx-find : (n x : ℕ) (bs : List VarInfo) → idx_val n x bs ≡ placed (n + index_in x bs) (find_in x bs)
+pub idx-find : (n x : ℕ) (bs : List VarInfo) → idx_val n x bs ≡ with_index (n + index_in x bs) (find_in x bs)
 idx-find n x [] = refl
 idx-find n x (b ∷ bs) = laws.tested (eqb b.id x)
     (λ e. let z : n + 0 ≡ n = omega arith in idx-yes n x b bs e ∙ sym (rw (find-yes x b bs e, index-by x b bs true e, z) refl))
@@ -344,22 +351,10 @@ module _ (t : Tree) (st : Stack) where
   pub expr-ident : kind t ≡ 21 → is_inline_prevented t st ≡ mark_of (find_binding (num t) st)
   expr-ident e = rw e refl
 
-  pub expr-member : kind t ≡ 37 → is_inline_prevented t st ≡ mark_of_id (ident_of (head_t (kids t))) st
-  expr-member e = rw e refl
+  pub expr-member : is_member t ≡ true → is_inline_prevented t st ≡ mark_of_id (ident_of (head_t (kids t))) st
+  expr-member m = laws.tested (eqb (kind t) 37)
+      (λ e. let k : kind t ≡ 37 = eqb-true (kind t) 37 e in rw k refl)
+      (λ e. let k : kind t ≡ 38 = eqb-true (kind t) 38 (rw e at m) in rw k refl)
 
-  pub expr-optional : kind t ≡ 38 → is_inline_prevented t st ≡ mark_of_id (ident_of (head_t (kids t))) st
-  expr-optional e = rw e refl
-
-  pub expr-other : (kind t ≡ 21 → ⊥) → (kind t ≡ 37 → ⊥) → (kind t ≡ 38 → ⊥) → is_inline_prevented t st ≡ (eqb (kind t) 31 || eqb (kind t) 35 || eqb (kind t) 36 || eqb (kind t) 41)
-  expr-other a b c = rw (ne_eqb (kind t) 21 a, ne_eqb (kind t) 37 b, ne_eqb (kind t) 38 c) (or-false (eqb (kind t) 31 || eqb (kind t) 35 || eqb (kind t) 36 || eqb (kind t) 41))
-
--- has_same_this, by the binding found
-module _ (b : VarInfo) (t : Tree) where
-  pub this-plain : b.this_sensitive ≡ false → has_same_this (some b) (some t) ≡ true
-  this-plain s = rw s refl
-
-  pub this-member : b.this_sensitive ≡ true → kind t ≡ 37 → has_same_this (some b) (some t) ≡ false
-  this-member s e = rw (s, e) refl
-
-  pub this-other : b.this_sensitive ≡ true → (kind t ≡ 37 → ⊥) → has_same_this (some b) (some t) ≡ not (eqb (kind t) 38)
-  this-other s e = rw (s, ne_eqb (kind t) 37 e) refl
+  pub expr-other : (kind t ≡ 21 → ⊥) → is_member t ≡ false → is_inline_prevented t st ≡ (eqb (kind t) 31 || eqb (kind t) 35 || eqb (kind t) 36 || eqb (kind t) 41)
+  expr-other a m = rw (m, ne_eqb (kind t) 21 a) (or-false (eqb (kind t) 31 || eqb (kind t) 35 || eqb (kind t) 36 || eqb (kind t) 41))

@@ -3,6 +3,8 @@ use mathlib.Core.Path.{◌≡◌, refl, sym, ap, ◌∙◌}
 use mathlib.Core.List.{List, [], ◌∷◌}
 use mathlib.Core.Bool.{Bool, true, false}
 use mathlib.Core.Option.{Option, none, some}
+use Rattle.std.proofs.Common.{Option as Answer, Some, None, is_some as holds}
+use Rattle.words.specs.Place.{placed, FirstAt}
 use Prim.Native.Nat.{ℕ, zero, suc, ◌+◌, ◌-◌, ◌*◌, ◌≤◌, ◌<◌}
 use native.Mathlib.Numerals.{add-one}
 use native.Mathlib.Omega.{arith}
@@ -13,10 +15,11 @@ use lib.Seq.{get_or-drop}
 use Rattle.def_tree.specs.Tree.{Tree}
 use Rattle.def_pass.specs.Scope.{VarInfo, Scope, Stack, is_fn, is_loop, is_block, is_some, find_in, has_in, const_in, write_prevents_inline, has_constant, in_loop}
 use Rattle.words.specs.Tab.{tab, length-tab, get_d-tab}
-use Rattle.words_scopes.specs.State.{bind_at, const_at, heads_at, heads, stack, Fits, CFits, Good, scope_kind_of, index_in}
+use Rattle.words_scopes.specs.Kinds.{scope_kind_of}
+use Rattle.words_scopes.specs.State.{bind_at, const_at, heads_at, heads, stack, Fits, CFits, Good}
 use Rattle.words_scopes.proofs.Split as laws
 use Rattle.words_scopes.proofs.Look as outwards
-use Rattle.scope_find.specs.Look.{first, cfirst, scope_at, below, at_place}
+use Rattle.scope_find.specs.Look.{first, cfirst, scope_at, below, at_place, FoundIn}
 
 abbrev no_const : ℕ × Option Tree
 no_const = (0, none)
@@ -103,18 +106,23 @@ module _ (w : List ℕ) (g : Good w) where
       size : length cs ≡ ce - ca
       size = length-drop ca (tab ce (λ j. const_at w j)) ∙ ap (λ (n : ℕ). n - ca) (length-tab ce (λ j. const_at w j))
 
-      pub const-hit : r < ce → get_or w (6672 + r * 2) 0 ≡ x → is_some (const_in x (scope_at w k).constants) ≡ true
+      const-hit : r < ce → get_or w (6672 + r * 2) 0 ≡ x → is_some (const_in x (scope_at w k).constants) ≡ true
       unfolding scope_at
       const-hit l q =
           let c : ca ≤ r = rw (cfirst-in w k h) at low in
           let s : ca + (r - ca) ≡ r = omega arith in
           const-yes x cs (r - ca) (omega (arith, size)) (at (r - ca) (omega arith) ∙ rw s q)
 
-      pub const-miss : ce ≤ r → is_some (const_in x (scope_at w k).constants) ≡ false
+      const-miss : ce ≤ r → is_some (const_in x (scope_at w k).constants) ≡ false
       unfolding scope_at
       const-miss l =
           let m : (j : ℕ) → ca ≤ j → j < r → get_or w (6672 + j * 2) 0 ≡ x → ⊥ = rw (cfirst-in w k h) at miss in
           const-no x cs (λ j a q. let b : ca + j < ce = omega (arith, size) in m (ca + j) (omega arith) (omega arith) (sym (at j b) ∙ q))
+
+    -- by the first one, if there is one
+    pub const-first : (x : ℕ) (r : Answer ℕ) → FirstAt w 6672 2 (cfirst w k) (cfirst w (suc k)) x r → holds r ≡ is_some (const_in x (scope_at w k).constants)
+    const-first x None m = sym (const-miss x (cfirst w (suc k)) order.1 m (omega arith))
+    const-first x (Some r) f = sym (const-hit x r f.0 f.3 f.1 f.2)
 
 -- no scope begins behind the last record
 module _ (w : List ℕ) (g : Good w) where
@@ -135,6 +143,16 @@ turn w k g z h = let e : k ≡ suc (k - 1) = omega arith in ap (below w) e ∙ b
 pub below_none : (w : List ℕ) → below w 0 ≡ []
 unfolding below heads_at
 below_none w = refl
+
+pub below_end : (w : List ℕ) (k : ℕ) → k ≡ 0 → below w k ≡ []
+below_end w k e = ap (below w) e ∙ below_none w
+
+-- no scope is open; or scope k is the current one
+pub none-open : (w : List ℕ) → get_or w 2 0 ≡ 0 → stack w ≡ []
+none-open w z = below_all w ∙ below_end w (get_or w 2 0) z
+
+pub current : (w : List ℕ) (k : ℕ) → Good w → suc k ≡ get_or w 2 0 → stack w ≡ scope_at w k ∷ below w k
+current w k g e = below_all w ∙ ap (below w) (sym e) ∙ below_next w g k (omega arith)
 
 -- a scope's kind by its number
 pub block_no : (n : ℕ) → (n ≡ 2 → ⊥) → is_block (scope_kind_of n) ≡ false
@@ -168,13 +186,13 @@ pub kind-here : (w : List ℕ) (k : ℕ) → (scope_at w k).kind ≡ scope_kind_
 unfolding scope_at
 kind-here w k = refl
 
--- what is found at a place
-pub at_none : (w : List ℕ) (r : ℕ) → r ≡ 0 → is_some (at_place w r) ≡ false
-at_none w r e = rw e refl
+-- is there one, by the place found
+pub at_holds : (w : List ℕ) (r : Answer ℕ) → is_some (at_place w (placed r)) ≡ holds r
+at_holds w None = refl
+at_holds w (Some k) = refl
 
-pub at_some : (w : List ℕ) (r : ℕ) → (r ≡ 0 → ⊥) → is_some (at_place w r) ≡ true
-at_some w zero h = absurd (h refl)
-at_some w (suc r) h = refl
+pub has-it : {w : List ℕ} {k x : ℕ} {b : Bool} (r : Answer ℕ) → FoundIn w k x (placed r) → b ≡ holds r → has_in x (scope_at w k).bindings ≡ b
+has-it {w} r f e = ap is_some f.is ∙ at_holds w r ∙ sym e
 
 -- the definition's functions at one more scope, by what is found in it
 module _ (x : ℕ) (s : Scope) (st : Stack) where

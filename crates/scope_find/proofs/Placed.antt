@@ -62,7 +62,7 @@ module _ (w : List ℕ) (g : Good w) where
     not_within : p ≤ first w k → has_in x (drop a bs) ≡ false
     not_within l = index.place-above x (head_at w k) (heads_at w k) bs (omega (arith, begin.0))
 
-    pub found-there : first w k < p → FoundIn w k x p
+    found-there : first w k < p → FoundIn w k x p
     unfolding scope_at
     found-there l =
         let t = within l in
@@ -75,11 +75,22 @@ module _ (w : List ℕ) (g : Good w) where
           low = omega (arith, laws.place-le x (head_at w k ∷ heads_at w k) bs, size, begin.2);
         }
 
-    pub found-not : p ≤ first w k → FoundIn w k x 0
+    found-not : p ≤ first w k → FoundIn w k x 0
     unfolding scope_at
     found-not l = record { is = laws.in-none x (drop a bs) (not_within l); index = λ z. absurd (omega arith); low = omega arith }
 
-    pub outer_same : p ≤ first w k → p ≡ place_below w x k
+    -- by the innermost one in the scopes up to k, none or binding b
+    pub found-none : 0 ≡ place_below w x (suc k) → FoundIn w k x 0
+    found-none e = found-not (omega (arith, e ∙ is-p))
+
+    module _ (b : ℕ) (e : suc b ≡ place_below w x (suc k)) where
+      pub found-here : first w k ≤ b → FoundIn w k x (suc b)
+      found-here l = rw (e ∙ is-p) (found-there (omega (arith, e ∙ is-p)))
+
+      pub found-outer : b < first w k → FoundIn w k x 0
+      found-outer l = found-not (omega (arith, e ∙ is-p))
+
+    outer_same : p ≤ first w k → p ≡ place_below w x k
     unfolding place_below
     outer_same l = laws.place-no x (head_at w k) (heads_at w k) bs (not_within l) ∙ ap (place x (heads_at w k)) below
 
@@ -99,7 +110,7 @@ module _ (w : List ℕ) (g : Good w) where
       name : get_or w (4112 + j * 10) 0 ≡ x
       name = ap (λ (b : VarInfo). b.id) (sym (get_d-tab e (λ k. bind_at w k) j laws.no_bind j-in)) ∙ index.place-id x (head_at w k) (heads_at w k) bs (omega (arith, begin.0))
 
-      pub shadowed : get_or w (7824 + j) 0 ≡ place_below w x k
+      shadowed : get_or w (7824 + j) 0 ≡ place_below w x k
       unfolding place_below heads_at
       shadowed =
           g.beside.shadow j (omega (arith, j-in, begin.2)) ∙ ap (λ (i : ℕ). place i (heads w) (tab j (λ k. bind_at w k))) name
@@ -107,9 +118,20 @@ module _ (w : List ℕ) (g : Good w) where
           ∙ ap (place x (head_at w k ∷ heads_at w k)) (sym (take-tab j e (λ k. bind_at w k) (omega (arith, j-in))))
           ∙ index.place-under x (head_at w k) (heads_at w k) bs (omega (arith, begin.0)) ∙ ap (place x (heads_at w k)) below
 
-      pub shadowed-fits : (1 ≤ p) × (p ≤ 256)
-      shadowed-fits = (omega arith, omega (arith, laws.place-le x (head_at w k ∷ heads_at w k) bs, size, begin.2, g.count))
+    -- outside scope k
+    pub outside-none : 0 ≡ place_below w x (suc k) → 0 ≡ place_below w x k
+    outside-none e = e ∙ is-p ∙ outer_same (omega (arith, e ∙ is-p))
 
--- the current scope
-pub placed-top : (w : List ℕ) (x : ℕ) → 0 < get_or w 2 0 → place x (heads w) (binds w) ≡ place_below w x (suc (get_or w 2 0 - 1))
-placed-top w x z = let e : get_or w 2 0 ≡ suc (get_or w 2 0 - 1) = omega arith in placed-all w x ∙ ap (place_below w x) e
+    module _ (b : ℕ) (e : suc b ≡ place_below w x (suc k)) where
+      pub outside-same : b < first w k → suc b ≡ place_below w x k
+      outside-same l = e ∙ is-p ∙ outer_same (omega (arith, e ∙ is-p))
+
+      pub outside-fits : b < 256
+      outside-fits = omega (arith, e ∙ is-p, laws.place-le x (head_at w k ∷ heads_at w k) bs, size, begin.2, g.count)
+
+      pub outside-shadowed : first w k ≤ b → get_or w (7824 + b) 0 ≡ place_below w x k
+      outside-shadowed l = let q : b ≡ p - 1 = omega (arith, e ∙ is-p) in rw q (shadowed (omega (arith, e ∙ is-p)))
+
+-- scope k is the current one
+pub placed-current : (w : List ℕ) (x k : ℕ) → suc k ≡ get_or w 2 0 → place x (heads w) (binds w) ≡ place_below w x (suc k)
+placed-current w x k e = placed-all w x ∙ ap (place_below w x) (sym e)

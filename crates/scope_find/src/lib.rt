@@ -3,7 +3,7 @@
 
 ghost use Rattle.std.specs.Prelude.{◌≡◌, suc, ◌+◌, ◌*◌, ◌-◌, ◌≤◌, ◌<◌, true, ◌||◌, eqb, ltb, ◌⊎◌, get_or};
 ghost use Rattle.std.proofs.Math.Option.{some};
-ghost use Rattle.def_pass.specs.Scope.{is_some, const_in, find_binding, find_binding_from_current, write_prevents_inline, read_prevents_inlining, should_prevent_inline_because_of_scope, var_inline_prevented, is_hoisted_prevented, is_inline_prevented, mark_of, mark_of_id, ident_of, has_same_this, has_constant, scope_for, in_loop, any_from, between};
+ghost use Rattle.def_pass.specs.Scope.{is_some, const_in, find_binding, find_binding_from_current, write_prevents_inline, read_prevents_inlining, should_prevent_inline_because_of_scope, var_inline_prevented, is_hoisted_prevented, is_inline_prevented, is_var, mark_of, mark_of_id, ident_of, has_same_this, has_constant, scope_for, in_loop, any_from, between};
 ghost use Rattle.def_tree.specs.Tree.{kids};
 ghost use Rattle.def_pass.specs.Tree.{head_t};
 ghost use Rattle.words.specs.Layout.{yes, node_of};
@@ -49,7 +49,10 @@ fn found_from(w: &[u32], k: usize, x: u8, p: Option<usize>) -> Option<usize>
     ensures { FoundIn w.now k x (placed result) }
 {
     let b = p?;
-    (first_of(w, k) <= b).then_some(b)
+    if b < first_of(w, k) {
+        return None;
+    }
+    p
 }
 
 // The same for a scope inside which no binding of x stands: the index says.
@@ -66,10 +69,10 @@ fn outside(w: &[u32], k: usize, x: u8, p: Option<usize>) -> Option<usize>
     ensures { placed result ≡ place_below w.now x k }
 {
     let b = p?;
-    if first_of(w, k) <= b {
-        return (w[layout::SHADOWED + b] as usize).checked_sub(1);
+    if b < first_of(w, k) {
+        return p;
     }
-    p
+    (w[layout::SHADOWED + b] as usize).checked_sub(1)
 }
 
 // Is there a constant of x in scope k.
@@ -155,8 +158,7 @@ pub fn bound_here(w: &[u32]) -> usize
     if d == 0 {
         return 0;
     }
-    let a = first_of(w, d - 1);
-    w[layout::BINDING_COUNT] as usize - a
+    w[layout::BINDING_COUNT] as usize - first_of(w, d - 1)
 }
 
 // Is a word of binding k's record set, as a flag.
@@ -224,12 +226,19 @@ pub fn value_len(w: &[u32], k: usize) -> usize
     w[layout::BINDINGS + k * 10 + layout::LENGTH] as usize
 }
 
+// The kinds of a member: by name, by expression.
+fn is_member(k: u32) -> bool
+    ensures { result ≡ (eqb k 37 || eqb k 38) }
+{
+    matches!(k, 37 | 38)
+}
+
 // VarInfo::is_inline_prevented: the mark, or a member where `this` matters.
 pub fn var_inline_prevented(w: &[u32], k: usize) -> bool
     requires { HasBinding w.now k }
     ensures { result ≡ var_inline_prevented (bind_at w.now k) }
 {
-    inline_prevented(w, k) || this_sensitive(w, k) && matches!(value_kind(w, k), Some(37 | 38))
+    inline_prevented(w, k) || this_sensitive(w, k) && value_kind(w, k).is_some_and(is_member)
 }
 
 // How often the innermost binding of x was read.
@@ -241,13 +250,20 @@ pub fn read_cnt(w: &[u32], x: u8) -> Option<u32>
     Some(w[layout::BINDINGS + k * 10 + layout::READS])
 }
 
+// Is it the type of a `var`.
+fn is_var(t: VarType) -> bool
+    ensures { result ≡ is_var (type_of t) }
+{
+    matches!(t, VarType::Declared(VarDeclKind::Var))
+}
+
 // Outwards, is a function, a loop or a condition met before the binding: of a `var` that is not hoisted.
 pub fn read_prevents_inlining(w: &[u32], x: u8) -> bool
     requires { Good w.now }
     ensures { result ≡ read_prevents_inlining x (stack w.now) }
 {
     if let Some(k) = find_binding(w, x) {
-        if var_type(w, k) != VarType::Declared(VarDeclKind::Var) || hoisted(w, k) {
+        if !is_var(var_type(w, k)) || hoisted(w, k) {
             return false;
         }
     }
@@ -320,12 +336,8 @@ pub fn should_prevent_inline_because_of_scope(w: &[u32], x: u8) -> bool
     if d == 0 {
         return false;
     }
-    if flag_at(w, layout::UNRESOLVED + (d - 1) * 8, x) {
-        return true;
-    }
-    let p = find_binding(w, x);
-    let q = outside(w, d - 1, x, p);
-    held_below(w, d - 1, x, q)
+    flag_at(w, layout::UNRESOLVED + (d - 1) * 8, x)
+        || held_below(w, d - 1, x, outside(w, d - 1, x, find_binding(w, x)))
 }
 
 // The mark of the innermost binding of x.
@@ -352,10 +364,13 @@ fn object_prevented(w: &[u32], i: usize) -> bool
     requires { HasNode w.now i }
     ensures { result ≡ mark_of_id (ident_of (head_t (kids (node_tree w.now i)))) (stack w.now) }
 {
-    arity_at(w, i) != 0
-        && i + 1 < w[layout::NODE_COUNT] as usize
-        && kind_at(w, i + 1) == 21
-        && ident_prevented(w, ident_at(w, i + 1))
+    if arity_at(w, i) == 0
+        || w[layout::NODE_COUNT] as usize <= i + 1
+        || kind_at(w, i + 1) != 21
+    {
+        return false;
+    }
+    ident_prevented(w, ident_at(w, i + 1))
 }
 
 // Is the expression that begins at node i prevented: an update, a call, `new` or parentheses; else by the binding of its identifier.
@@ -365,7 +380,7 @@ pub fn is_inline_prevented(w: &[u32], i: usize) -> bool
 {
     match kind_at(w, i) {
         21 => ident_prevented(w, ident_at(w, i)),
-        37 | 38 => object_prevented(w, i),
+        k if is_member(k) => object_prevented(w, i),
         k => always_prevented(k),
     }
 }
@@ -385,7 +400,7 @@ pub fn has_same_this(w: &[u32], x: u8, i: usize) -> bool
     let Some(k) = find_binding(w, x) else {
         return true;
     };
-    !this_sensitive(w, k) || !matches!(kind_at(w, i), 37 | 38)
+    !(this_sensitive(w, k) && is_member(kind_at(w, i)))
 }
 
 // Is there a barrier before binding j of the current scope.
@@ -401,8 +416,7 @@ fn bar(w: &[u32], j: usize) -> bool
         return w[layout::SCOPES + (d - 1) * 4 + layout::FIRST_BARRIER] != 0;
     }
     let a = first_of(w, d - 1);
-    j <= w[layout::BINDING_COUNT] as usize - a
-        && w[layout::BINDINGS + (a + j - 1) * 10 + layout::BARRIER] != 0
+    j <= w[layout::BINDING_COUNT] as usize - a && is_set(w, a + j - 1, layout::BARRIER)
 }
 
 // Is there one before one of the m bindings from a on.
