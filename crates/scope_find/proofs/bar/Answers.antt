@@ -23,8 +23,8 @@ overflow_sub-w c =
     let l = out.first-le w c.requires (get_or w 2 0 - 1) (omega arith) in
     omega (arith, c.first_of-a.ensures)
 
-pub overflow_add-is_set : goal.overflow_add-is_set
-overflow_add-is_set c =
+pub overflow_add-a : goal.overflow_add-a
+overflow_add-a c =
     let w = c.args.w.now in
     let l = out.first-le w c.requires (get_or w 2 0 - 1) (omega arith) in
     omega (arith, c.first_of-a.ensures, c.requires.count)
