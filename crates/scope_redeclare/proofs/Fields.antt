@@ -1,37 +1,38 @@
 -- The words of one binding overwritten, but its name and its value. Assumes nothing.
 use mathlib.Core.Path.{◌≡◌, refl, ap, ◌∙◌}
-use mathlib.Core.List.{List}
+use mathlib.Core.Bool.{Bool, true, false}
+use mathlib.Core.List.{List, [], ◌∷◌}
 use mathlib.Core.Logic.{◌⊎◌, inl, inr, ⊎_elim}
 use Prim.Native.Nat.{ℕ, ◌+◌, ◌*◌, ◌≤◌, ◌<◌}
 use native.Mathlib.Omega.{arith}
 use lib.ListN.{length, get_or, set, length-set}
-use lib.Seq.{get_or-set_same, get_or-set_other}
+use Rattle.core.specs.Int.{from_bool}
 use Rattle.words.specs.Tab.{below_or_not}
 use Rattle.words.specs.Layout.{yes}
-use Rattle.words.specs.Moved.{Put5}
+use Rattle.words.specs.Moved.{Put}
 use Rattle.words.proofs.Nodes.{beyond-same}
+use Rattle.words_scopes.specs.Kinds.{type_of, alias_of}
+use Rattle.words_scopes.specs.declared.Record.{Record}
 use Rattle.words_scopes.specs.State.{Good, Past, binds, consts, bind_at, with_count, var_type_of, alias_at, value_of}
 use Rattle.words_scopes.proofs.Words.{Kept, Runs, runs-good, runs-at, bind-eq, bind-same, count-apart, count_kept, count-good, count-this, count-other}
 use Rattle.scope_values.specs.Steps.{Listed, refill}
 use Rattle.scope_values.proofs.Listed.{kept-listed, set-binds}
 
-module _ (w v : List ℕ) (g : Good w) (k : ℕ) (h : k < get_or w 1 0) (kind alias reads prevented undef sensitive hoisted : ℕ) (one : Put5 w v (4112 + k * 10 + 1) kind alias reads prevented undef) where
+yes-from : (b : Bool) → yes (from_bool b) ≡ b
+yes-from true = refl
+yes-from false = refl
+
+-- the seven words of a record
+abbrev pub words_of : Record → ℕ → ℕ → List ℕ
+words_of r kind alias = kind ∷ alias ∷ r.reads ∷ from_bool r.prevented ∷ from_bool r.undefined ∷ from_bool r.this_sensitive ∷ from_bool r.hoisted ∷ []
+
+module _ (w x : List ℕ) (g : Good w) (k : ℕ) (h : k < get_or w 1 0) (r : Record) (kind alias : ℕ) (ek : var_type_of kind ≡ type_of r.kind) (ea : alias_at alias ≡ alias_of r.alias)
+    (one : Put w x (4112 + k * 10 + 1) (words_of r kind alias)) where
   abbrev p : ℕ
   p = 4112 + k * 10
 
-  abbrev x : List ℕ
-  x = set (set v (p + 6) sensitive) (p + 7) hoisted
-
-  two : (j : ℕ) → (j ≡ p + 6 → ⊥) → (j ≡ p + 7 → ⊥) → get_or x j 0 ≡ get_or v j 0
-  two j a b = get_or-set_other (set v (p + 6) sensitive) (p + 7) j hoisted 0 b ∙ get_or-set_other v (p + 6) j sensitive 0 a
-
   out : (j : ℕ) → (j ≤ p) ⊎ (p + 8 ≤ j) → get_or x j 0 ≡ get_or w j 0
-  out j o = ⊎_elim
-      (λ (l : j ≤ p). two j (λ e. omega arith) (λ e. omega arith) ∙ one.low j (omega arith))
-      (λ (l : p + 8 ≤ j). two j (λ e. omega arith) (λ e. omega arith) ∙ one.high j (omega arith)) o
-
-  size : length x ≡ length w
-  size = simp length-set one.size
+  out j o = ⊎_elim (λ (l : j ≤ p). one.low j (omega arith)) (λ (l : p + 8 ≤ j). one.high j (omega arith)) o
 
   -- field q of any record, of those that stay
   aside : (j q : ℕ) → q < 10 → (q ≡ 0) ⊎ (8 ≤ q) → get_or x (4112 + j * 10 + q) 0 ≡ get_or w (4112 + j * 10 + q) 0
@@ -52,43 +53,34 @@ module _ (w v : List ℕ) (g : Good w) (k : ℕ) (h : k < get_or w 1 0) (kind al
 
   re-kept : Kept w x
   re-kept = let l = g.count in record {
-    size = size;
+    size = one.size;
     counts = λ j a b. out j (inl (omega arith));
     nodes = λ j a b. out j (inl (omega arith));
     cstore = λ j a b. out j (inl (omega arith));
     tail = λ j a b. out j (inr (omega arith));
     high = λ j a b. out j (inr (omega arith));
     flag = λ j a. aside j 9 (omega arith) (inr (omega arith));
-    rest = beyond-same w x size (λ j a. out j (inr (omega arith)));
+    rest = beyond-same w x one.size (λ j a. out j (inr (omega arith)));
   }
 
   re-runs : Runs w x
   re-runs = record { lens = λ j a. aside j 8 (omega arith) (inr (omega arith)); ids = λ j a. name j; store = λ j a b. out j (inl (omega arith)) }
 
-  re-good : Good x
-  re-good = runs-good g re-runs re-kept
-
   times : (j : ℕ) → get_or x (8080 + j) 0 ≡ get_or w (8080 + j) 0
   times j = out (8080 + j) (inr (omega (arith, g.count)))
 
-  at : (q y : ℕ) → q < 6 → get_or v (p + q) 0 ≡ y → get_or x (p + q) 0 ≡ y
-  at q y l e = two (p + q) (λ s. omega arith) (λ s. omega arith) ∙ e
+  -- word q of the record
+  at : (q n : ℕ) → q < 7 → n ≡ p + 1 + q → get_or x n 0 ≡ get_or (words_of r kind alias) q 0
+  at q n l e = rw e (one.here q l)
 
-  put : (q y : ℕ) → get_or v (p + 1 + q) 0 ≡ y → get_or v (p + (1 + q)) 0 ≡ y
-  put q y e = let s : p + (1 + q) ≡ p + 1 + q = omega arith in rw s e
-
-  room : p + 8 ≤ length v
-  room = let l = g.long in let m = g.count in omega (arith, one.size)
-
-  this : bind_at x k ≡ refill kind alias reads prevented undef sensitive hoisted (bind_at w k)
+  this : bind_at x k ≡ refill r (bind_at w k)
   this =
-      bind-eq (name k) (ap var_type_of (at 1 kind (omega arith) one.at0)) (ap alias_at (at 2 alias (omega arith) (put 1 alias one.at1))) (at 3 reads (omega arith) (put 2 reads one.at2))
-      (ap yes (at 4 prevented (omega arith) (put 3 prevented one.at3))) (ap yes (at 5 undef (omega arith) (put 4 undef one.at4))) (ap value_of (runs-at g re-runs k h))
-      (ap yes (get_or-set_other (set v (p + 6) sensitive) (p + 7) (p + 6) hoisted 0 (λ e. omega arith) ∙ get_or-set_same v (p + 6) sensitive 0 (omega (arith, room))))
-      (ap yes (get_or-set_same (set v (p + 6) sensitive) (p + 7) hoisted 0 (simp length-set (omega (arith, room))))) (times k)
+      bind-eq (name k) (ap var_type_of (at 0 (p + 1) (omega arith) (omega arith)) ∙ ek) (ap alias_at (at 1 (p + 2) (omega arith) (omega arith)) ∙ ea) (at 2 (p + 3) (omega arith) (omega arith))
+      (ap yes (at 3 (p + 4) (omega arith) (omega arith)) ∙ yes-from r.prevented) (ap yes (at 4 (p + 5) (omega arith) (omega arith)) ∙ yes-from r.undefined) (ap value_of (runs-at g re-runs k h))
+      (ap yes (at 5 (p + 6) (omega arith) (omega arith)) ∙ yes-from r.this_sensitive) (ap yes (at 6 (p + 7) (omega arith) (omega arith)) ∙ yes-from r.hoisted) (times k)
 
-  pub rewritten : Listed w x (set (binds w) k (refill kind alias reads prevented undef sensitive hoisted (bind_at w k))) (consts w)
-  rewritten = kept-listed g re-kept re-good (set-binds w k h x (refill kind alias reads prevented undef sensitive hoisted (bind_at w k)) (re-kept.counts 1 (omega arith) (omega arith)) this
+  pub rewritten : Listed w x (set (binds w) k (refill r (bind_at w k))) (consts w)
+  rewritten = kept-listed g re-kept (runs-good g re-runs re-kept) (set-binds w k h x (refill r (bind_at w k)) (re-kept.counts 1 (omega arith) (omega arith)) this
       (λ j l e. bind-same w x j (λ q a b. ⊎_elim (λ (s : j < k). out q (inl (omega arith))) (λ (s : k ≤ j). out q (inr (other q j k a s e))) (below_or_not j k)) (runs-at g re-runs j l) (times j)))
     where
       other : (q j k : ℕ) → 4112 + j * 10 ≤ q → k ≤ j → (j ≡ k → ⊥) → 4112 + k * 10 + 8 ≤ q

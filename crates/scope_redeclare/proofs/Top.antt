@@ -17,7 +17,9 @@ use Rattle.words_scopes.proofs.Index as index
 use Rattle.words_scopes.proofs.Grow.{some-head}
 use Rattle.scope_values.proofs.Count.{length-binds, depth_is}
 use Rattle.scope_values.proofs.Listed.{bind-there}
-use Rattle.scope_redeclare.specs.Own.{Own}
+use Rattle.core.specs.Bool.{then_some}
+use Rattle.std.proofs.Common.{leb, leb-true, leb-false, Some, None}
+use Rattle.scope_redeclare.specs.Own.{Own, OwnAt}
 
 -- a binding put into the innermost scope
 abbrev pub put_top : VarInfo → Stack → Stack
@@ -95,21 +97,29 @@ module _ (w : List ℕ) (g : Good w) (z : 0 < get_or w 2 0) where
       name : get_or w (4112 + (p - 1) * 10) 0 ≡ x
       name = ap (λ (b : VarInfo). b.id) (sym (bind-there w (p - 1) (omega (arith, there, within)) laws.no_bind)) ∙ ap (λ (n : ℕ). (get_or (binds w) (n - 1) laws.no_bind).id) is ∙ index.place-id x (head_at w d) (heads_at w d) (binds w) (omega (arith, is))
 
-      pub own-there : Own w x (p - 1)
-      own-there =
-          let q : a + i ≡ p - 1 = omega (arith, there) in
-          let s : p ≡ suc (p - 1) = omega arith in
+      -- by its place from 0
+      pub own-there : (k : ℕ) → suc k ≡ p → OwnAt w x k
+      own-there k q =
+          let s : a + i ≡ k = omega (arith, there) in
+          let n : p - 1 ≡ k = omega arith in
           record {
-            most = omega (arith, there, within);
-            there = λ h. (sym e ∙ s, rw stack_top has, name);
-            found = λ h. rw stack_top (laws.in-found x (drop a (binds w)) has ∙ ap some (at i within ∙ ap (λ (n : ℕ). bind_at w n) q));
-            absent = λ h. absurd (omega (arith, there, within));
+            below = omega (arith, there, within);
+            place = sym (q ∙ e);
+            named = rw n at name;
+            found = rw stack_top (laws.in-found x (drop a (binds w)) has ∙ ap some (at i within ∙ ap (λ (n : ℕ). bind_at w n) s));
           }
 
-    pub own-absent : p ≤ a → Own w x (get_or w 1 0)
-    own-absent l = record {
-      most = omega arith;
-      there = λ h. absurd (omega arith);
-      found = λ h. absurd (omega arith);
-      absent = λ h. rw stack_top (index.place-above x (head_at w d) (heads_at w d) (binds w) (omega (arith, is)));
-    }
+    pub own-absent : p ≤ a → is_some (find_binding_from_current x (stack w)) ≡ false
+    own-absent l = rw stack_top (index.place-above x (head_at w d) (heads_at w d) (binds w) (omega (arith, is)))
+
+  -- the innermost binding of x is binding k, or x has none
+  module _ (x : ℕ) where
+    pub own-test : (k : ℕ) → suc k ≡ place x (heads w) (binds w) → Own w x (then_some (leb a k) k)
+    own-test k e = go (leb a k) refl
+      where
+        go : (p : Bool) → leb a k ≡ p → Own w x (then_some p k)
+        go true t = own-there x (suc k) e (omega (arith, leb-true a k t)) k refl
+        go false t = own-absent x (suc k) e (omega (arith, leb-false a k t))
+
+    pub own-none : 0 ≡ place x (heads w) (binds w) → Own w x None
+    own-none e = own-absent x 0 e (omega arith)

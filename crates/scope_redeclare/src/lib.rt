@@ -48,7 +48,8 @@ pub fn own_binding(w: &[u32], x: u8) -> Option<usize>
 {
     let d = w[layout::SCOPE_COUNT] as usize - 1;
     let a = w[layout::SCOPES + d * 4 + layout::FIRST_BINDING] as usize;
-    find_binding(w, x).filter(|k| a <= *k)
+    let k = find_binding(w, x)?;
+    (a <= k).then_some(k)
 }
 
 // Binding k is declared again, with its value as it is.
