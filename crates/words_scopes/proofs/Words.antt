@@ -8,7 +8,7 @@ use Rattle.def_tree.specs.Base.{pick}
 use Rattle.def_tree.specs.Tree.{Tree, Core, no_core}
 use Rattle.def_pass.specs.Tree.{is_ident, num}
 use Rattle.def_pass.specs.Scope.{VarType, VarInfo, Stack, Free, change, prevent, count_one, prevent_inline, prevent_one, value_is, has_in}
-use Rattle.words.specs.Tab.{tab, length-tab, get_d-tab, tab-ext, set-tab, take-tab, sum-ext, sum-part, below_or_not}
+use Rattle.words.specs.Tab.{tab, length-tab, get_d-tab, tab-ext, set-tab, take-tab, sum-ext, sum-part, sum-le, below_or_not}
 use Rattle.words.specs.Flags.{flag_at}
 use Rattle.words.specs.Layout.{yes, Agree, core_from, tree, beyond}
 use Rattle.words.proofs.Flags.{flag_same}
@@ -444,6 +444,9 @@ module _ (w : List ℕ) (k x : ℕ) where
 -- the values up to a binding's own have room
 pub room : (w : List ℕ) → Good w → (k : ℕ) → k < get_or w 1 0 → off w k + len_at w k ≤ 512
 room w g k h = omega (arith, sum-part (λ j. len_at w j) k (get_or w 1 0) h, g.vals)
+
+pub off-room : (w : List ℕ) → Good w → (k : ℕ) → k ≤ get_or w 1 0 → off w k ≤ 512
+off-room w g k h = omega (arith, sum-le (λ j. len_at w j) k (get_or w 1 0) h, g.vals)
 
 -- the sweep over all bindings: the first k are done
 pub record Swept (w₀ w : List ℕ) (x k : ℕ) : Type 0 where

@@ -10,7 +10,7 @@ use Rattle.words_prevent.specs.declared.Binding.{Binding}
 pub use Rattle.words_scopes.specs.Kinds.{var_type_of, alias_at, scope_kind_of}
 use Rattle.words_scopes.specs.Kinds.{type_of, alias_of}
 use Rattle.words_scopes.specs.declared.Record.{Record}
-use Rattle.def_pass.specs.Scope.{VarType, ScopeKind, VarInfo, Scope, Stack, Free, has_in, value_is}
+use Rattle.def_pass.specs.Scope.{ScopeKind, VarInfo, Scope, Stack, Free, has_in, value_is}
 use Rattle.words.specs.Tab.{tab, sum}
 use Rattle.words.specs.Flags.{flag_at}
 use Rattle.words.specs.Layout.{yes, Agree, run, tree, beyond}

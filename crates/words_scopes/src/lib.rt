@@ -152,7 +152,8 @@ pub fn prevent_inline(w: &mut [u32], x: u8)
         let m = w[p + layout::LENGTH] as usize;
         if to_mark(w, j, p, o, x) {
             let bs = marks_of(w, j, o, x);
-            for i in 0..(n - j).min(8) {
+            let e = (n - j).min(8);
+            for i in 0..e {
                 if bs[i].prevented {
                     w[layout::BINDINGS + j * 10 + layout::PREVENTED] = 1;
                 }

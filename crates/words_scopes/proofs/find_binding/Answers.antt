@@ -1,5 +1,5 @@
 -- The index says it. Assumes nothing.
-use Rattle.std.proofs.Common.{◌∙◌, arith}
+use Rattle.std.proofs.Common.{arith}
 use Rattle.words.proofs.Yes.{placed_below, placed-less_one}
 use Rattle.words_scopes.proofs.Index.{indexed}
 use Rattle.words_scopes.proofs.find_binding.Goals as goal

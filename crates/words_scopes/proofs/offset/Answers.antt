@@ -6,6 +6,3 @@ use Rattle.words_scopes.proofs.offset.Goals as goal
 
 pub offset_from-requires : goal.offset_from-requires
 offset_from-requires c = (c.requires.0, omega arith, c.requires.1, sym (sums.sum-zero (λ i. len_at c.args.w.now i)), omega arith)
-
-pub returns : goal.returns
-returns c = c.offset_from.ensures

@@ -1,6 +1,6 @@
 -- The pass through all bindings; a window of records is made where a mark is missing, and `o` is the sum of the lengths passed. Assumes nothing.
 use Rattle.std.proofs.Common.{◌≡◌, ℕ, List, ◌+◌, ◌*◌, ◌<◌, ◌≤◌, get_or, sym, refl, ap, ◌∙◌, arith}
-use Rattle.words.specs.Tab as sums
+use Rattle.words.specs.Tab.{sum-next, sum-zero}
 use Rattle.words_scopes.specs.State.{Good, off, len_at}
 use Rattle.words_scopes.proofs.Words as laws
 use Rattle.words_scopes.proofs.prevent_inline.Goals as goal
@@ -23,106 +23,98 @@ come {w₀} {w} {x} {j} {o} g s h e =
       begins = e ∙ sym (laws.runs-off g s.runs j (omega (arith, g.count)));
     }
 
--- what a length adds stays below 513
-fits : (w u : List ℕ) → Good w → (j : ℕ) → j < get_or w 1 0 → len_at u j ≡ len_at w j → off w j + len_at u j ≤ 512
-fits w u g j h e = (let part = sums.sum-part (λ q. len_at w q) j (get_or w 1 0) h in omega (arith, g.vals))
-
 -- the length read there
 read : (w : List ℕ) (p j : ℕ) → p ≡ 4112 + j * 10 → get_or w (p + 8) 0 ≡ len_at w j
 read w p j e = ap (λ (q : ℕ). get_or w (q + 8) 0) e
 
-added-else : {w₀ w : List ℕ} {j o : ℕ} → Come w₀ w j o → (p : ℕ) → p ≡ 4112 + j * 10 → o + get_or w (p + 8) 0 ≤ 512
-added-else {w₀} {w} {j} {o} k p e = omega (arith, read w p j e, k.begins, fits w w k.good j k.this refl)
-
 pub loop-j-init : goal.loop-j-init
 loop-j-init c =
     let w = c.args.w.now in
-    (omega arith, refl, refl, laws.swept-self w c.args.x 0 (λ q l. absurd (omega arith)), sym (sums.sum-zero (λ q. len_at w q)), refl)
-
-pub bounds-w-p : goal.bounds-w-p
-bounds-w-p c = let k = come c.requires c.loop-j.invariant.3 (omega arith) c.loop-j.invariant.4 in
-    omega (arith, c.loop-j.invariant.5, k.good.long, k.good.count, k.this)
-
-pub overflow_cast-m : goal.overflow_cast-m
-overflow_cast-m c = omega (arith, added-else (come c.requires c.loop-j.invariant.3 (omega arith) c.loop-j.invariant.4) c.loop-j.p c.loop-j.invariant.5)
+    record { within = omega arith; many = refl; swept = laws.swept-self w c.args.x 0 (λ q l. absurd (omega arith)); begins = sym (sum-zero (λ q. len_at w q)); here = refl }
 
 pub to_mark-requires : goal.to_mark-requires
-to_mark-requires c = let k = come c.requires c.loop-j.invariant.3 (omega arith) c.loop-j.invariant.4 in (k.good, k.this, c.loop-j.invariant.5, k.begins)
+to_mark-requires c =
+    let v = c.loop-j.invariant in
+    let k = come c.requires v.swept c.loop-j-test.true v.begins in
+    (k.good, k.this, v.here, k.begins)
 
 pub marks_of-bs-requires : goal.marks_of-bs-requires
-marks_of-bs-requires c = let k = come c.requires c.loop-j.invariant.3 (omega arith) c.loop-j.invariant.4 in (k.good, k.this, k.begins)
+marks_of-bs-requires c =
+    let v = c.loop-j.invariant in
+    let k = come c.requires v.swept c.loop-j-test.true v.begins in
+    (k.good, k.this, k.begins)
 
 pub loop-i-init : goal.loop-i-init
 loop-i-init c =
-    let k = come c.requires c.loop-j.invariant.3 (omega arith) c.loop-j.invariant.4 in
-    let s = laws.swept-on c.loop-j.invariant.3 in
-    (omega arith, omega arith, refl, s, k.begins, laws.ahead-load s c.marks_of-bs.result c.marks_of-bs.ensures)
-
-pub bounds-bs-i : goal.bounds-bs-i
-bounds-bs-i c = omega (arith, c.window-e.ensures.0, c.loop-i-test.true)
-
-pub bounds-w-j-in-loop-i : goal.bounds-w-j-in-loop-i
-bounds-w-j-in-loop-i c =
-    let k = come c.requires c.loop-j.invariant.3 (omega arith) c.loop-j.invariant.4 in
-    let h : c.loop-i.j < get_or c.loop-j.w 1 0 = omega (arith, c.window-e.ensures.1, k.many, c.loop-j.invariant.2, c.loop-i.invariant.1) in
-    omega (arith, k.good.long, k.good.count)
+    let v = c.loop-j.invariant in
+    let k = come c.requires v.swept c.loop-j-test.true v.begins in
+    let s = laws.swept-on v.swept in
+    record { at = omega arith; swept = s; begins = k.begins; ahead = laws.ahead-load s c.marks_of-bs.result c.marks_of-bs.ensures }
 
 pub overflow_add-o-in-loop-i-2 : goal.overflow_add-o-in-loop-i-2
 overflow_add-o-in-loop-i-2 c =
-    let k = come c.requires c.loop-j.invariant.3 (omega arith) c.loop-j.invariant.4 in
-    let w₁ = c.loop-j.w in
-    let h : c.loop-i.j < get_or w₁ 1 0 = omega (arith, c.window-e.ensures.1, k.many, c.loop-j.invariant.2, c.loop-i.invariant.1) in
-    let part = sums.sum-le (λ q. len_at w₁ q) c.loop-i.j (get_or w₁ 1 0) (omega arith) in
-    omega (arith, c.loop-i.invariant.4, part, k.good.vals, c.type_inv.w (4112 + c.loop-i.j * 10 + 8))
+    let v = c.loop-j.invariant in
+    let u = c.loop-i.invariant in
+    let k = come c.requires v.swept c.loop-j-test.true v.begins in
+    let l : c.loop-i.j ≤ get_or c.loop-j.w 1 0 = omega (arith, c.min-e.ensures, k.many, u.at) in
+    omega (arith, u.begins, laws.off-room c.loop-j.w k.good c.loop-i.j l, c.type_inv.w (4112 + c.loop-i.j * 10 + 8))
 
 pub loop-i-preserved : goal.loop-i-preserved
 loop-i-preserved c =
-    let k = come c.requires c.loop-j.invariant.3 (omega arith) c.loop-j.invariant.4 in
+    let v = c.loop-j.invariant in
+    let u = c.loop-i.invariant in
+    let k = come c.requires v.swept c.loop-j-test.true v.begins in
     let w₁ = c.loop-j.w in
     let x = c.args.x in
-    let v = c.loop-i.invariant in
     let j = c.loop-i.j in
-    let h : j < get_or w₁ 1 0 = omega (arith, c.window-e.ensures.1, k.many, c.loop-j.invariant.2, v.1) in
-    let this = laws.ahead-this w₁ x j c.loop-i.i c.marks_of-bs.result (omega (arith, c.ranges.x)) v.5 (omega (arith, c.window-e.ensures.0)) h in
+    let h : j < get_or w₁ 1 0 = omega (arith, c.min-e.ensures, k.many, u.at) in
+    let this = laws.ahead-this w₁ x j c.loop-i.i c.marks_of-bs.result u.ahead (omega (arith, c.min-e.ensures)) h in
     let d : laws.Swept w₁ c.if-bs-i.w x (j + 1) =
     elim c.if-bs-i.branch [
-      | then-bs-i u ↦ rw u.w-is (laws.swept-hit k.good v.3 h (sym u.if-bs-i.true ∙ this))
-      | else-bs-i u ↦ rw u.w-is (laws.swept-miss k.good v.3 h (sym u.if-bs-i.false ∙ this))
+      | then-bs-i t ↦ rw t.w-is (laws.swept-hit k.good u.swept h (sym t.if-bs-i.true ∙ this))
+      | else-bs-i t ↦ rw t.w-is (laws.swept-miss k.good u.swept h (sym t.if-bs-i.false ∙ this))
     ] in
     let len : len_at c.if-bs-i.w j ≡ len_at w₁ j = d.runs.lens j (omega (arith, k.good.count)) in
-    let next : c.loop-i.o + len_at c.if-bs-i.w j ≡ off w₁ (j + 1) = omega (arith, v.4, sums.sum-next (λ q. len_at w₁ q) j) in
-    (omega arith, omega (arith, v.1), d.kept.size, d, next, laws.ahead-next w₁ x j c.loop-i.i c.marks_of-bs.result v.5)
-
-pub loop-j-smaller-then-to_mark : goal.loop-j-smaller-then-to_mark
-loop-j-smaller-then-to_mark c =
-    let e = c.window-e.ensures in
-    omega (arith, e.2 0 (omega arith) (omega (arith, c.loop-j-test.true)), e.1, c.loop-i.invariant.0, c.loop-i.invariant.1, c.loop-i-test.false, c.loop-j-test.true)
+    let next : c.loop-i.o + len_at c.if-bs-i.w j ≡ off w₁ (j + 1) = omega (arith, u.begins, sum-next (λ q. len_at w₁ q) j) in
+    record { at = omega (arith, u.at); swept = d; begins = next; ahead = laws.ahead-next w₁ x j c.loop-i.i c.marks_of-bs.result u.ahead }
 
 pub loop-j-preserved-then-to_mark : goal.loop-j-preserved-then-to_mark
 loop-j-preserved-then-to_mark c =
     let v = c.loop-j.invariant in
     let u = c.loop-i.invariant in
-    let e = c.window-e.ensures in
     let j = c.loop-i.j in
-    let l : j ≤ get_or c.args.w.now 1 0 = omega (arith, e.1, v.2, u.0, u.1, c.loop-j-test.true) in
-    (omega (arith, l, v.2), u.2 ∙ v.1, v.2, laws.swept-then v.3 j (omega (arith, u.1)) l u.3, u.4 ∙ laws.runs-off c.requires v.3.runs j (omega (arith, l, c.requires.count)), refl)
+    let l : j ≤ get_or c.args.w.now 1 0 = omega (arith, c.min-e.ensures, u.at) in
+    record {
+      within = l;
+      many = refl;
+      swept = laws.swept-then v.swept j (omega (arith, u.at)) l u.swept;
+      begins = u.begins ∙ laws.runs-off c.requires v.swept.runs j (omega (arith, l, c.requires.count));
+      here = refl;
+    }
 
 pub overflow_add-o-else-to_mark : goal.overflow_add-o-else-to_mark
-overflow_add-o-else-to_mark c = omega (arith, added-else (come c.requires c.loop-j.invariant.3 (omega arith) c.loop-j.invariant.4) c.loop-j.p c.loop-j.invariant.5)
+overflow_add-o-else-to_mark c =
+    let v = c.loop-j.invariant in
+    let k = come c.requires v.swept c.loop-j-test.true v.begins in
+    omega (arith, read c.loop-j.w c.loop-j.p c.loop-j.j v.here, k.begins, laws.room c.loop-j.w k.good c.loop-j.j k.this)
 
 pub loop-j-preserved : goal.loop-j-preserved
 loop-j-preserved c =
     let w₀ = c.args.w.now in
     let j = c.loop-j.j in
     let v = c.loop-j.invariant in
-    let h : j < get_or w₀ 1 0 = omega (arith, v.2, c.loop-j-test.true) in
+    let h = c.loop-j-test.true in
     let t = c.to_mark in
-    let s = laws.swept_same c.requires v.3 h (laws.swept-not c.requires v.3 h t.result t.ensures c.if-to_mark.false) in
-    let len : len_at c.loop-j.w j ≡ len_at w₀ j = v.3.runs.lens j (omega (arith, h, c.requires.count)) in
-    let next : c.loop-j.o + get_or c.loop-j.w (c.loop-j.p + 8) 0 ≡ off w₀ (j + 1) = omega (arith, v.4, read c.loop-j.w c.loop-j.p j v.5, len, sums.sum-next (λ q. len_at w₀ q) j) in
-    (omega (arith, h, v.2), v.1, v.2, s, next, omega (arith, v.5))
+    let len : len_at c.loop-j.w j ≡ len_at w₀ j = v.swept.runs.lens j (omega (arith, h, c.requires.count)) in
+    record {
+      within = omega (arith, h);
+      many = refl;
+      swept = laws.swept_same c.requires v.swept h (laws.swept-not c.requires v.swept h t.result t.ensures c.if-to_mark.false);
+      begins = omega (arith, v.begins, read c.loop-j.w c.loop-j.p j v.here, len, sum-next (λ q. len_at w₀ q) j);
+      here = omega (arith, v.here);
+    }
 
 pub returns : goal.returns
 returns c =
-    let e : c.loop-j.j ≡ get_or c.args.w.now 1 0 = omega arith in
-    laws.swept_all c.args.x c.requires (rw e at c.loop-j.invariant.3)
+    let e : c.loop-j.j ≡ get_or c.args.w.now 1 0 = omega (arith, c.loop-j.invariant.within, c.loop-j-test.false) in
+    laws.swept_all c.args.x c.requires (rw e at c.loop-j.invariant.swept)
