@@ -11,6 +11,7 @@ use borrow.Author.Tests.{le-leb, lt-leb}
 use lib.Dec.{leb}
 use lib.ListN.{length, get_or, take, drop, set}
 use lib.Seq.{sets, sets-eq, length-take-le}
+use mir.Val.{bool_byte}
 use Rattle.def_tree.specs.Base.{to_nat}
 use Rattle.def_tree.specs.Tree.{Tree}
 use Rattle.words.specs.Tab.{tab, tab-zero, tab-suc, length-tab, take-tab, get_d-tab, get_d-tab-out}
@@ -18,15 +19,17 @@ use Rattle.words.specs.Layout.{yes}
 use Rattle.def_file.specs.declared.Raw.{Raw}
 use Rattle.def_file.specs.Script.{zero_node}
 use Rattle.file_read.specs.Idents.{numbered, ids_of}
-use Rattle.file_write.specs.declared.Written.{Written}
+use Rattle.std.specs.Prelude.{Result, Ok, Err, Some, None}
+use Rattle.refusal.specs.declared.Refusal.{Refusal}
+use Rattle.refusal.specs.declared.Refusal.TheVariants.{Buffer}
 use Rattle.file_write.proofs.Stores.{first, then}
 use Rattle.def_pass.specs.Scope.{VarInfo}
 use Rattle.def_pass.specs.Script.{Root}
 use Rattle.def_pass.specs.Walk.{Rooted, root_marks}
 use Rattle.words_scopes.specs.State.{head_at, heads_at, heads, Fits, bind_at, binds, flags, consts, split, stack, Good}
-use Rattle.pass_roots.specs.declared.RootAt.TheVariants as RootAt
+use Rattle.pass_roots.specs.declared.Root.{Root as Binding}
 use Rattle.pass_roots.specs.Nth.{nth, nth_is}
-use Rattle.pass_roots.specs.Listing.{marks_to, root_at, roots_in, root_words, root_list, refused, listed, in_room, WroteRoots}
+use Rattle.pass_roots.specs.Listing.{marks_to, root_at, roots_in, given, words_of, root_words, root_list, refused, listed, in_room, WroteRoots}
 
 -- identifier, mark and count of each binding
 abbrev marks : List VarInfo → List Rooted
@@ -115,15 +118,6 @@ module _ {w : List ℕ} (g : Good w) where
           let q : second w ≤ get_or w 1 0 = omega (arith, second-low w d (length (binds w)) (fits-at (suc (suc d)) e), binds-length) in
           (ap root_marks (stack_at (suc (suc d)) e) ∙ root-more w d (flags w) (binds w) (consts w) (fits-at (suc (suc d)) e) ∙ some-marks (second w) q, omega (arith, q, g.count))
 
--- five words stored one after the other
-pub put_five : (l : List ℕ) (i a b c d f : ℕ) {m : ℕ} → m ≡ d → set (set (set (set (set l i a) (i + 1) b) (i + 2) c) (i + 3) m) (i + 4) f ≡ sets l i (a ∷ b ∷ c ∷ d ∷ f ∷ [])
-put_five l i a b c d f e =
-    let p : i + 1 ≡ suc i = omega arith in
-    let q : i + 2 ≡ suc (suc i) = omega arith in
-    let r : i + 3 ≡ suc (suc (suc i)) = omega arith in
-    let s : i + 4 ≡ suc (suc (suc (suc i))) = omega arith in
-    rw (e, p, q, r, s) refl
-
 -- the words of some bindings, and of one more
 pub list_length : (rs : List Root) → length (root_list rs) ≡ 5 * length rs
 unfolding root_list
@@ -139,13 +133,14 @@ pub list-none : (f : ℕ → Root) (l : List ℕ) → l ≡ sets l 0 (root_list 
 unfolding root_list tab
 list-none f l = refl
 
-pub list-more : (f : ℕ → Root) (k : ℕ) (l : List ℕ) {l₁ l₂ : List ℕ} (r : Root) → l₁ ≡ sets l 0 (root_list (tab k f)) → r ≡ f k → l₂ ≡ sets l₁ (5 * k) (root_words r) → l₂ ≡ sets l 0 (root_list (tab (k + 1) f))
-list-more f k l r p e q =
-    (then (first l 0 (root_list (tab k f)) p) (5 * k) (root_words r) q (omega (arith, list_length (tab k f), length-tab k f))).is
-    ∙ ap (sets l 0) (sym (ap root_list (tab-suc k f) ∙ list-snoc (tab k f) (f k) ∙ ap (λ (y : Root). root_list (tab k f) ++ root_words y) (sym e)))
+pub list-more : (f : ℕ → Root) (k : ℕ) (l : List ℕ) {l₁ l₂ : List ℕ} (x : Binding) → l₁ ≡ sets l 0 (root_list (tab k f)) → x ≡ given (f k) → l₂ ≡ sets l₁ (5 * k) (words_of x) → l₂ ≡ sets l 0 (root_list (tab (k + 1) f))
+list-more f k l x p e q =
+    (then (first l 0 (root_list (tab k f)) p) (5 * k) (words_of x) q (omega (arith, list_length (tab k f), length-tab k f))).is
+    ∙ ap (sets l 0) (sym (ap root_list (tab-suc k f) ∙ list-snoc (tab k f) (f k) ∙ ap (λ (b : Binding). root_list (tab k f) ++ words_of b) (sym e)))
 
-pub same-root : {x y : Raw} (b : Bool) (n : ℕ) → x ≡ y → ◌≡◌ {A = Root} (record { key = x; mark = b; count = n }) (record { key = y; mark = b; count = n })
-same-root b n e = cc
+-- a binding as it is answered
+pub given-as : {x : Raw} (r : Root) (p : Bool) (n : ℕ) → x ≡ r.key → p ≡ r.mark → n ≡ r.count → record { text = x.text; context = x.bits; prevented = p; count = n } ≡ given r
+given-as r p n e h k = cc
 
 -- an identifier by its number
 pub no-ident : (bs w : List ℕ) (i : ℕ) → get_or w 4 0 ≤ i → zero_node ≡ get_or (ids_of bs w) i zero_node
@@ -172,19 +167,19 @@ module _ (bs w : List ℕ) (n : ℕ) (h : root_marks (stack w) ≡ marks_to w n)
   roots-count = ap (λ (rs : List Root). length rs) roots-tab ∙ length-tab n (λ k. root_at bs w k)
 
   -- no room
-  pub roots-short : (r : List ℕ) → length r < 5 * n → WroteRoots r r (in_room (length r) (roots_in bs w)) (Written.Refused 10)
+  pub roots-short : (r : List ℕ) → length r < 5 * n → WroteRoots r r (in_room (length r) (roots_in bs w)) (Err Buffer)
   roots-short r l =
       let e : leb (5 * length (roots_in bs w)) (length r) ≡ false = lt-leb (5 * length (roots_in bs w)) (length r) (omega (arith, roots-count)) in
-      subst (λ (p : Bool). WroteRoots r r (elim p [ false ↦ refused 10 | true ↦ listed (roots_in bs w) ]) (Written.Refused 10)) (sym e) (record { says = refl; leaves = refl })
+      subst (λ (p : Bool). WroteRoots r r (elim p [ false ↦ refused 10 | true ↦ listed (roots_in bs w) ]) (Err Buffer)) (sym e) (record { says = refl; leaves = refl })
 
   -- room
-  pub roots-wrote : (r r' : List ℕ) → 5 * n ≤ length r → r' ≡ sets r 0 (root_list (tab n (λ k. root_at bs w k))) → WroteRoots r r' (in_room (length r) (roots_in bs w)) (Written.Done n)
+  pub roots-wrote : (r r' : List ℕ) → 5 * n ≤ length r → r' ≡ sets r 0 (root_list (tab n (λ k. root_at bs w k))) → WroteRoots r r' (in_room (length r) (roots_in bs w)) (Ok n)
   roots-wrote r r' l q =
       let rs = roots_in bs w in
       let e : leb (5 * length rs) (length r) ≡ true = le-leb (5 * length rs) (length r) (omega (arith, roots-count)) in
       let size : 0 + length (root_list rs) ≡ 5 * length rs = omega (arith, list_length rs) in
       let whole : sets r 0 (root_list rs) ≡ root_list rs ++ drop (5 * length rs) r = sets-eq (root_list rs) r 0 (omega (arith, list_length rs, roots-count)) ∙ ap (λ (k : ℕ). root_list rs ++ drop k r) size in
-      subst (λ (p : Bool). WroteRoots r r' (elim p [ false ↦ refused 10 | true ↦ listed rs ]) (Written.Done n)) (sym e) (record { says = sym roots-count; leaves = q ∙ ap (λ (ys : List Root). sets r 0 (root_list ys)) (sym roots-tab) ∙ whole })
+      subst (λ (p : Bool). WroteRoots r r' (elim p [ false ↦ refused 10 | true ↦ listed rs ]) (Ok n)) (sym e) (record { says = sym roots-count; leaves = q ∙ ap (λ (ys : List Root). sets r 0 (root_list ys)) (sym roots-tab) ∙ whole })
 
 -- the binding of a number: one of those that a table has, or none behind them
 nth-append : (rs : List Root) (r : Root) (n : ℕ) → n < length rs → nth n (rs ++ (r ∷ [])) ≡ nth n rs
@@ -209,21 +204,14 @@ nth-tab (suc c) f n l = ⊎_elim (λ (e : n ≡ c). at-end e) (λ (h : n < c). n
     at-end : n ≡ c → nth n (tab c f ++ (f c ∷ [])) ≡ some (f n)
     at-end e = ap (λ (m : ℕ). nth m (tab c f ++ (f c ∷ []))) (e ∙ sym (length-tab c f)) ∙ nth_last (tab c f) (f c) ∙ ap (λ (m : ℕ). some (f m)) (sym e)
 
--- as it is answered
-pub found : {x y : Raw} {p q : Bool} (n : ℕ) → x ≡ y → p ≡ q → RootAt.Found x.text x.bits p n ≡ nth_is (some (record { key = y; mark = q; count = n }))
-found n e h = cc
-
 module _ (bs w : List ℕ) (c : ℕ) (h : root_marks (stack w) ≡ marks_to w c) (n : ℕ) where
-  pub nth-out : c ≤ n → RootAt.Nothing ≡ nth_is (nth n (roots_in bs w))
+  pub nth-out : c ≤ n → None ≡ nth_is (nth n (roots_in bs w))
   nth-out l = sym (ap nth_is (nth-none (roots_in bs w) n (omega (arith, roots-count bs w c h))))
 
-  pub nth_in : n < c → nth_is (some (root_at bs w n)) ≡ nth_is (nth n (roots_in bs w))
+  pub nth_in : n < c → Some (given (root_at bs w n)) ≡ nth_is (nth n (roots_in bs w))
   nth_in l = sym (ap (λ (rs : List Root). nth_is (nth n rs)) (roots-tab bs w c h) ∙ ap nth_is (nth-tab c (λ k. root_at bs w k) n l))
 
--- a word as a mark
-pub no_flag : (v : ℕ) → v ≡ 0 → 0 ≡ to_nat (yes v)
-no_flag v e = ap (λ (m : ℕ). to_nat (yes m)) (sym e)
-
-pub one-flag : (v : ℕ) → (v ≡ 0 → ⊥) → 1 ≡ to_nat (yes v)
-one-flag zero h = absurd (h refl)
-one-flag (suc v) h = refl
+-- the mark's number
+pub flag_as : (b : Bool) → bool_byte b ≡ to_nat b
+flag_as true = refl
+flag_as false = refl

@@ -1,24 +1,14 @@
 -- A root binding written. Assumes nothing.
-use mathlib.Core.Path.{refl}
-use native.Mathlib.Omega.{arith}
-use lib.ListN.{length-set}
-use Rattle.pass_roots.proofs.Rooted as rooted
+use Rattle.std.proofs.Common.{◌≡◌, ℕ, ◌+◌, ◌-◌, ◌/◌, ◌%◌, List, [], ◌∷◌, ap, ◌∙◌, arith}
+use borrow.Rule.Slice.PartMut.{put_mid}
+use Rattle.file_write.proofs.Stores.{stretch}
+use Rattle.pass_roots.specs.Listing.{words_of}
+use Rattle.pass_roots.proofs.Rooted.{flag_as}
 use Rattle.pass_roots.proofs.put_root.Goals as goal
 
-pub bounds-roots-at-2 : goal.bounds-roots-at-2
-bounds-roots-at-2 c = simp length-set (omega (arith, c.requires))
-
-pub bounds-roots-at-3 : goal.bounds-roots-at-3
-bounds-roots-at-3 c = simp length-set (omega (arith, c.requires))
-
-pub bounds-roots-at-4 : goal.bounds-roots-at-4
-bounds-roots-at-4 c = simp length-set (omega (arith, c.requires))
-
-pub bounds-roots-at-5 : goal.bounds-roots-at-5
-bounds-roots-at-5 c = simp length-set (omega (arith, c.requires))
-
-pub shape_of-roots : goal.shape_of-roots
-shape_of-roots c = simp length-set refl
-
 pub returns : goal.returns
-returns c = rooted.put_five c.args.roots.now c.args.at c.args.x.text _ _ _ c.args.count c.flag-prevented.ensures
+returns c =
+    let a = c.args in
+    let b = a.root in
+    let e = ap (λ (m : ℕ). b.text ∷ b.context % 4294967296 ∷ b.context / 4294967296 ∷ m ∷ b.count ∷ []) (c.from.ensures ∙ flag_as b.prevented) in
+    ap (put_mid a.at (a.at + 5 - a.at) a.roots.now) (c.copy_from_slice.ensures.after ∙ e) ∙ stretch a.roots.now (words_of b) a.at (a.at + 5 - a.at) (omega arith) (omega arith)

@@ -6,8 +6,5 @@ use Rattle.pass_roots.proofs.root_count.Goals as goal
 pub returns-then-w-le1 : goal.returns-then-w-le1
 returns-then-w-le1 c = (rooted.roots-all c.requires c.if-w-le1.true, c.requires.count)
 
-pub overflow_cast-result-2 : goal.overflow_cast-result-2
-overflow_cast-result-2 c = omega (arith, c.shared_slice_known-2-1.given 7189)
-
 pub returns : goal.returns
 returns c = rooted.roots-first c.requires (omega (arith, c.if-w-le1.false))

@@ -3,17 +3,8 @@ use native.Mathlib.Omega.{arith}
 use Rattle.pass_roots.proofs.Rooted as rooted
 use Rattle.pass_roots.proofs.write_roots.Goals as goal
 
-pub root_count-n-requires : goal.root_count-n-requires
-root_count-n-requires c = c.requires.0
-
-pub overflow_mul-n : goal.overflow_mul-n
-overflow_mul-n c = omega (arith, c.root_count-n.ensures.1)
-
 pub returns-then-roots-n : goal.returns-then-roots-n
 returns-then-roots-n c = rooted.roots-short c.args.file.now c.args.words.now c.root_count-n.result c.root_count-n.ensures.0 c.args.roots.now c.if-roots-n.true
-
-pub put_roots-requires : goal.put_roots-requires
-put_roots-requires c = (c.requires.1, c.root_count-n.ensures.1, omega (arith, c.if-roots-n.false))
 
 pub returns : goal.returns
 returns c = rooted.roots-wrote c.args.file.now c.args.words.now c.root_count-n.result c.root_count-n.ensures.0 c.args.roots.now _ (omega (arith, c.if-roots-n.false)) c.put_roots.ensures
