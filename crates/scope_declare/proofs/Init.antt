@@ -7,33 +7,32 @@ use Prim.Native.Nat.{ℕ, zero, suc, ◌+◌, ◌-◌, ◌*◌, ◌≤◌, ◌<�
 use native.Mathlib.Omega.{arith}
 use lib.ListN.{length, get_or, length-drop}
 use lib.Dec.{eqb}
+use Rattle.std.specs.Prelude.{Option as Maybe, Some, None}
+use Rattle.core.specs.Bool.{then_some}
 use Rattle.def_tree.specs.Base.{pick, to_nat}
 use Rattle.def_tree.specs.Tree.{Tree, Core, kind, num, plant, first_t, count}
 use Rattle.def_pass.specs.Tree.{is_ident}
 use Rattle.def_tree.proofs.Place.{plant-flat}
 use Rattle.def_pass.specs.Scope as def
-use Rattle.def_pass.specs.Scope.{VarInfo, Scope, Stack, VarType, find_in, idx_val_o, find_binding_from_current, alias_from, place_or, declare, kept, init_of, ident_of, prevented_o, should_prevent_inline_because_of_scope, in_loop, is_param, param_o, is_inline_prevented}
+use Rattle.def_pass.specs.Scope.{VarInfo, Scope, Stack, VarType, is_some, find_in, find_binding_from_current, alias_from, prevent_inline, prevent_inline_o, place_or, declare, kept, init_of, ident_of, prevented_o, should_prevent_inline_because_of_scope, in_loop, is_param, param_o, is_inline_prevented}
 use Rattle.words.specs.Layout.{tree, run, node_of}
+use Rattle.words.specs.declared.Run.{Run}
 use Rattle.words.proofs.Nodes.{run_length}
 use Rattle.words_scopes.specs.State.{Good, stack, index_in, bind_at, binds, value_of, run_of}
 use Rattle.words_scopes.proofs.Split as laws
 use Rattle.scope_values.proofs.Count.{length-binds}
 use Rattle.scope_values.proofs.Listed.{stack-none}
 use Rattle.scope_define.specs.Declare.{declare_with}
-use Rattle.scope_define.specs.Kinds.{init_at, Sized, decl_kind_of, type_of}
-use Rattle.scope_define.specs.declared.VarType as declares
-use Rattle.scope_define.specs.declared.VarType.TheVariants.{Declared}
-use Rattle.scope_define.specs.declared.VarDeclKind.{VarDeclKind}
-use Rattle.scope_define.specs.declared.VarDeclKind.TheVariants.{Var, Let, Const}
+use Rattle.scope_values.specs.Steps.{Offered}
+use Rattle.scope_define.specs.Kinds.{init_at, Sized, bar_of}
 use Rattle.scope_define.specs.declared.Init.{Init}
 use Rattle.scope_define.specs.declared.Init.TheVariants.{NoInit, Recorded, Seen}
 use Rattle.scope_redeclare.proofs.Top.{stack_top}
-use Rattle.scope_define.proofs.Declares.{declare-is}
-use Rattle.scope_find.specs.Look.{idx_here, idx_at, first, node_tree}
+use Rattle.scope_find.specs.Look.{idx_here, bound_here, node_tree}
 use Rattle.scope_find.proofs.Facts.{placed, idx-find, node-tree, or-false}
 use Rattle.words_nodes.specs.Nodes.{Planted, tree_from}
-use Rattle.words_nodes.proofs.Splice.{subtree-run}
-use Rattle.scope_declare.specs.Inits.{count_here, place_here, barred_here, works_with, init_from, has_none, Valued, Sited}
+use Rattle.words_nodes.proofs.Splice.{subtree-run, subtree-one}
+use Rattle.scope_declare.specs.Inits.{place_here, barred_here, works_with, init_from, has_none, Valued, Sited}
 
 -- the type of a binding, if there is one
 abbrev pub kind_of_o : Option VarInfo → Option VarType
@@ -60,22 +59,13 @@ placed-le : (n m : ℕ) (o : Option VarInfo) → n ≤ m → place_or m (placed 
 placed-le n m none h = omega arith
 placed-le n m (some b) h = h
 
-pub place-le : (x : ℕ) (st : Stack) → place_here x st ≤ count_here st
+pub place-le : (x : ℕ) (st : Stack) → place_here x st ≤ bound_here st
 place-le x [] = omega arith
 place-le x (s ∷ st) = rw (idx-find 0 x s.bindings) (placed-le (0 + index_in x s.bindings) (length s.bindings) (find_in x s.bindings) (omega (arith, index-le x s.bindings)))
 
 module _ (w : List ℕ) (g : Good w) where
-  pub count-here : 0 < get_or w 2 0 → count_here (stack w) ≡ get_or w 1 0 - get_or w (7184 + (get_or w 2 0 - 1) * 4 + 1) 0
-  count-here z = ap count_here (stack_top w g z) ∙ length-drop (get_or w (7184 + (get_or w 2 0 - 1) * 4 + 1) 0) (binds w) ∙ ap (λ (n : ℕ). n - get_or w (7184 + (get_or w 2 0 - 1) * 4 + 1) 0) (length-binds w g)
-
--- idx_val's answer
-pub idx-none : (w : List ℕ) (r : ℕ) → r ≡ 0 → idx_at w r ≡ none
-idx-none w zero e = refl
-idx-none w (suc r) e = absurd (omega arith)
-
-pub idx-some : (w : List ℕ) (r : ℕ) → 0 < r → idx_at w r ≡ some (r - 1, bind_at w (first w (get_or w 2 0 - 1) + (r - 1)))
-idx-some w zero h = absurd (omega arith)
-idx-some w (suc r) h = let e : suc r - 1 ≡ r = omega arith in rw e refl
+  pub bound-here : 0 < get_or w 2 0 → bound_here (stack w) ≡ get_or w 1 0 - get_or w (7184 + (get_or w 2 0 - 1) * 4 + 1) 0
+  bound-here z = ap bound_here (stack_top w g z) ∙ length-drop (get_or w (7184 + (get_or w 2 0 - 1) * 4 + 1) 0) (binds w) ∙ ap (λ (n : ℕ). n - get_or w (7184 + (get_or w 2 0 - 1) * 4 + 1) 0) (length-binds w g)
 
 -- an init of a run of the tree's nodes is that of the tree there
 pub init-run : {w : List ℕ} (g : Planted w) {i : ℕ} (l : i < get_or w 0 0) (v : Init) → init_at v (run w 16 i (count (tree_from (tree w) i))) ≡ init_from v (tree_from (tree w) i)
@@ -89,53 +79,47 @@ init-run {w} g {i} l v =
     go Recorded xs t e = ap def.recorded e
     go Seen xs t e = ap def.seen e
 
--- what `declare` looks up of an identifier that its init is, and else
-idx-ident : (e : Option ℕ) (y : ℕ) (s : Scope) (st : Stack) → e ≡ some y → idx_val_o e s.bindings ≡ idx_here y (s ∷ st)
-idx-ident e y s st h = rw h refl
-
+-- `declare` where the init is no identifier, and where it is one
 same-pick : (b : Bool) → pick {A = Stack} b [] [] ≡ []
 same-pick true = refl
 same-pick false = refl
 
-empty-with : (x : ℕ) (v : Option Tree → Option Tree) (e : Option ℕ) (p u : Bool) (k : VarType) (al : Option VarType) (l b : Bool) → declare_with x v e p u k al l b [] ≡ []
-empty-with x v none p u k al true b = same-pick b
-empty-with x v none p u k al false b = same-pick b
-empty-with x v (some y) p u k al true b = same-pick b
-empty-with x v (some y) p u k al false b = same-pick b
+empty-with : (x : ℕ) (v : Option Tree → Option Tree) (bar : Option ℕ) (p u : Bool) (k : VarType) (al : Option VarType) (l : Bool) → declare_with x v bar p u k al l [] ≡ []
+empty-with x v none p u k al l = same-pick l
+empty-with x v (some y) p u k al true = refl
+empty-with x v (some y) p u k al false = refl
 
-plain-with : (x z : ℕ) (f : Option Tree → Option Tree) (p u : Bool) (k : VarType) (l t : Bool) (st : Stack) → declare_with x f none p u k none l (t && false) st ≡ declare_with x f (some z) p u k none l false st
-plain-with x z f p u k l true st = refl
-plain-with x z f p u k l false st = refl
+pick-no : (t : Bool) (a b : Stack) → pick (t && false) a b ≡ b
+pick-no true a b = refl
+pick-no false a b = refl
+
+-- both marks, where a test holds
+bar-pick : (t : Bool) (x y : ℕ) (st : Stack) → pick t (prevent_inline_o (some y) (prevent_inline x st)) st ≡ pick (is_some (pick t (some y) none)) (prevent_inline_o (pick t (some y) none) (prevent_inline x st)) st
+bar-pick true x y st = refl
+bar-pick false x y st = refl
+
+pub bar-is : (t : Bool) (y : ℕ) → bar_of (then_some t y) ≡ pick t (some y) none
+bar-is true y = refl
+bar-is false y = refl
 
 module _ (again : Bool) (x : ℕ) (v : def.Init) (undefined : Bool) (k : VarType) where
-  pub declare-plain : (z : ℕ) (st : Stack) → ident_of (init_of v) ≡ none → declare again x v undefined k st ≡ declare_with x (kept v) (some z) (again || should_prevent_inline_because_of_scope x st || prevented_o (init_of v) st) undefined k none (in_loop st) false st
+  pub declare-plain : (st : Stack) → ident_of (init_of v) ≡ none → declare again x v undefined k st ≡ declare_with x (kept v) none (again || should_prevent_inline_because_of_scope x st || prevented_o (init_of v) st) undefined k none (in_loop st) st
   unfolding declare
-  declare-plain z [] e = sym (empty-with x (kept v) (some z) (again || false || prevented_o (init_of v) []) undefined k none false false)
-  declare-plain z (s ∷ st) e = declare-is again x v undefined k s st ∙ rw e (plain-with x z (kept v) (again || should_prevent_inline_because_of_scope x (s ∷ st) || prevented_o (init_of v) (s ∷ st)) undefined k (in_loop (s ∷ st)) (not (is_param k) && true) (s ∷ st))
+  declare-plain [] e = sym (empty-with x (kept v) none (again || false || prevented_o (init_of v) []) undefined k none false)
+  declare-plain (s ∷ st) e = rw e (pick-no (not (is_param k) && true) _ _)
 
   pub declare-ident : (y : ℕ) (st : Stack) → ident_of (init_of v) ≡ some y
-      → declare again x v undefined k st ≡ declare_with x (kept v) (some y) (again || should_prevent_inline_because_of_scope x st || prevented_o (init_of v) st) undefined k (alias_from (idx_here y st)) (in_loop st) (works_with k (alias_from (idx_here y st)) && barred_here x y st) st
+      → declare again x v undefined k st ≡ declare_with x (kept v) (pick (works_with k (alias_from (idx_here y st)) && barred_here x y st) (some y) none) (again || should_prevent_inline_because_of_scope x st || prevented_o (init_of v) st) undefined k (alias_from (idx_here y st)) (in_loop st) st
   unfolding declare
-  declare-ident y [] e = sym (empty-with x (kept v) (some y) (again || false || prevented_o (init_of v) []) undefined k none false (works_with k none && false))
-  declare-ident y (s ∷ st) e = declare-is again x v undefined k s st ∙ rw e refl
+  declare-ident y [] e = sym (empty-with x (kept v) (pick (works_with k none && false) (some y) none) (again || false || prevented_o (init_of v) []) undefined k none false)
+  declare-ident y (s ∷ st) e = rw e (bar-pick (works_with k (alias_from (idx_here y (s ∷ st))) && barred_here x y (s ∷ st)) x y _)
 
-declared-no : (k : VarDeclKind) → is_param (decl_kind_of k) ≡ false
-declared-no Var = refl
-declared-no Let = refl
-declared-no Const = refl
-
-pub not-param : {t : declares.VarType} {k : VarDeclKind} → t ≡ Declared k → is_param (type_of t) ≡ false
-not-param {t} {k} e = ap (λ (u : declares.VarType). is_param (type_of u)) e ∙ declared-no k
-
-pub works-is : {t : declares.VarType} {k : VarDeclKind} (al : Option VarType) → t ≡ Declared k → works_with (type_of t) al ≡ not (param_o al)
-works-is al e = ap (λ (b : Bool). not b && not (param_o al)) (not-param e)
-
-pub count-le : (w : List ℕ) → Good w → count_here (stack w) ≤ 256
+pub count-le : (w : List ℕ) → Good w → bound_here (stack w) ≤ 256
 count-le w g = go (get_or w 2 0) refl
   where
-    go : (d : ℕ) → get_or w 2 0 ≡ d → count_here (stack w) ≤ 256
+    go : (d : ℕ) → get_or w 2 0 ≡ d → bound_here (stack w) ≤ 256
     go zero e = rw (stack-none w e) (omega arith)
-    go (suc d) e = omega (arith, count-here w g (omega arith), g.count)
+    go (suc d) e = omega (arith, bound-here w g (omega arith), g.count)
 
 -- the tree at a node, and the node
 module _ (w : List ℕ) (i : ℕ) where
@@ -190,18 +174,18 @@ init-value NoInit t o = absurd o
 init-value Recorded t o = refl
 init-value Seen t o = refl
 
-same-with : {p p' l l' b b' : Bool} {al al' : Option VarType} (x : ℕ) (f : Option Tree → Option Tree) (e : Option ℕ) (u : Bool) (k : VarType) (st : Stack) → p ≡ p' → al ≡ al' → l ≡ l' → b ≡ b'
-    → declare_with x f e p u k al l b st ≡ declare_with x f e p' u k al' l' b' st
-same-with x f e u k st a c d g = rw (a, c, d, g) refl
+same-with : {p p' l l' : Bool} {b b' : Option ℕ} {al al' : Option VarType} (x : ℕ) (f : Option Tree → Option Tree) (u : Bool) (k : VarType) (st : Stack) → p ≡ p' → al ≡ al' → l ≡ l' → b ≡ b'
+    → declare_with x f b p u k al l st ≡ declare_with x f b' p' u k al' l' st
+same-with x f u k st a c d g = rw (a, c, d, g) refl
 
 or_assoc : (a b c : Bool) → (a || b || c) ≡ (a || (b || c))
 or_assoc true b c = refl
 or_assoc false b c = refl
 
 -- `declare` without an init
-pub bare-is : (again : Bool) (x : ℕ) (undefined : Bool) (k : VarType) (st : Stack) (p l : Bool) → p ≡ (again || should_prevent_inline_because_of_scope x st) → l ≡ in_loop st → declare_with x (kept def.no_init) (some x) p undefined k none l false st ≡ declare again x def.no_init undefined k st
+pub bare-is : (again : Bool) (x : ℕ) (undefined : Bool) (k : VarType) (st : Stack) (p l : Bool) → p ≡ (again || should_prevent_inline_because_of_scope x st) → l ≡ in_loop st → declare_with x (kept def.no_init) none p undefined k none l st ≡ declare again x def.no_init undefined k st
 bare-is again x undefined k st p l ep el =
-    same-with {b = false} {al = none} x (kept def.no_init) (some x) undefined k st (ep ∙ sym (or-false (again || should_prevent_inline_because_of_scope x st))) refl el refl ∙ sym (declare-plain again x def.no_init undefined k x st refl)
+    same-with {b = none} {al = none} x (kept def.no_init) undefined k st (ep ∙ sym (or-false (again || should_prevent_inline_because_of_scope x st))) refl el refl ∙ sym (declare-plain again x def.no_init undefined k st refl)
 
 -- and with the tree at i
 module _ {w : List ℕ} (g : Planted w) {i : ℕ} (h : i < get_or w 0 0) (v : Init) (o : Valued v) (again : Bool) (x m : ℕ) (em : m ≡ count (tree_from (tree w) i)) (undefined : Bool) (k : VarType) (p l : Bool)
@@ -215,14 +199,21 @@ module _ {w : List ℕ} (g : Planted w) {i : ℕ} (h : i < get_or w 0 0) (v : In
   prevented-is : p ≡ (again || should_prevent_inline_because_of_scope x (stack w) || prevented_o (init_of (init_from v t)) (stack w))
   prevented-is = ep ∙ sym (or_assoc again (should_prevent_inline_because_of_scope x (stack w)) (is_inline_prevented t (stack w))) ∙ ap (λ (e : Option Tree). again || should_prevent_inline_because_of_scope x (stack w) || prevented_o e (stack w)) (sym (init-value v t o))
 
-  pub value-is : is_ident t ≡ false → declare_with x (kept (init_at v (run w 16 i m))) (some x) p undefined k none l false (stack w) ≡ declare again x (init_from v t) undefined k (stack w)
+  pub value-is : is_ident t ≡ false → declare_with x (kept (init_at v (run w 16 i m))) none p undefined k none l (stack w) ≡ declare again x (init_from v t) undefined k (stack w)
   value-is e =
-      ap (λ (q : def.Init). declare_with x (kept q) (some x) p undefined k none l false (stack w)) init-is ∙ same-with {b = false} {al = none} x (kept (init_from v t)) (some x) undefined k (stack w) prevented-is refl el refl
-      ∙ sym (declare-plain again x (init_from v t) undefined k x (stack w) (ap ident_of (init-value v t o) ∙ ap (λ (b : Bool). pick b (some (num t)) none) e))
+      ap (λ (q : def.Init). declare_with x (kept q) none p undefined k none l (stack w)) init-is ∙ same-with {b = none} {al = none} x (kept (init_from v t)) undefined k (stack w) prevented-is refl el refl
+      ∙ sym (declare-plain again x (init_from v t) undefined k (stack w) (ap ident_of (init-value v t o) ∙ ap (λ (b : Bool). pick b (some (num t)) none) e))
 
-  pub ident-is : is_ident t ≡ true → (y : ℕ) → y ≡ num t → (al : Option VarType) → al ≡ alias_from (idx_here y (stack w)) → (b : Bool) → b ≡ (works_with k al && barred_here x y (stack w))
-      → declare_with x (kept (init_at v (run w 16 i m))) (some y) p undefined k al l b (stack w) ≡ declare again x (init_from v t) undefined k (stack w)
-  ident-is e y ey al ea b eb =
-      ap (λ (q : def.Init). declare_with x (kept q) (some y) p undefined k al l b (stack w)) init-is
-      ∙ same-with x (kept (init_from v t)) (some y) undefined k (stack w) prevented-is ea el (eb ∙ ap (λ (a : Option VarType). works_with k a && barred_here x y (stack w)) ea)
+  pub ident-is : is_ident t ≡ true → (y : ℕ) → y ≡ num t → (al : Option VarType) → al ≡ alias_from (idx_here y (stack w)) → (bar : Option ℕ) → bar ≡ pick (works_with k al && barred_here x y (stack w)) (some y) none
+      → declare_with x (kept (init_at v (run w 16 i m))) bar p undefined k al l (stack w) ≡ declare again x (init_from v t) undefined k (stack w)
+  ident-is e y ey al ea bar eb =
+      ap (λ (q : def.Init). declare_with x (kept q) bar p undefined k al l (stack w)) init-is
+      ∙ same-with x (kept (init_from v t)) undefined k (stack w) prevented-is ea el (eb ∙ ap (λ (a : Option VarType). pick (works_with k a && barred_here x y (stack w)) (some y) none) ea)
       ∙ sym (declare-ident again x (init_from v t) undefined k y (stack w) (ap ident_of (init-value v t o) ∙ ap (λ (b : Bool). pick b (some (num t)) none) e ∙ ap some (sym ey)))
+
+-- no nodes, and those of the tree at i
+pub offered_none : (w : List ℕ) → Offered w (record { at = 0; len = 0 })
+offered_none w = record { inside = omega arith; one = none-one w }
+
+pub offered-tree : {w : List ℕ} → Planted w → {i : ℕ} → i < get_or w 0 0 → (m : ℕ) → m ≡ count (tree_from (tree w) i) → i + m ≤ get_or w 0 0 → Offered w (record { at = i; len = m })
+offered-tree g h m e l = record { inside = l; one = rw e (subtree-one g h) }

@@ -1,10 +1,10 @@
 -- What a declaration looks up of its init, and of the current scope. Assumes nothing: these are definitions.
-use Rattle.std.specs.Prelude.{[], ◌∷◌, Bool, true, false, ◌&&◌, not, ℕ, ◌<◌, length}
+use Rattle.std.specs.Prelude.{Bool, true, false, ◌&&◌, not, ℕ, ◌<◌}
 use Rattle.std.proofs.Math.Option.{Option}
 use Rattle.def_tree.specs.Tree.{Tree}
 use Rattle.def_pass.specs.Scope as def
 use Rattle.def_pass.specs.Scope.{Stack, place_or, is_param, param_o, barred}
-use Rattle.scope_find.specs.Look.{idx_here, bars_here}
+use Rattle.scope_find.specs.Look.{idx_here, bars_here, bound_here}
 use Rattle.scope_define.specs.declared.Init.{Init}
 use Rattle.scope_define.specs.declared.Init.TheVariants.{NoInit, Recorded, Seen}
 
@@ -30,13 +30,9 @@ has_none NoInit = true
 has_none Recorded = false
 has_none Seen = false
 
--- the bindings of the current scope: how many there are; where x is among them, or would be
-abbrev pub count_here : Stack → ℕ
-count_here [] = 0
-count_here (s ∷ st) = length s.bindings
-
+-- where x is among the bindings of the current scope, or would be
 abbrev pub place_here : ℕ → Stack → ℕ
-place_here x st = place_or (count_here st) (idx_here x st)
+place_here x st = place_or (bound_here st) (idx_here x st)
 
 -- is there a barrier between x and the binding of y
 abbrev pub barred_here : ℕ → ℕ → Stack → Bool

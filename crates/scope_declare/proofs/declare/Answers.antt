@@ -9,11 +9,7 @@ use Rattle.scope_declare.proofs.declare.Goals as goal
 pub returns-then-no_value : goal.returns-then-no_value
 returns-then-no_value c = rw (init.none-init c.args.v (tree_from (tree c.args.w.now) c.args.i) (sym c.no_value.ensures ∙ c.if-no_value.true)) at c.declare_bare.ensures
 
-pub is_ident-requires : goal.is_ident-requires
-is_ident-requires c = (c.requires.0, init.sited-lt c.args.v c.args.i (get_or c.args.w.now 0 0) (sym c.no_value.ensures ∙ c.if-no_value.false) c.requires.1)
-
-pub declare_ident-requires : goal.declare_ident-requires
-declare_ident-requires c = (c.requires.0, init.sited-lt c.args.v c.args.i (get_or c.args.w.now 0 0) (sym c.no_value.ensures ∙ c.if-no_value.false) c.requires.1, init.valued-of c.args.v (sym c.no_value.ensures ∙ c.if-no_value.false), sym c.is_ident.ensures ∙ c.if-is_ident.true)
-
 pub declare_value-requires : goal.declare_value-requires
-declare_value-requires c = (c.requires.0, init.sited-lt c.args.v c.args.i (get_or c.args.w.now 0 0) (sym c.no_value.ensures ∙ c.if-no_value.false) c.requires.1, init.valued-of c.args.v (sym c.no_value.ensures ∙ c.if-no_value.false), sym c.is_ident.ensures ∙ c.if-is_ident.false)
+declare_value-requires c =
+    let e = sym c.no_value.ensures ∙ c.if-no_value.false in
+    (c.requires.0, init.sited-lt c.args.v c.args.i (get_or c.args.w.now 0 0) e c.requires.1, init.valued-of c.args.v e)
