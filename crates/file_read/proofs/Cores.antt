@@ -9,6 +9,7 @@ use native.Mathlib.Numerals.{add-one}
 use native.Mathlib.Omega.{arith}
 use borrow.Author.Tests.{ne_eqb}
 use lib.Dec.{T, eqb, leb, leb→le, ltb, ltb→lt, lit≤}
+use mir.Val.{bool_byte}
 use lib.ListN.{length, get_or, drop, take, set, length-set, length-append, take-append-drop, get_or-eq_default}
 use lib.Seq.{take-suc, take-length, get_or-set_same, get_or-set_other}
 use Rattle.def_tree.specs.Base.{pick, to_nat}
@@ -21,12 +22,14 @@ use Rattle.def_file.specs.declared.Raw.{Raw}
 use Rattle.def_file.specs.declared.kinds.Class.TheVariants.{Root}
 use Rattle.def_file.specs.declared.kinds.Row.{Row}
 use Rattle.def_file.specs.Kinds.{allows, rows, no_row, row_of, form_ok, count_ok, uses_text, uses_bits}
-use Rattle.def_file.specs.Script.{Script, is_lit, has_id, same_id, known, enter, enter_all, idents, place_of, zero_node, is_arguments}
+use Rattle.def_file.specs.Script.{Script, is_lit, has_id, same_id, known, enter, enter_all, idents, place_of, zero_node, text_at, is_arguments}
 use Rattle.def_file.specs.Core.{core_node, core_from, core_nodes}
-use Rattle.def_file.specs.Read.{Place, fields_ok, node_ok, below, fills, nodes_ok}
+use Rattle.def_file.specs.Read.{raw_of, Place, fields_ok, node_ok, below, fills, nodes_ok}
 use Rattle.file_read.specs.Idents.{ids_of, Listed, Texted}
 use Rattle.file_read.specs.Load.{Appended, script_of, Loaded, Loading, Kept}
-use Rattle.file_fields.proofs.Raws.{nodes-length}
+use Rattle.file_fields.specs.Text.{text_in}
+use Rattle.file_fields.proofs.Raws.{nodes-length, node-raw}
+use Rattle.file_fields.proofs.Strings.{count-texts, text-is}
 use Rattle.file_fields.proofs.Tests.{is_T, and_left, and_right}
 use Rattle.file_read.proofs.Names.{same_refl, enter-old, enter-new, ids-same, listed_same, texted-same}
 
@@ -283,6 +286,21 @@ module _ (w : List ℕ) (k kind form arity num : ℕ) (long : 16384 ≤ length w
     last = λ j l. put_other j (λ e. omega (arith, e)) (λ e. omega (arith, e)) (λ e. omega (arith, e));
   }
 
+-- a literal has no identifier
+lit-no-id : (x : Raw) → T (is_lit x) → has_id x ≡ false
+lit-no-id x h =
+    let lo = leb→le 22 x.kind (and_left (leb 22 x.kind) (leb x.kind 25) h) in
+    rw (ne_eqb x.kind 20 (λ e. omega (arith, lo, e)), ne_eqb x.kind 21 (λ e. omega (arith, lo, e))) refl
+
+-- a node with an identifier uses its text
+pub id-text : (x : Raw) → has_id x ≡ true → T (uses_text x.kind)
+id-text x h = go (eqb x.kind 20) (eqb x.kind 21) h
+  where
+    go : (p q : Bool) → (p || q) ≡ true → T (p || q || eqb x.kind 25 || eqb x.kind 29 || eqb x.kind 37)
+    go true q e = tt
+    go false true e = tt
+    go false false e = absurd (is_T false e)
+
 -- one node more is loaded: w₁ has its identifier entered, and w₂ the node appended
 module _ {bs w : List ℕ} {n t k : ℕ} (L : Loading bs w n t k) where
   abbrev s : Script
@@ -293,6 +311,19 @@ module _ {bs w : List ℕ} {n t k : ℕ} (L : Loading bs w n t k) where
 
   long-nodes : k < length s.nodes
   long-nodes = rw nodes-length L.less
+
+  pub loading-read : {y : Raw} → y ≡ raw_of (drop (32 + 16 * k) bs) → y ≡ x
+  loading-read e = e ∙ sym (node-raw n k bs L.less)
+
+  pub loading-sound : Sound (length s.texts) x
+  loading-sound = node-sound s L.readable.ok k long-nodes
+
+  -- a name's text is one of the file's
+  pub loading-text : has_id x ≡ true → x.text < t
+  loading-text h = omega (arith, loading-sound.text (id-text x h), count-texts L.readable.placed)
+
+  pub loading-name : has_id x ≡ true → text_in bs (32 + 16 * n) (32 + 16 * n + 4 * t) x.text ≡ text_at s x.text
+  loading-name h = sym (text-is L.readable.placed x.text (loading-text h))
 
   pub loaded-more : {w₁ w₂ : List ℕ} {c : Core} → c ≡ core_node s (k + 1) x → tree w₁ ≡ tree w → get_or w₁ 0 0 ≡ get_or w 0 0 → ids_of bs w₁ ≡ enter (ids_of bs w) x → Listed w₁ n → Texted bs w₁ → Appended w₁ w₂ c → Loaded bs w₂ n t (k + 1)
   loaded-more {w₁} {w₂} e a b i l v p =
@@ -305,6 +336,15 @@ module _ {bs w : List ℕ} {n t k : ℕ} (L : Loading bs w n t k) where
         listed = listed_same w₁ w₂ n p.size four list l;
         texted = texted-same bs w₁ w₂ four (λ j h. p.last j (omega arith)) v;
       }
+
+  loaded-as : {w₂ : List ℕ} {c : Core} → c ≡ core_node s (k + 1) x → has_id x ≡ false → Appended w w₂ c → Loaded bs w₂ n t (k + 1)
+  loaded-as e z p = loaded-more e refl refl (sym (enter-none (ids_of bs w) x z)) L.loaded.listed L.loaded.texted p
+
+  pub loaded-lit : {w₂ : List ℕ} → is_lit x ≡ true → Appended w w₂ (core 22 0 0 (k + 1)) → Loaded bs w₂ n t (k + 1)
+  loaded-lit lit p = loaded-as (sym (core-lit s (k + 1) x lit)) (lit-no-id x (is_T (is_lit x) lit)) p
+
+  pub loaded-plain : {w₂ : List ℕ} {kind form arity : ℕ} → kind ≡ x.kind → form ≡ x.form → arity ≡ x.arity → is_lit x ≡ false → has_id x ≡ false → Appended w w₂ (core kind form arity (k + 1)) → Loaded bs w₂ n t (k + 1)
+  loaded-plain q f a lit z p = loaded-as (rw (q, f, a) (sym (core-plain s (k + 1) x lit z))) z p
 
   -- the number that its identifier has in the end
   pub number-final : has_id x ≡ true → place_of x (idents s) ≡ place_of x (enter (ids_of bs w) x)
@@ -321,35 +361,21 @@ kept_by {w} {w'} z h = record { size = z; rest = beyond-same w w' z (λ j l. h j
 pub kept_then : {w w₁ w₂ : List ℕ} → Kept w w₁ → Kept w₁ w₂ → Kept w w₂
 kept_then a b = record { size = b.size ∙ a.size; rest = b.rest ∙ a.rest }
 
--- a literal has no identifier
-pub lit-no-id : (x : Raw) → T (is_lit x) → has_id x ≡ false
-lit-no-id x h =
-    let lo = leb→le 22 x.kind (and_left (leb 22 x.kind) (leb x.kind 25) h) in
-    rw (ne_eqb x.kind 20 (λ e. omega (arith, lo, e)), ne_eqb x.kind 21 (λ e. omega (arith, lo, e))) refl
-
--- a node with an identifier uses its text
-pub id-text : (x : Raw) → has_id x ≡ true → T (uses_text x.kind)
-id-text x h = go (eqb x.kind 20) (eqb x.kind 21) h
-  where
-    go : (p q : Bool) → (p || q) ≡ true → T (p || q || eqb x.kind 25 || eqb x.kind 29 || eqb x.kind 37)
-    go true q e = tt
-    go false true e = tt
-    go false false e = absurd (is_T false e)
-
 pub kept-mid : {w w' : List ℕ} → length w' ≡ length w → ((j : ℕ) → 16016 ≤ j → get_or w' j 0 ≡ get_or w j 0) → Kept w w'
 kept-mid {w} {w'} z h = record { size = z; rest = beyond-same w w' z (λ j l. h j (omega arith)) }
 
-pub flag_small : (b : Bool) → to_nat b < 32
-flag_small true = omega arith
-flag_small false = omega arith
-
 -- a node with an identifier, as it is loaded
-pub core-ident : (s : Script) (n : ℕ) {raw : Raw} (x : Raw) {form j : ℕ} → raw ≡ x → has_id x ≡ true → form ≡ to_nat (is_arguments s x) → j ≡ place_of x (idents s) → core raw.kind form raw.arity j ≡ core_node s n x
-core-ident s n {raw} x {form} {j} e h p q = rw (e, p, q) (sym (core-id s n x (not-lit (is_lit x) refl) h))
+pub core-ident : (s : Script) (n : ℕ) (x : Raw) {kind form arity j : ℕ} → kind ≡ x.kind → has_id x ≡ true → form ≡ to_nat (is_arguments s x) → arity ≡ x.arity → j ≡ place_of x (idents s) → core kind form arity j ≡ core_node s n x
+core-ident s n x k h p a q = rw (k, p, a, q) (sym (core-id s n x (not-lit (is_lit x) refl) h))
   where
     not-lit : (b : Bool) → is_lit x ≡ b → is_lit x ≡ false
     not-lit true z = absurd (is_T false (sym (lit-no-id x (is_T (is_lit x) z)) ∙ h))
     not-lit false z = z
+
+-- a flag is 1 or 0
+pub flag_to_nat : (b : Bool) → bool_byte b ≡ to_nat b
+flag_to_nat true = refl
+flag_to_nat false = refl
 
 -- no node is loaded yet: the words of the texts are wiped, and the two counts are 0
 module _ {w w₁ : List ℕ} (long : 16384 ≤ length w) (z : Zeroed w w₁ 15760 256) where

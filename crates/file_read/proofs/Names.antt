@@ -128,6 +128,22 @@ text-other {bs} {w} X x i l h =
     let y = numbered bs (get_or w (15504 + i) 0) in
     ap {B = Bool} (λ (c : Bool). c && eqb x.bits y.bits) (ne_eqb x.text y.text (λ e. ⊎_elim (λ (z : get_or w (15760 + x.text) 0 ≡ 0). omega (arith, X.some i l, rw e at z)) (λ (z : i + 1 < get_or w (15760 + x.text) 0). omega (arith, X.first i l, rw e at z)) h))
 
+-- so the search for x begins at that word, or finds nothing
+module _ {bs w : List ℕ} (X : Texted bs w) (x : Raw) where
+  pub first-none : get_or w (15760 + x.text) 0 ≡ 0 → known x (ids_of bs w) ≡ false
+  first-none z =
+      let ids = ids_of bs w in
+      let len = ids-length bs w in
+      let none : (i : ℕ) → i < length ids → same_id x (get_or ids i zero_node) ≡ false = λ i l. let h : i < get_or w 4 0 = omega arith in ap (same_id x) (ids_at bs w i h) ∙ text-other X x i h (inl z) in
+      known-no x ids (omega (arith, place-skip x ids (length ids) (omega arith) none))
+
+  pub first-from : (j : ℕ) → x.text < 256 → j + 1 ≡ get_or w (15760 + x.text) 0 → place_of x (ids_of bs w) ≡ j + place_of x (drop j (ids_of bs w))
+  first-from j small e =
+      let ids = ids_of bs w in
+      let len = ids-length bs w in
+      let high = X.high x.text small in
+      place-skip x ids j (omega arith) (λ i l. let h : i < get_or w 4 0 = omega arith in ap (same_id x) (ids_at bs w i h) ∙ text-other X x i h (inr (omega arith)))
+
 -- the list where the word of a text is set
 module _ {w w' : List ℕ} {t v : ℕ} (F : FirstSet w w' t v) where
   pub first_count : get_or w' 4 0 ≡ get_or w 4 0

@@ -13,29 +13,27 @@ use Rattle.def_file.specs.Script.{Script, idents, enter_all}
 use Rattle.def_file.specs.Core.{core_nodes}
 use Rattle.def_file.specs.Read.{Read, bad, script, read, u32, parts, checked, rising, distinct, nodes_ok, fills, nodes_from, ends_from}
 use Rattle.file_read.specs.declared.header.Header.{Header}
-use Rattle.file_read.specs.declared.header.Head.{Head}
-use Rattle.file_read.specs.declared.header.Head.TheVariants.{Found, Refused as NoHead}
-use Rattle.file_read.specs.declared.read.Answer.{Answer}
+use Rattle.std.proofs.Common.{Result, Ok, Err}
+use Rattle.refusal.specs.declared.Refusal.{Refusal}
+use Rattle.refusal.specs.declared.Refusal.TheVariants as Row
+use Rattle.refusal.specs.Number.{number}
 use Rattle.file_preorder.specs.Child.{root_place}
 use Rattle.file_fields.specs.Text.{Placed, texts_of}
 use Rattle.file_read.specs.Idents.{ids_of, Listed}
-use Rattle.file_read.specs.Head.{HeadIs, headed, Headed, Counts}
-use Rattle.file_read.specs.Load.{script_of, Readable, Loaded, Next, Kept}
-use Rattle.file_read.specs.Reading.{CheckIs, Held, counts_of, told, Left, LoadIs, After, WordsAre, ReadIs}
+use Rattle.file_read.specs.Head.{HeadIs, Counts}
+use Rattle.file_read.specs.Load.{script_of, Readable, Loaded, Done, Kept}
+use Rattle.file_read.specs.Reading.{CheckIs, Held, counts_of, Told, Left, LoadIs, After, WordsAre, ReadIs}
 use Rattle.file_fields.proofs.Raws.{nodes-length}
 use Rattle.file_fields.proofs.Strings.{count-texts}
 use Rattle.file_read.proofs.Names.{ids-length}
 use Rattle.file_read.proofs.Cores.{core_all}
 
 -- after the header
-pub read-not : {bs : List ℕ} {r : Head} (m : ℕ) → HeadIs bs r → r ≡ NoHead m → read bs ≡ bad m
+pub read-not : {bs : List ℕ} {m : Refusal} → HeadIs bs (Err m) → read bs ≡ bad (number m)
 unfolding read
-read-not {bs} m f e = f.is (parts (u32 bs 8) (u32 bs 16) (u32 bs 28) bs) ∙ ap (λ (h : Head). headed h (parts (u32 bs 8) (u32 bs 16) (u32 bs 28) bs)) e
+read-not {bs} f = f.is (parts (u32 bs 8) (u32 bs 16) (u32 bs 28) bs)
 
-pub found-counts : {bs : List ℕ} {r : Head} (h : Header) → HeadIs bs r → r ≡ Found h → Counts bs h
-found-counts {bs} h f e = subst (Headed bs) e f.counts
-
-module _ {bs : List ℕ} {r : Head} (h : Header) (f : HeadIs bs r) (e : r ≡ Found h) where
+module _ {bs : List ℕ} {h : Header} (f : HeadIs bs (Ok h)) where
   abbrev n : ℕ
   n = h.nodes
 
@@ -49,12 +47,12 @@ module _ {bs : List ℕ} {r : Head} (h : Header) (f : HeadIs bs r) (e : r ≡ Fo
   from = 32 + 16 * n + 4 * t
 
   pub counts : Counts bs h
-  counts = found-counts h f e
+  counts = f.counts
 
   to-parts : read bs ≡ parts n t h.bytes bs
   unfolding read
   to-parts =
-      f.is (parts (u32 bs 8) (u32 bs 16) (u32 bs 28) bs) ∙ ap (λ (h : Head). headed h (parts (u32 bs 8) (u32 bs 16) (u32 bs 28) bs)) e
+      f.is (parts (u32 bs 8) (u32 bs 16) (u32 bs 28) bs)
       ∙ sym (ap (λ (m : ℕ). parts m h.texts h.bytes bs) counts.nodes ∙ ap (λ (m : ℕ). parts (u32 bs 8) m h.bytes bs) counts.texts ∙ ap (λ (m : ℕ). parts (u32 bs 8) (u32 bs 16) m bs) counts.bytes)
 
   rises : Bool
@@ -93,7 +91,7 @@ module _ {bs : List ℕ} {r : Head} (h : Header) (f : HeadIs bs r) (e : r ≡ Fo
     pub not-nodes : fills t (root_place ∷ []) (nodes_from n (drop 32 bs)) ≡ false → read bs ≡ bad 6
     not-nodes o = to-checked ∙ ap {B = Read} (λ (b : Bool). elim b [ false ↦ bad 6 | true ↦ elim (leb (length (idents (script_of bs n t))) 256) [ false ↦ bad 7 | true ↦ script (script_of bs n t) ] ]) (same_ok ∙ o)
 
-    pub passed : fills t (root_place ∷ []) (nodes_from n (drop 32 bs)) ≡ true → CheckIs bs (Found h)
+    pub passed : fills t (root_place ∷ []) (nodes_from n (drop 32 bs)) ≡ true → CheckIs bs (Ok h)
     passed o = (
       counts,
       record { some = counts.some; few = counts.few; placed = placed p; ok = same_ok ∙ o },
@@ -123,19 +121,19 @@ module _ {bs w : List ℕ} {n t : ℕ} (R : Readable bs n t) (l : Loaded bs w n 
     listed = subst (λ (m : ℕ). Listed w m) (sym all-nodes) l.listed;
   }
 
--- the three ends of loading
-load_is : {bs w w' : List ℕ} {r : Answer} (x : Read) → read bs ≡ x → r ≡ told bs x → Left bs w' x → Kept w w' → LoadIs bs w w' r
-load_is {bs} {w} {w'} x e a l k = record { answer = a ∙ ap (told bs) (sym e); words = subst (Left bs w') (sym e) l; kept = k }
+-- the ends of loading
+load_is : {bs w w' : List ℕ} {r : Result Header Refusal} (x : Read) → read bs ≡ x → Told bs x r → Left bs w' x → Kept w w' → LoadIs bs w w' r
+load_is {bs} {w} {w'} {r} x e a l k = record { answer = subst (λ (y : Read). Told bs y r) (sym e) a; words = subst (Left bs w') (sym e) l; kept = k }
 
-module _ {bs w w' : List ℕ} (h : Header) (C : CheckIs bs (Found h)) (k : Kept w w') where
+module _ {bs : List ℕ} {h : Header} (C : CheckIs bs (Ok h)) where
   abbrev s₀ : Script
   s₀ = script_of bs h.nodes h.texts
 
   row7 : (b : Bool) → leb (length (idents s₀)) 256 ≡ b → read bs ≡ elim b [ false ↦ bad 7 | true ↦ script s₀ ]
   row7 b e = C.2 ∙ ap {B = Read} (λ (b : Bool). elim b [ false ↦ bad 7 | true ↦ script s₀ ]) e
 
-  pub loaded-script : Next bs w' h.nodes h.texts h.nodes true → LoadIs bs w w' (Answer.Script h)
-  loaded-script l = load_is (script s₀) (row7 true (le-leb (length (idents s₀)) 256 (few-ids C.1 l))) (ap Answer.Script same) (held C.1 l) k
+  pub loaded-script : {w w' : List ℕ} → Done bs w w' h.nodes h.texts (Ok tt) → LoadIs bs w w' (Ok h)
+  loaded-script d = load_is (script s₀) (row7 true (le-leb (length (idents s₀)) 256 (few-ids C.1 d.next))) (s₀, refl, same) (held C.1 d.next) d.kept
     where
       triple : {a a' b b' c c' : ℕ} → a ≡ a' → b ≡ b' → c ≡ c' → ◌≡◌ {A = Header} (record { nodes = a; texts = b; bytes = c }) (record { nodes = a'; texts = b'; bytes = c' })
       triple p q r = cc
@@ -143,49 +141,26 @@ module _ {bs w w' : List ℕ} (h : Header) (C : CheckIs bs (Found h)) (k : Kept 
       same : h ≡ counts_of bs s₀
       same = triple (sym (nodes-length h.nodes (drop 32 bs))) (sym (count-texts C.1.placed)) C.0.bytes
 
-  pub loaded-over : Next bs w' h.nodes h.texts h.nodes false → LoadIs bs w w' (Answer.Refused 7)
-  loaded-over l = load_is (bad 7) (row7 false (lt-leb (length (idents s₀)) 256 l)) refl tt k
+  pub loaded-over : {w w' : List ℕ} {m : Refusal} → Done bs w w' h.nodes h.texts (Err m) → LoadIs bs w w' (Err m)
+  loaded-over d = rw d.next.0 (load_is (bad 7) (row7 false (lt-leb (length (idents s₀)) 256 d.next.1)) refl tt d.kept)
 
-pub loaded-not : {bs w : List ℕ} (m : ℕ) → CheckIs bs (NoHead m) → LoadIs bs w w (Answer.Refused m)
-loaded-not m e = load_is (bad m) e refl tt (record { size = refl; rest = refl })
+pub loaded-not : {bs w : List ℕ} {m : Refusal} → CheckIs bs (Err m) → LoadIs bs w w (Err m)
+loaded-not {m = m} e = load_is (bad (number m)) e refl tt (record { size = refl; rest = refl })
 
--- and of reading
-module _ {bs w w₁ : List ℕ} {r : Answer} (long : 16384 ≤ length w) (L : LoadIs bs w w₁ r) where
-  enough : leb 16384 (length w) ≡ true
-  enough = le-leb 16384 (length w) long
+-- and of reading: with enough words row 1 passes
+answer_is : {bs w w' : List ℕ} {r : Result Header Refusal} → 16384 ≤ length w → Told bs (read bs) r → After bs w w' (read bs) → ReadIs bs w w' r
+answer_is {bs} {w} {w'} {r} long a h =
+    let enough = sym (le-leb 16384 (length w) long) in
+    record { answer = subst (λ (b : Bool). Told bs (elim b [ false ↦ bad 1 | true ↦ read bs ]) r) enough a; words = subst (WordsAre bs w w') enough h }
 
-  -- what was read, by the answer
-  by_answer : (x : Read) → read bs ≡ x → LoadIs bs w w₁ r → (r ≡ told bs x) × Left bs w₁ x
-  by_answer x e l = (l.answer ∙ ap (told bs) e, subst (Left bs w₁) e l.words)
+pub read-script : {bs w w' : List ℕ} {h : Header} → 16384 ≤ length w → LoadIs bs w w' (Ok h) → ReadIs bs w w' (Ok h)
+read-script {bs} {w} {w'} long L = answer_is long L.answer (subst (After bs w w') (sym L.answer.1) (subst (Left bs w') L.answer.1 L.words, L.kept))
 
-  pub read-script : (h : Header) → r ≡ Answer.Script h → ReadIs bs w w₁ (Answer.Script h)
-  read-script h q = go (read bs) refl (by_answer (read bs) refl L)
-    where
-      go : (x : Read) → read bs ≡ x → (r ≡ told bs x) × Left bs w₁ x → ReadIs bs w w₁ (Answer.Script h)
-      go (bad m) e p = absurd (not-both m h (sym p.0 ∙ q))
-        where
-          not-both : (m : ℕ) (h : Header) → Answer.Refused m ≡ Answer.Script h → ⊥
-          not-both m h z = let y : ◌≡◌ {A = ℕ} 0 1 = cc in omega arith
-      go (script s) e p = record {
-        answer = sym q ∙ L.answer ∙ sym (ap {B = Answer} (λ (b : Bool). elim b [ false ↦ Answer.Refused 1 | true ↦ told bs (read bs) ]) enough);
-        words = subst (WordsAre bs w w₁) (sym enough) (subst (After bs w w₁) (sym e) (p.1, L.kept));
-      }
+pub read-refused : {bs w w₁ w₂ : List ℕ} {m : Refusal} → 16384 ≤ length w → LoadIs bs w w₁ (Err m) → Cleared w₁ w₂ → ReadIs bs w w₂ (Err m)
+read-refused {bs} {w} {w₁} {w₂} long L c = answer_is long L.answer (subst (After bs w w₂) (sym L.answer) (record { size = c.size ∙ L.kept.size; here = c.here; rest = c.rest ∙ L.kept.rest }))
 
-  pub read-refused : {w₂ : List ℕ} (m : ℕ) → r ≡ Answer.Refused m → Cleared w₁ w₂ → ReadIs bs w w₂ (Answer.Refused m)
-  read-refused {w₂} m q c = go (read bs) refl (by_answer (read bs) refl L)
-    where
-      go : (x : Read) → read bs ≡ x → (r ≡ told bs x) × Left bs w₁ x → ReadIs bs w w₂ (Answer.Refused m)
-      go (bad j) e p = record {
-        answer = sym q ∙ L.answer ∙ sym (ap {B = Answer} (λ (b : Bool). elim b [ false ↦ Answer.Refused 1 | true ↦ told bs (read bs) ]) enough);
-        words = subst (WordsAre bs w w₂) (sym enough) (subst (After bs w w₂) (sym e) (record { size = c.size ∙ L.kept.size; here = c.here; rest = c.rest ∙ L.kept.rest }));
-      }
-      go (script s) e p = absurd (not-both m (counts_of bs s) (sym q ∙ p.0))
-        where
-          not-both : (m : ℕ) (h : Header) → Answer.Refused m ≡ Answer.Script h → ⊥
-          not-both m h z = let y : ◌≡◌ {A = ℕ} 0 1 = cc in omega arith
-
-pub read_short : {bs w : List ℕ} → length w < 16384 → ReadIs bs w w (Answer.Refused 1)
+pub read_short : {bs w : List ℕ} → length w < 16384 → ReadIs bs w w (Err Row.Call)
 read_short {bs} {w} h = record {
-  answer = sym (ap {B = Answer} (λ (b : Bool). elim b [ false ↦ Answer.Refused 1 | true ↦ told bs (read bs) ]) (lt-leb 16384 (length w) h));
+  answer = ap {B = Read} (λ (b : Bool). elim b [ false ↦ bad 1 | true ↦ read bs ]) (lt-leb 16384 (length w) h);
   words = subst (WordsAre bs w w) (sym (lt-leb 16384 (length w) h)) refl;
 }

@@ -5,7 +5,7 @@ ghost use Rattle.file_read.specs.Load.{Appended, Named, Readable, Loading, Step,
 
 use crate::idents::enter;
 use file_fields::fields::raw_at;
-use file_fields::texts::{same_text, text};
+use file_fields::texts::text;
 use refusal::Refusal;
 use words::{layout, wipe};
 
@@ -28,7 +28,7 @@ fn load_ident(file: &[u8], words: &mut [u32], n: usize, t: usize, k: usize) -> R
     let ends = 32 + 16 * n;
     let bytes = ends + 4 * t;
     let name = text(file, ends, bytes, x.text as usize);
-    let arguments = same_text(name, b"arguments");
+    let arguments = name == b"arguments".as_slice();
     let j = enter(file, words, n, k).ok_or(Refusal::Idents)?;
     put_node(
         words,

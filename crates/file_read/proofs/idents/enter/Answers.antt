@@ -1,51 +1,40 @@
 -- `file_read::idents::enter` meets its contract: a known identifier changes nothing, a new one is listed last. Assumes nothing.
-use mathlib.Core.Path.{◌≡◌, refl, sym, ap, ◌∙◌}
-use native.Mathlib.Omega.{arith}
-use mathlib.Core.List.{[], ◌∷◌, ◌++◌}
-use Prim.Native.Nat.{ℕ, ◌+◌, ◌-◌, ◌*◌, ◌<◌}
-use lib.ListN.{get_or, drop, set, length-set, length-append}
+use Rattle.std.proofs.Common.{◌≡◌, ℕ, ◌+◌, ◌-◌, ◌*◌, ◌<◌, [], ◌∷◌, ◌++◌, get_or, drop, set, length-set, length-append, refl, sym, ap, ◌∙◌, arith}
 use Rattle.def_file.specs.declared.Raw.{Raw}
 use Rattle.def_file.specs.Script.{place_of}
 use Rattle.def_file.specs.Read.{raw_of}
 use Rattle.file_read.specs.Idents.{numbered, ids_of}
-use Rattle.file_read.proofs.Names.{text-field, ids-length, ids-same, listed_same, first_count, first-list, known-yes, known-no, enter-old, enter-new, place-new, more-size, more-other, more-ids, more-count, more-listed, more-texted}
+use Rattle.file_read.proofs.Names.{text-field, ids-length, ids-same, listed_same, first_count, first-list, known-yes, enter-old, enter-new, place-new, more-size, more-other, more-ids, more-count, more-listed, more-texted}
 use Rattle.file_read.proofs.idents.enter.Goals as goal
 
 minus : (k : ℕ) → k + 1 - 1 ≡ k
 minus k = omega arith
 
-pub returns-then-j-count : goal.returns-then-j-count
-returns-then-j-count c =
+pub overflow_cast-result : goal.overflow_cast-result
+overflow_cast-result c = omega (arith, c.in-Some.ensures.0, ids-length c.args.file.now c.args.words.now, c.requires.0.few)
+
+pub returns-in-Some : goal.returns-in-Some
+returns-in-Some c =
     let a = c.args in
-    let p = c.requires in
-    let L = p.0 in
-    let bs = a.file.now in
-    let w = a.words.now in
-    let x = raw_of (drop (32 + 16 * a.k) bs) in
-    let ids = ids_of bs w in
-    let len = ids-length bs w in
-    let at : c.place_of-j.result ≡ place_of x ids = c.place_of-j.ensures in
-    let old = enter-old ids x (known-yes x ids (omega (arith, at, c.if-j-count.true))) in
+    let x = raw_of (drop (32 + 16 * a.k) a.file.now) in
+    let ids = ids_of a.file.now a.words.now in
+    let at = c.in-Some.ensures in
+    let old = enter-old ids x (known-yes x ids (omega (arith, at.0, at.1))) in
     record {
       size = refl;
       first = λ j l h. refl;
       mid = λ j l h. refl;
       last = λ j l. refl;
-      case = (sym old, at ∙ ap (place_of x) (sym old), L, p.5);
+      case = (sym old, at.1 ∙ ap (place_of x) (sym old), c.requires.0, c.requires.5);
     }
 
 pub returns-then-count-eq256 : goal.returns-then-count-eq256
 returns-then-count-eq256 c =
     let a = c.args in
-    let p = c.requires in
-    let L = p.0 in
-    let bs = a.file.now in
-    let w = a.words.now in
-    let x = raw_of (drop (32 + 16 * a.k) bs) in
-    let ids = ids_of bs w in
-    let len = ids-length bs w in
-    let at : c.place_of-j.result ≡ place_of x ids = c.place_of-j.ensures in
-    let new = enter-new ids x p.4 (known-no x ids (omega (arith, at, c.if-j-count.false))) in
+    let x = raw_of (drop (32 + 16 * a.k) a.file.now) in
+    let ids = ids_of a.file.now a.words.now in
+    let len = ids-length a.file.now a.words.now in
+    let new = enter-new ids x c.requires.4 c.in_default.ensures in
     record {
       size = refl;
       first = λ j l h. refl;
@@ -54,17 +43,8 @@ returns-then-count-eq256 c =
       case = rw new (simp length-append (omega (arith, len, c.if-count-eq256.true)));
     }
 
-pub bounds-words-4-2 : goal.bounds-words-4-2
-bounds-words-4-2 c = simp length-set (omega (arith, c.requires.0.long))
-
 pub set_first-requires : goal.set_first-requires
-set_first-requires c =
-    let bs = c.args.file.now in
-    let text : (raw_of (drop (32 + 16 * c.args.k) bs)).text ≡ c.u32_at-t.result = text-field bs (32 + 16 * c.args.k) ∙ sym c.u32_at-t.ensures in
-    (simp length-set c.requires.0.long, omega (arith, c.requires.6))
-
-pub shape_of-words : goal.shape_of-words
-shape_of-words c = c.set_first.ensures.size ∙ simp length-set
+set_first-requires c = (simp length-set c.requires.0.long, omega (arith, c.u32_at-t.ensures, text-field c.args.file.now (32 + 16 * c.args.k), c.requires.6))
 
 pub returns : goal.returns
 returns c =
@@ -75,9 +55,7 @@ returns c =
     let w = a.words.now in
     let x = raw_of (drop (32 + 16 * a.k) bs) in
     let ids = ids_of bs w in
-    let len = ids-length bs w in
-    let at : c.place_of-j.result ≡ place_of x ids = c.place_of-j.ensures in
-    let no = known-no x ids (omega (arith, at, c.if-j-count.false)) in
+    let no = c.in_default.ensures in
     let new = enter-new ids x p.4 no in
     let room : get_or w 4 0 < 256 = omega (arith, L.few) in
     let same : numbered bs (a.k + 1) ≡ x = ap (λ (m : ℕ). raw_of (drop (32 + 16 * m) bs)) (minus a.k) in
@@ -95,7 +73,7 @@ returns c =
       last = λ j l. other j (λ z. omega (arith, z)) (λ z. omega (arith, z)) (λ z. omega (arith, z));
       case = (
         ids-same bs w₁ w₂ (first_count F) list ∙ more-ids bs w a.n (a.k + 1) L room ∙ ap (λ (y : Raw). ids ++ (y ∷ [])) same ∙ sym new,
-        sym (len) ∙ sym (ap (place_of x) new ∙ place-new x ids no),
+        sym (ids-length bs w) ∙ sym (ap (place_of x) new ∙ place-new x ids no),
         listed_same w₁ w₂ a.n F.size (first_count F) list (more-listed bs w a.n (a.k + 1) L room (omega arith) (omega (arith, p.3))),
         more-texted bs w a.n (a.k + 1) L room small (ap (λ (y : Raw). y.text) same ∙ text) p.5 F,
       );

@@ -1,32 +1,18 @@
 -- `file_read::read::load_file` meets its contract. Assumes nothing.
-use mathlib.Core.Path.{subst}
-use Rattle.file_read.specs.Load.{Next}
-use Rattle.file_read.specs.Reading.{CheckIs}
+use Rattle.std.proofs.lemmas.Result.{err_from_is_err_and}
 use Rattle.file_read.proofs.Readings.{loaded-script, loaded-over, loaded-not}
 use Rattle.file_read.proofs.read.load_file.Goals as goal
 
 pub load-requires : goal.load-requires
-load-requires c =
-    let C = subst (CheckIs c.args.file.now) c.in-Found.is c.check-head.ensures in
-    (C.1, c.requires)
+load-requires c = (c.in_ok-h.ensures.1, c.requires)
 
-pub returns-then-load : goal.returns-then-load
-returns-then-load c =
-    let bs = c.args.file.now in
-    let q = c.in-Found.is in
-    let C = subst (CheckIs bs) q c.check-head.ensures in
-    let d = c.load.ensures in
-    let h = c.in-Found.h in
-    loaded-script h C d.kept (subst (Next bs c.load.new.words h.nodes h.texts h.nodes) c.if-load.true d.next)
+pub returns-in_err-h : goal.returns-in_err-h
+returns-in_err-h c = let e = err_from_is_err_and c.from_residual.result c.from_residual.ensures.1 in rw (e.1, e.2) (loaded-not c.in_err-h.ensures)
 
-pub returns-else-load : goal.returns-else-load
-returns-else-load c =
-    let bs = c.args.file.now in
-    let q = c.in-Found.is in
-    let C = subst (CheckIs bs) q c.check-head.ensures in
-    let d = c.load.ensures in
-    let h = c.in-Found.h in
-    loaded-over h C d.kept (subst (Next bs c.load.new.words h.nodes h.texts h.nodes) c.if-load.false d.next)
+pub returns-in_err-load : goal.returns-in_err-load
+returns-in_err-load c =
+    let e = err_from_is_err_and c.from_residual-in_err-load.result c.from_residual-in_err-load.ensures.1 in
+    rw (e.1, e.2) (loaded-over c.in_ok-h.ensures c.in_err-load.ensures)
 
-pub returns-in-Refused : goal.returns-in-Refused
-returns-in-Refused c = loaded-not _ (subst (CheckIs c.args.file.now) c.in-Refused.is c.check-head.ensures)
+pub returns : goal.returns
+returns c = loaded-script c.in_ok-h.ensures c.in_ok-load.ensures
