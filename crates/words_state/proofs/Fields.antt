@@ -8,6 +8,11 @@ use lib.Seq.{get_or-set_same, get_or-set_other}
 use Rattle.words.specs.Layout.{yes, tree}
 use Rattle.words.proofs.Nodes.{tree-same, tree-length, beyond-same}
 use mathlib.Core.Bool.{Bool}
+use mathlib.Core.Logic.{⊎_elim}
+use lib.Dec.{eqb}
+use borrow.Author.Tests.{eq-eqb, ne_eqb}
+use Rattle.def_tree.specs.Base.{pick}
+use Rattle.words.specs.Tab.{same_or_not}
 use Rattle.def_tree.specs.Tree.{Core}
 use Rattle.def_pass.specs.Scope.{Stack, VarType}
 use Rattle.def_pass.specs.Walk.{St, PatMode, set_stack, set_nodes}
@@ -17,6 +22,29 @@ use Rattle.words_nodes.specs.Nodes.{Planted, Replants}
 use Rattle.words_nodes.proofs.Apart.{Beside, beside-stack, beside-good, becomes-planted}
 use Rattle.words_state.specs.State.{mode_of, rest, Ok, Turns}
 
+-- a visitor, field by field
+pub st-eq : {a a' : Stack} {b b' c c' d d' g g' : Bool} {e e' : VarType} {f f' : PatMode} {h h' i i' : ℕ} {k k' : ℕ → Bool} {m m' n n' : ℕ} → a ≡ a' → b ≡ b' → c ≡ c' → d ≡ d' → e ≡ e' → f ≡ f' → g ≡ g' → h ≡ h' → i ≡ i' → k ≡ k' → m ≡ m' → n ≡ n'
+    → ◌≡◌ {A = St} (record { stack = a; changed = b; inlining = c; is_first_run = d; var_decl_kind = e; pat_mode = f; in_test = g; conds = h; nodes = i; targeted = k; ended = m; replaced = n })
+    (record { stack = a'; changed = b'; inlining = c'; is_first_run = d'; var_decl_kind = e'; pat_mode = f'; in_test = g'; conds = h'; nodes = i'; targeted = k'; ended = m'; replaced = n' })
+st-eq p q r s t u v x y z b c = cc
+
+-- the state by its words 0 and 5 to 13
+abbrev pub rest_by : (ℕ → ℕ) → Stack → (ℕ → Bool) → St
+rest_by f st tg = record {
+  stack = st;
+  changed = yes (f 5);
+  inlining = yes (f 6);
+  is_first_run = yes (f 7);
+  var_decl_kind = var_type_of (f 8);
+  pat_mode = mode_of (f 9);
+  in_test = yes (f 10);
+  conds = f 11;
+  nodes = f 0;
+  targeted = tg;
+  ended = f 12;
+  replaced = f 13;
+}
+
 -- one word of 5 to 13 stored
 module _ (w : List ℕ) (P : Planted w) (k v : ℕ) (lo : 5 ≤ k) (hi : k ≤ 13) where
   abbrev w' : List ℕ
@@ -25,16 +53,19 @@ module _ (w : List ℕ) (P : Planted w) (k v : ℕ) (lo : 5 ≤ k) (hi : k ≤ 1
   other : (j : ℕ) → (j ≡ k → ⊥) → get_or w' j 0 ≡ get_or w j 0
   other j e = get_or-set_other w k j v 0 e
 
-  pub here : get_or (set w k v) k 0 ≡ v
-  here = get_or-set_same w k v 0 (omega (arith, P.good.long))
+  word : (j : ℕ) → get_or w' j 0 ≡ pick (eqb j k) v (get_or w j 0)
+  word j = ⊎_elim
+      (λ (e : j ≡ k). rw (e, eq-eqb k k refl) (get_or-set_same w k v 0 (omega (arith, P.good.long))))
+      (λ (d : j ≡ k → ⊥). rw (ne_eqb j k d) (other j d))
+      (same_or_not j k)
 
   beside : Beside w w'
   beside = record { size = simp length-set; counts = λ j l h. other j (λ e. omega (arith, e)); high = λ j l. other j (λ e. omega (arith, e)) }
 
-  pub field-tree : tree (set w k v) ≡ tree w
+  field-tree : tree w' ≡ tree w
   field-tree = tree-same w w' P.good.nodes (other 0 (λ e. omega (arith, e))) (λ j l h. other j (λ e. omega (arith, e)))
 
-  pub field-ok : Ok w (set w k v)
+  field-ok : Ok w w'
   field-ok = record {
     planted = record { good = beside-good P.good beside (rw (other 0 (λ e. omega (arith, e))) P.good.nodes) (rw field-tree P.good.names); one = rw field-tree P.one };
     size = simp length-set;
@@ -44,20 +75,13 @@ module _ (w : List ℕ) (P : Planted w) (k v : ℕ) (lo : 5 ≤ k) (hi : k ≤ 1
     rest = beyond-same w w' (simp length-set) (λ j l. other j (λ e. omega (arith, e)));
   }
 
-  pub field-stack : stack (set w k v) ≡ stack w
-  field-stack = beside-stack P.good beside
+  field-rest : rest w' ≡ rest_by (λ j. pick (eqb j k) v (get_or w j 0)) (stack w) (targeted w)
+  unfolding rest
+  field-rest = st-eq (beside-stack P.good beside) (ap yes (word 5)) (ap yes (word 6)) (ap yes (word 7)) (ap var_type_of (word 8)) (ap mode_of (word 9)) (ap yes (word 10)) (word 11) (word 0) (targeted-same w w' (λ j l h. other j (λ e. omega (arith, e)))) (word 12) (word 13)
 
-  pub field-targeted : targeted (set w k v) ≡ targeted w
-  field-targeted = targeted-same w w' (λ j l h. other j (λ e. omega (arith, e)))
-
-  pub field-other : (j : ℕ) → (j ≡ k → ⊥) → get_or (set w k v) j 0 ≡ get_or w j 0
-  field-other j e = other j e
-
--- a visitor, field by field
-pub st-eq : {a a' : Stack} {b b' c c' d d' g g' : Bool} {e e' : VarType} {f f' : PatMode} {h h' i i' : ℕ} {k k' : ℕ → Bool} {m m' n n' : ℕ} → a ≡ a' → b ≡ b' → c ≡ c' → d ≡ d' → e ≡ e' → f ≡ f' → g ≡ g' → h ≡ h' → i ≡ i' → k ≡ k' → m ≡ m' → n ≡ n'
-    → ◌≡◌ {A = St} (record { stack = a; changed = b; inlining = c; is_first_run = d; var_decl_kind = e; pat_mode = f; in_test = g; conds = h; nodes = i; targeted = k; ended = m; replaced = n })
-    (record { stack = a'; changed = b'; inlining = c'; is_first_run = d'; var_decl_kind = e'; pat_mode = f'; in_test = g'; conds = h'; nodes = i'; targeted = k'; ended = m'; replaced = n' })
-st-eq p q r s t u v x y z b c = cc
+  -- the step: the word's own field is changed, and no other
+  pub field-turns : {s : St} → rest_by (λ j. pick (eqb j k) v (get_or w j 0)) (stack w) (targeted w) ≡ s → Turns w (set w k v) s
+  field-turns e = record { ok = field-ok; nodes = field-tree; is = field-rest ∙ e }
 
 -- the scopes became st, and nothing else changed
 pub becomes-rest : {w u : List ℕ} {st : Stack} → Planted w → get_or u 0 0 ≡ get_or w 0 0 → Becomes w u st → rest u ≡ set_stack st (rest w)
@@ -94,6 +118,9 @@ ok-then a b = record {
   high = λ j l h. b.high j l h ∙ a.high j l h;
   rest = b.rest ∙ a.rest;
 }
+
+pub turns-then : {w u v : List ℕ} {s : St} (f : St → St) → Turns w u s → Turns u v (f (rest u)) → Turns w v (f s)
+turns-then f a b = record { ok = ok-then a.ok b.ok; nodes = b.nodes ∙ a.nodes; is = b.is ∙ ap f a.is }
 
 -- the tree's nodes became xs
 pub replants-ok : {w u : List ℕ} {xs : List Core} → Replants w u xs → Ok w u

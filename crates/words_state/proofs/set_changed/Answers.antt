@@ -1,23 +1,14 @@
--- `words_state::set_changed` meets its contract: word 5 alone changes. Assumes nothing.
-use native.Mathlib.Omega.{arith}
-use mathlib.Core.Path.{ap}
+-- Word 5 alone changes, to the flag. Assumes nothing.
+use Rattle.std.proofs.Common.{ap, ◌∙◌, arith}
+use Rattle.def_pass.specs.Walk.{set_changed}
 use Rattle.words.specs.Layout.{yes}
-use Rattle.words_scopes.specs.State.{var_type_of}
-use Rattle.words_state.specs.State.{mode_of, rest}
-use Rattle.words_state.proofs.Fields.{here, field-ok, field-tree, field-stack, field-targeted, field-other, st-eq}
+use Rattle.words.proofs.Yes.{yes-from_bool}
+use Rattle.words_state.specs.State.{rest}
+use Rattle.words_state.proofs.Fields.{field-turns}
 use Rattle.words_state.proofs.set_changed.Goals as goal
-
-pub bounds-w-5 : goal.bounds-w-5
-bounds-w-5 c = omega (arith, c.requires.good.long)
 
 pub returns : goal.returns
 unfolding rest
 returns c =
     let w = c.args.w.now in
-    let P = c.requires in
-    let v = c.args.v in
-    record {
-      ok = field-ok w P 5 v (omega arith) (omega arith);
-      nodes = field-tree w P 5 v (omega arith) (omega arith);
-      is = st-eq (field-stack w P 5 v (omega arith) (omega arith)) (ap yes (here w P 5 v (omega arith) (omega arith))) (ap yes (field-other w P 5 v (omega arith) (omega arith) 6 (λ e. omega (arith, e)))) (ap yes (field-other w P 5 v (omega arith) (omega arith) 7 (λ e. omega (arith, e)))) (ap var_type_of (field-other w P 5 v (omega arith) (omega arith) 8 (λ e. omega (arith, e)))) (ap mode_of (field-other w P 5 v (omega arith) (omega arith) 9 (λ e. omega (arith, e)))) (ap yes (field-other w P 5 v (omega arith) (omega arith) 10 (λ e. omega (arith, e)))) (field-other w P 5 v (omega arith) (omega arith) 11 (λ e. omega (arith, e))) (field-other w P 5 v (omega arith) (omega arith) 0 (λ e. omega (arith, e))) (field-targeted w P 5 v (omega arith) (omega arith)) (field-other w P 5 v (omega arith) (omega arith) 12 (λ e. omega (arith, e))) (field-other w P 5 v (omega arith) (omega arith) 13 (λ e. omega (arith, e)));
-    }
+    field-turns w c.requires 5 c.from.result (omega arith) (omega arith) (ap (λ b. set_changed b (rest w)) (ap yes c.from.ensures ∙ yes-from_bool c.args.v))
