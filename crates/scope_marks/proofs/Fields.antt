@@ -16,11 +16,13 @@ use Rattle.def_tree.specs.Tree.{Tree}
 use Rattle.def_pass.specs.Scope.{VarInfo, Scope, Stack, is_fn, is_param, change, defined, sensitive_now, prevent, one_more, read_once, prevent_param, prevent_inline_of_params, on_bindings}
 use Rattle.words.specs.Tab.{tab, tab-ext, length-tab, get_d-tab, same_or_not, below_or_not}
 use Rattle.words.specs.Layout.{yes}
-use Rattle.words_scopes.specs.State.{var_type_of, alias_at, value_of, bind_at, Head, head_at, heads_at, heads, flags, binds, consts, split, scope_of, stack, Good, Becomes, Fits, place}
+use Rattle.words_scopes.specs.Kinds.{var_type_of, alias_at}
+use Rattle.words_scopes.specs.State.{value_of, bind_at, Head, head_at, heads_at, heads, flags, binds, consts, split, scope_of, stack, Good, Becomes, Fits, place}
 use Rattle.words_scopes.proofs.Split as laws
 use Rattle.words_scopes.proofs.Words as words
 use Rattle.words_scopes.proofs.Grow.{some-head}
 use Rattle.scope_find.specs.Look.{fn_start, params_from}
+use Rattle.scope_find.proofs.Facts.{flag-set}
 
 module _ (w : List ℕ) (g : Good w) (k : ℕ) (h : k < get_or w 1 0) where
   module _ (q v : ℕ) (lo : 0 < q) (hi : q < 8) where
@@ -71,7 +73,7 @@ abbrev with-mark : Bool → VarInfo → VarInfo
 with-mark m b = record { id = b.id; kind = b.kind; alias_of = b.alias_of; read_cnt = b.read_cnt; inline_prevented = m; is_undefined = b.is_undefined; value = b.value; this_sensitive = b.this_sensitive; hoisted = b.hoisted; count = b.count }
 
 module _ (w : List ℕ) (g : Good w) (k : ℕ) (h : k < get_or w 1 0) where
-  pub read-now : (n p : ℕ) → n ≡ one_more (bind_at w k).read_cnt → yes p ≡ ((bind_at w k).hoisted || (bind_at w k).inline_prevented) → (x : ℕ) → place x (heads w) (binds w) ≡ suc k
+  read-now : (n p : ℕ) → n ≡ one_more (bind_at w k).read_cnt → yes p ≡ ((bind_at w k).hoisted || (bind_at w k).inline_prevented) → (x : ℕ) → place x (heads w) (binds w) ≡ suc k
       → Becomes w (set (set w (4112 + k * 10 + 3) n) (4112 + k * 10 + 4) p) (change x read_once (stack w))
   read-now n p e q =
       let u : List ℕ = set w (4112 + k * 10 + 3) n in
@@ -84,6 +86,19 @@ module _ (w : List ℕ) (g : Good w) (k : ℕ) (h : k < get_or w 1 0) where
       words.changed g (words.kept_then t (words.field-kept u gu k hu 4 p (omega arith) (omega arith))) k h read_once this
       (λ j a d. words.field-other u gu k hu 4 p (omega arith) (omega arith) j (omega arith) d ∙ words.field-other w g k h 3 n (omega arith) (omega arith) j a d)
       (words.field-good u gu k hu 4 p (omega arith) (omega arith))
+
+  -- a read is counted, n now, and marks a hoisted binding
+  module _ (n : ℕ) (e : n ≡ one_more (bind_at w k).read_cnt) where
+    hoisted-same : get_or (set w (4112 + k * 10 + 3) n) (4112 + k * 10 + 7) 0 ≡ get_or w (4112 + k * 10 + 7) 0
+    hoisted-same = words.field-same w g k h 3 n (omega arith) (omega arith) k 7 (omega arith) (λ z. omega arith)
+
+    pub read-marked : (get_or (set w (4112 + k * 10 + 3) n) (4112 + k * 10 + 7) 0 ≡ 0 → ⊥) → (x : ℕ) → place x (heads w) (binds w) ≡ suc k
+        → Becomes w (set (set w (4112 + k * 10 + 3) n) (4112 + k * 10 + 4) 1) (change x read_once (stack w))
+    read-marked m = read-now n 1 e (sym (rw (flag-set (get_or w (4112 + k * 10 + 7) 0) (λ z. m (hoisted-same ∙ z))) refl))
+
+    pub read-plain : get_or (set w (4112 + k * 10 + 3) n) (4112 + k * 10 + 7) 0 ≡ 0 → (x : ℕ) → place x (heads w) (binds w) ≡ suc k
+        → Becomes w (set w (4112 + k * 10 + 3) n) (change x read_once (stack w))
+    read-plain z = store-becomes w g k h 3 n (omega arith) (omega arith) read_once (let q : get_or w (4112 + k * 10 + 7) 0 ≡ 0 = sym hoisted-same ∙ z in rw (e, q) refl)
 
 -- the parameters, from a place on
 drop-params : (a l : ℕ) (bs : List VarInfo) → l ≤ a → drop a (params_from l bs) ≡ map prevent_param (drop a bs)

@@ -1,16 +1,11 @@
 -- The innermost binding, one field. Assumes nothing.
-use Prim.Native.Nat.{suc, ◌-◌}
-use mathlib.Core.Path.{◌≡◌, sym, ◌∙◌}
-use native.Mathlib.Omega.{arith}
+use Rattle.std.proofs.Common.{sym}
 use Rattle.words_scopes.proofs.Words as words
 use Rattle.scope_marks.proofs.Fields as fields
 use Rattle.scope_marks.proofs.mark.mark_this_sensitive.Goals as goal
 
-pub returns-then-k-eq0 : goal.returns-then-k-eq0
-returns-then-k-eq0 c = words.unfound c.args.w.now c.args.x _ c.requires (sym c.find_binding-k.ensures.0 ∙ c.if-k-eq0.true)
+pub returns-in-Some : goal.returns-in-Some
+returns-in-Some c = fields.sensed c.args.w.now c.requires c.in-Some.k c.in-Some.ensures.bound c.args.x (sym c.in-Some.ensures.place)
 
-pub returns : goal.returns
-returns c =
-    let r = c.find_binding-k.result in
-    let q : r ≡ suc (r - 1) = omega arith in
-    fields.sensed c.args.w.now c.requires (r - 1) (omega arith) c.args.x (sym c.find_binding-k.ensures.0 ∙ q)
+pub returns-in_default : goal.returns-in_default
+returns-in_default c = words.unfound c.args.w.now c.args.x _ c.requires (sym c.in_default.ensures.place)
