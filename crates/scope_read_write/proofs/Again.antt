@@ -90,29 +90,3 @@ module _ (i : ℕ) where
   marked-before true false st e q r t = ap (prevent_inline i) (r ∙ q) ∙ twice st ∙ sym (r ∙ q)
   marked-before true true st e q r t = absurd (never (sym e ∙ t))
   marked-before false a st e q r t = absurd (never (sym e ∙ t))
-
--- the flags
-pub far-marked : (here force : Bool) {m : Bool} → m ≡ true → false ≡ ((not here || force) && not m)
-far-marked here force e = rw e (go (not here || force))
-  where
-    go : (b : Bool) → false ≡ (b && false)
-    go true = refl
-    go false = refl
-
-pub far-here : (force : Bool) {m h : Bool} → m ≡ false → h ≡ true → force ≡ ((not h || force) && not m)
-far-here force e s = rw (e, s) (go force)
-  where
-    go : (b : Bool) → b ≡ (b && true)
-    go true = refl
-    go false = refl
-
-pub far-away : (force : Bool) {m h : Bool} → m ≡ false → h ≡ false → true ≡ ((not h || force) && not m)
-far-away force e s = rw (e, s) refl
-
-pub only-args : (m : Bool) {a : Bool} → a ≡ true → false ≡ (m && not a)
-only-args true e = rw e refl
-only-args false e = refl
-
-pub only-marked : (m : Bool) {a : Bool} → a ≡ false → m ≡ (m && not a)
-only-marked true e = rw e refl
-only-marked false e = refl

@@ -14,8 +14,9 @@ use Rattle.words_scopes.specs.State.{stack, Good, Becomes}
 use Rattle.words_scopes.proofs.Words.{others-self}
 use Rattle.scope_find.specs.Look.{scope_at, below}
 use Rattle.scope_values.specs.Steps.{over, Still, Grown}
-use Rattle.scope_values.specs.declared.Step.{Step}
-use Rattle.scope_values.specs.declared.Step.TheVariants.{Done, Refused}
+use Rattle.std.proofs.Common.{Result, Ok, Err}
+use Rattle.refusal.specs.declared.Refusal.{Refusal}
+use Rattle.refusal.specs.declared.Refusal.TheVariants.{Room}
 use Rattle.scope_values.proofs.Count.{live-is}
 use Rattle.scope_find.proofs.Facts.{or-true}
 use Rattle.scope_find.proofs.Out as out
@@ -51,7 +52,7 @@ becomes-then f a b = record {
 pub still : {w w' : List ℕ} {st : Stack} → Becomes w w' st → Still w w'
 still b = record { good = b.good; tree = b.tree; others = b.others; rest = b.rest }
 
-pub refused : (w : List ℕ) (st : Stack) → Good w → over st ≡ true → Grown w w st (Refused 9)
+pub refused : (w : List ℕ) (st : Stack) → Good w → over st ≡ true → Grown w w st (Err Room)
 refused w st g e = (refl, e, still (becomes-self w g))
 
 still-then : {u v w : List ℕ} {s : Stack} → Becomes u v s → Still v w → Still u w
@@ -62,9 +63,9 @@ still-then a b = record {
   rest = b.rest ∙ a.rest;
 }
 
-pub stepped_then : {u v : List ℕ} {s : Stack} (w : List ℕ) (f : Stack → Stack) (r : Step) → Becomes u v s → Grown v w (f (stack v)) r → Grown u w (f s) r
-stepped_then w f Done a b = (becomes-then f a b.0, sym (ap (λ (t : Stack). over (f t)) a.is) ∙ b.1)
-stepped_then w f (Refused n) a b = (b.0, sym (ap (λ (t : Stack). over (f t)) a.is) ∙ b.1, still-then a b.2)
+pub stepped_then : {u v : List ℕ} {s : Stack} (w : List ℕ) (f : Stack → Stack) (r : Result Unit Refusal) → Becomes u v s → Grown v w (f (stack v)) r → Grown u w (f s) r
+stepped_then w f (Ok _) a b = (becomes-then f a b.0, sym (ap (λ (t : Stack). over (f t)) a.is) ∙ b.1)
+stepped_then w f (Err _) a b = (b.0, sym (ap (λ (t : Stack). over (f t)) a.is) ∙ b.1, still-then a b.2)
 
 -- the definition's `grow`, by row 9
 module _ (f : Stack → Stack) (s : St) where

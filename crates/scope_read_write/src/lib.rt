@@ -61,7 +61,8 @@ fn write_to(w: &mut [u32], x: u8, force: bool, marked: bool) -> Result<(), Refus
 {
     let s = scope_for(w, x);
     if s.bound {
-        write_bound(w, x, (!s.current || force) && !marked);
+        let far = !s.current || force;
+        write_bound(w, x, far && !marked);
         return Ok(());
     }
     write_free(w, x, force)
