@@ -1,6 +1,6 @@
--- A script that was read has its nodes within the file. Assumes nothing.
+-- What `print_nodes` asks is what reading promises of a script's counts. Assumes nothing.
 use Rattle.file_copy.proofs.Ends.{within}
 use Rattle.show.proofs.show.Goals as goal
 
 pub print_nodes-requires : goal.print_nodes-requires
-print_nodes-requires g c = within _ c.read-answer.ensures c.in-Script.is
+print_nodes-requires g c = within _ c.read.ensures c.in-Ok.is
