@@ -12,7 +12,6 @@ use Rattle.def_tree.specs.Tree.{count}
 use Rattle.words_scopes.specs.State.{value_of}
 use Rattle.words_nodes.specs.Nodes.{Planted, tree_from}
 use Rattle.words_nodes.proofs.Splice.{subtree-value, subtree-one}
-use Rattle.scope_declare.proofs.Init.{run_none, none-one}
 use Rattle.scope_define.specs.declared.Init.{Init}
 use Rattle.scope_define.specs.declared.Init.TheVariants.{NoInit, Recorded, Seen}
 use Rattle.scope_declare.specs.Inits.{init_from, Sited}

@@ -5,14 +5,15 @@ use mathlib.Core.Bool.{Bool, true, false}
 use Prim.Native.Nat.{ℕ}
 use native.Mathlib.Omega.{arith}
 use lib.ListN.{length, get_or}
+use Rattle.std.specs.Prelude.{Result, Ok, Err}
+use Rattle.refusal.specs.declared.Refusal.{Refusal}
+use Rattle.refusal.specs.Number.{number}
 use Rattle.def_tree.specs.Combine.{Res, stop, done, Nothing, and_then}
 use Rattle.def_pass.specs.Scope.{Stack}
 use Rattle.def_pass.specs.Walk.{St, M, set_stack, mark, grow}
 use Rattle.words.proofs.Nodes.{tree-length}
 use Rattle.words_scopes.specs.State.{Becomes, stack}
 use Rattle.scope_values.specs.Steps.{Still, Grown, over}
-use Rattle.scope_values.specs.declared.Step.{Step}
-use Rattle.scope_values.specs.declared.Step.TheVariants.{Done, Refused}
 use Rattle.words_nodes.specs.Nodes.{Planted}
 use Rattle.words_state.specs.State.{Ok, rest}
 use Rattle.words_state.proofs.Fields.{becomes-rest, becomes-ok, count_kept, ok-self, ok-then}
@@ -47,16 +48,16 @@ module _ {w u : List ℕ} (f : Stack → Stack) (g : Planted w) (z : length u �
   pub mark-moves : Becomes w u (f (stack w)) → Moves w u (mark f (rest w)) (done (rest u) tt)
   mark-moves b = record { ok = becomes-ok g z b; nodes = b.tree; is = ap (λ (s : St). done s tt) (stack-after b) }
 
-  pub grown-moves : (r : Step) → Grown w u (f (stack w)) r → Moves w u (grow f (rest w)) (done_of r (rest u))
-  grown-moves Done b = record {
+  pub grown-moves : (r : Result Unit Refusal) → Grown w u (f (stack w)) r → Moves w u (grow f (rest w)) (done_of r (rest u))
+  grown-moves (Ok _) b = record {
     ok = becomes-ok g z b.0;
     nodes = b.0.tree;
     is = grow-by f (rest w) false (rw (rest-stack w) b.1) ∙ ap (λ (s : St). done s tt) (stack-after b.0);
   }
-  grown-moves (Refused n) b = record {
+  grown-moves (Err r) b = record {
     ok = still-ok g z b.2;
     nodes = b.2.tree;
-    is = grow-by f (rest w) true (rw (rest-stack w) b.1) ∙ ap stop (sym b.0);
+    is = grow-by f (rest w) true (rw (rest-stack w) b.1) ∙ ap (λ (q : Refusal). stop (number q)) (sym b.0);
   }
 
 -- nothing done

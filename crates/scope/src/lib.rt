@@ -110,13 +110,17 @@ fn run_of(w: &[u32], v: Option<usize>) -> Run
     requires { Planted w.now }
     ensures { Runs w.now (value_at (tree w.now) v) result.at result.len }
 {
-    if let Some(i) = v && in_tree(w, i) {
-        return Run {
-            at: i,
-            len: skip(w, i) - i,
-        };
+    let none = Run { at: 0, len: 0 };
+    let Some(i) = v else {
+        return none;
+    };
+    if !in_tree(w, i) {
+        return none;
     }
-    Run { at: 0, len: 0 }
+    Run {
+        at: i,
+        len: skip(w, i) - i,
+    }
 }
 
 // The innermost binding of x gets a value.

@@ -5,18 +5,9 @@ use Rattle.words.specs.Layout.{tree}
 use Rattle.words_nodes.specs.Nodes.{tree_from}
 use Rattle.words_state.specs.State.{rest}
 use Rattle.def_pass.specs.Scope.{declare}
-use Rattle.scope_define.specs.Kinds.{type_of}
+use Rattle.words_scopes.specs.Kinds.{type_of}
 use Rattle.scope_declare.specs.Inits.{init_from}
 use Rattle.scope.proofs.declare_m.Goals as goal
-
-pub sited-e-requires : goal.sited-e-requires
-sited-e-requires c = c.requires.good
-
-pub undefined_now-undefined-requires : goal.undefined_now-undefined-requires
-undefined_now-undefined-requires c = c.requires.good
-
-pub declare-requires : goal.declare-requires
-declare-requires c = (c.requires, c.sited-e.ensures.0)
 
 pub returns : goal.returns
 returns c =

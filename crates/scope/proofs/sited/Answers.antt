@@ -1,6 +1,4 @@
-use mathlib.Core.Path.{sym, ap}
 use lib.ListN.{get_or}
-use Rattle.scope.specs.Given.{init_o}
 use Rattle.scope.proofs.Given as given
 use Rattle.scope.proofs.sited.Goals as goal
 
@@ -9,6 +7,3 @@ returns-then-in_tree c =
     let w = c.args.w.now in
     let h = c.in_tree.ensures.0 c.if-in_tree.true in
     (given.sited-in c.args.v c.args.i (get_or w 0 0) h, given.init-in w c.args.i c.args.v h)
-
-pub returns : goal.returns
-returns c = (tt, sym (ap (init_o c.args.v) (c.in_tree.ensures.1 c.if-in_tree.false)))
