@@ -15,11 +15,12 @@ use Rattle.words.proofs.Nodes.{tree-length}
 use Rattle.words_scopes.specs.State.{Becomes, stack}
 use Rattle.scope_values.specs.Steps.{Still, Grown, over}
 use Rattle.words_nodes.specs.Nodes.{Planted}
-use Rattle.words_state.specs.State.{Ok, rest}
+use Rattle.words_state.specs.State as state
+use Rattle.words_state.specs.State.{rest}
 use Rattle.words_state.proofs.Fields.{becomes-rest, becomes-ok, count_kept, ok-self, ok-then}
 use Rattle.scope.specs.Steps.{done_of, Moves}
 
-pub still-ok : {w u : List ℕ} → Planted w → length u ≡ length w → Still w u → Ok w u
+pub still-ok : {w u : List ℕ} → Planted w → length u ≡ length w → Still w u → state.Ok w u
 still-ok g z b = record {
   planted = record { good = b.good; one = rw b.tree g.one };
   size = z;
