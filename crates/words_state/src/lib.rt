@@ -77,6 +77,7 @@ pub fn restore_fields(w: &mut [u32], f: SavedFields)
     set_in_test(w, f.in_test);
 }
 
+#[tactic(auto, unfolding(crate::specs::State::rest))]
 pub fn var_decl_kind(w: &[u32]) -> VarType
     requires { 16384 ≤ length w.now }
     ensures { type_of result ≡ (rest w.now).var_decl_kind }
@@ -84,6 +85,7 @@ pub fn var_decl_kind(w: &[u32]) -> VarType
     VarType::from_word(w[layout::VAR_DECL_KIND])
 }
 
+#[tactic(auto, unfolding(crate::specs::State::rest))]
 pub fn pat_mode(w: &[u32]) -> PatFoldingMode
     requires { 16384 ≤ length w.now }
     ensures { pat_mode_of result ≡ (rest w.now).pat_mode }
