@@ -44,9 +44,9 @@ pub fn find_by_walk(w: &[u32], x: u8) -> Option<usize>
     ensures place { placed result ≡ place x (heads w.now) (binds w.now) }
     ensures bound { IfSome result (λ k. k < slice_index w.now 1) }
 {
-    let d = w[layout::SCOPE_COUNT] as usize;
+    let depth = w[layout::SCOPE_COUNT] as usize;
     let mut e = w[layout::BINDING_COUNT] as usize;
-    for k in (0..d).rev() {
+    for k in (0..depth).rev() {
         let a = w[layout::SCOPES + k * 4 + layout::FIRST_BINDING] as usize;
         if let Some(r) = first_at(w, layout::BINDINGS, 10, a, e, x) {
             return Some(r);
