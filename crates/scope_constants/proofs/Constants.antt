@@ -23,7 +23,7 @@ use Rattle.words_scopes.proofs.Split.{tested}
 use Rattle.words_scopes.proofs.Grow.{some-head}
 use Rattle.words.specs.declared.Run.{Run}
 use Rattle.scope_values.specs.Steps.{Listed, over, Offered, run_value}
-use Rattle.scope_values.proofs.Listed.{room, count-tree, same_nodes, same-run}
+use Rattle.scope_values.proofs.Listed.{room, count-tree, same-value, same-offered}
 use Rattle.words_scopes.proofs.Words.{targeted-same}
 use Rattle.words.specs.Place.{FirstAt}
 use Rattle.scope_constants.specs.Consts.{Found, Own}
@@ -300,13 +300,11 @@ pub after_push : (w u : List ℕ) → Good w → (x : ℕ) → Listed w u (binds
 after_push w u g x l =
     let n : get_or u 3 0 ≡ get_or w 3 0 + 1 = sym (length-consts u l.good) ∙ ap length l.consts ∙ length-append (consts w) ((x, none) ∷ []) ∙ ap (λ (k : ℕ). k + 1) (length-consts w g) in
     let name : get_or u (6672 + get_or w 3 0 * 2) 0 ≡ x = sym (ap (λ (c : Const). c.0) (const-there u l.good (get_or w 3 0) (omega arith))) ∙ ap (λ (cs : List Const). (get_or cs (get_or w 3 0) no_const).0) l.consts ∙ ap (λ (c : Const). c.0) (get_or_at (consts w) (x, none) [] no_const (get_or w 3 0) (length-consts w g)) in
-    let nodes = same_nodes w u l.tree in
-    let same = λ (r : Run) (o : Offered w r). same-run w u r.at r.len l.tree o.inside in
     record {
       count = n;
       vals = omega (arith, total-consts u l.good, ap (total nodes_c) l.consts, total-append nodes_c (consts w) ((x, none) ∷ []), total-consts w g, total-binds u l.good, ap (total nodes_b) l.binds, total-binds w g);
       set = λ v. rw (name, l.consts) (set_at (consts w) (x, none) [] (x, v) (get_or w 3 0) (length-consts w g));
-      value = λ r o. ap value_of (same r o);
-      offered = λ r o. record { inside = omega (arith, o.inside); one = rw (same r o) o.one };
-      free = λ r o f. rw (same r o, targeted-same w u (λ j a b. l.others.high j (omega arith) (omega arith))) f;
+      value = λ r o. same-value w u l.tree r o;
+      offered = λ r o. same-offered w u l.tree r o;
+      free = λ r o f. rw (same-value w u l.tree r o, targeted-same w u (λ j a b. l.others.high j (omega arith) (omega arith))) f;
     }

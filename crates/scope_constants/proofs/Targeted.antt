@@ -20,6 +20,7 @@ use Rattle.words.proofs.Nodes.{run_length, run-at, tree-at}
 use Rattle.words_scopes.specs.State.{Good, Named, targeted, value_of, run_of}
 use Rattle.words.specs.declared.Run.{Run}
 use Rattle.scope_values.specs.Steps.{Offered, run_value}
+use Rattle.scope_values.proofs.Listed.{none-value, none-offered}
 use Rattle.scope_constants.specs.Consts.{Left}
 
 untargeted-is : (tg : ℕ → Bool) (xs : List Core) → 0 < length xs → untargeted tg (value_of xs) ≡ pick (eqb (get_or xs 0 no_core).kind 21 && tg (get_or xs 0 no_core).num) none (value_of xs)
@@ -39,14 +40,10 @@ pub targeted-at : (w : List ℕ) (x : ℕ) → x < 256 → targeted w x ≡ yes 
 unfolding targeted
 targeted-at w x h = ap yes (get_d-tab 256 (λ i. flag_at w 16016 i) x 0 h)
 
-empty : (w : List ℕ) (i : ℕ) → run w 16 i 0 ≡ []
-unfolding run
-empty w i = tab-zero (λ j. core_from w (16 + (i + j) * 2))
-
 -- what is left of a run: all of it, or nothing
 module _ (w : List ℕ) (r : Run) (o : Offered w r) where
   pub left-empty : r.len ≡ 0 → Left w r r
-  left-empty z = record { is = rw (z, empty w r.at) refl; offered = o }
+  left-empty z = record { is = rw (z, none-value w r.at) refl; offered = o }
 
   module _ (h : 0 < r.len) where
     test : untargeted (targeted w) (run_value w r) ≡ pick (eqb (node_of w r.at).kind 21 && targeted w (node_of w r.at).num) none (run_value w r)
@@ -63,8 +60,8 @@ module _ (w : List ℕ) (r : Run) (o : Offered w r) where
 
       pub left_none : yes (flag_at w 16016 (node_of w r.at).num) ≡ true → Left w r (record { at = r.at; len = 0 })
       left_none z = record {
-        is = rw test (rw (eq-eqb (node_of w r.at).kind 21 e, targeted-at w (node_of w r.at).num l, z, empty w r.at) refl);
-        offered = record { inside = omega (arith, o.inside); one = rw (empty w r.at) refl };
+        is = rw test (rw (eq-eqb (node_of w r.at).kind 21 e, targeted-at w (node_of w r.at).num l, z, none-value w r.at) refl);
+        offered = none-offered w r.at (omega (arith, o.inside));
       }
 
 -- an identifier's number is one of 256

@@ -20,7 +20,8 @@ use Rattle.words.specs.Layout.{run}
 use Rattle.words.proofs.Nodes.{run_length}
 use Rattle.scope_values.proofs.Count.{depth_is, nodes_b, total-append, length-binds, recorded-is, values-in}
 use Rattle.scope_values.proofs.Listed.{bind-there, change-at, becomes-then}
-use Rattle.scope_redeclare.specs.Own.{Own}
+use Rattle.std.proofs.Common.{None}
+use Rattle.scope_redeclare.specs.Own.{Own, OwnAt}
 use Rattle.scope_define.specs.Declare.{put_declared, declare_with}
 use Rattle.scope_define.specs.Kinds.{init_at, is_seen, Sized}
 use Rattle.scope_define.specs.declared.Init.{Init}
@@ -188,51 +189,25 @@ kept_at Seen xs h old = refl
 pub kept-is : (v : Init) (xs : List Core) → Sized v (length xs) → ◌≡◌ {A = Option Tree → Option Tree} (kept (init_at v xs)) (λ old. pick (is_seen v) old (value_of xs))
 kept-is v xs h = λ t old. kept_at v xs h old t
 
--- `declare` is this, with its look-ups
-pub declare-is : (again : Bool) (i : ℕ) (v : def.Init) (undefined : Bool) (k : VarType) (s : Scope) (st : Stack)
-    → declare again i v undefined k (s ∷ st) ≡ declare_with i (kept v) (ident_of (init_of v)) (again || should_prevent_inline_because_of_scope i (s ∷ st) || prevented_o (init_of v) (s ∷ st)) undefined k (alias_from (idx_val_o (ident_of (init_of v)) s.bindings)) (in_loop (s ∷ st))
-    ((not (is_param k) && not (param_o (alias_from (idx_val_o (ident_of (init_of v)) s.bindings)))) && barred (idx_val_o (ident_of (init_of v)) s.bindings) (place_or (length s.bindings) (idx_val 0 i s.bindings)) s.inline_barriers) (s ∷ st)
-unfolding declare
-declare-is again i v undefined k s st = refl
-
--- marks after the first half
-pub marks-after : (i : ℕ) (e : Option ℕ) (x : ℕ) (looped barred : Bool) (st₁ : Stack) → e ≡ some x
-    → pick barred (prevent_inline_o e (prevent_inline i (pick looped (prevent_inline i st₁) st₁))) (pick looped (prevent_inline i st₁) st₁)
-    ≡ (let st₂ = pick looped (prevent_inline i st₁) st₁ in let st₃ = pick barred (prevent_inline i st₂) st₂ in pick barred (prevent_inline x st₃) st₃)
-marks-after i e x looped true st₁ h = rw h refl
-marks-after i e x looped false st₁ h = refl
-
 pub over-pick : (t : Bool) (i : ℕ) (st : Stack) → over (pick t (prevent_inline i st) st) ≡ over st
 over-pick true i st = over-marked i st
 over-pick false i st = refl
 
 -- the first half of `declare` in the words
-module _ (w : List ℕ) (x r : ℕ) (o : Own w x r) (seen : Bool) (v : Option Tree) (p u : Bool) (k : VarType) (al : Option VarType) where
-  pub put-there-is : r < get_or w 1 0 → put_declared x (λ old. pick seen old v) p u k al (stack w) ≡ put_at w r (redeclare p u (pick seen (bind_at w r).value v) (bind_at w r))
-  put-there-is h =
-      declared-there x (λ old. pick seen old v) p u k al (stack w) (o.there h).1
-      ∙ change-at w r h x (redeclare p u (pick seen (value_o (find_binding_from_current x (stack w))) v)) (o.there h).0
-      ∙ ap (λ (old : Option VarInfo). put_at w r (redeclare p u (pick seen (value_o old) v) (bind_at w r))) (o.found h)
+module _ (w : List ℕ) (x : ℕ) (seen : Bool) (v : Option Tree) (p u : Bool) (k : VarType) (al : Option VarType) where
+  pub put-there-is : (r : ℕ) → OwnAt w x r → put_declared x (λ old. pick seen old v) p u k al (stack w) ≡ put_at w r (redeclare p u (pick seen (bind_at w r).value v) (bind_at w r))
+  put-there-is r o =
+      declared-there x (λ old. pick seen old v) p u k al (stack w) (ap is_some o.found)
+      ∙ change-at w r o.below x (redeclare p u (pick seen (value_o (find_binding_from_current x (stack w))) v)) o.place
+      ∙ ap (λ (old : Option VarInfo). put_at w r (redeclare p u (pick seen (value_o old) v) (bind_at w r))) o.found
 
-  pub put-absent-is : get_or w 1 0 ≤ r → put_declared x (λ old. pick seen old v) p u k al (stack w) ≡ append (fresh x k al p u (pick seen none v)) (stack w)
-  put-absent-is h = declared-absent x (λ old. pick seen old v) p u k al (stack w) (o.absent h)
+  pub put-absent-is : Own w x None → put_declared x (λ old. pick seen old v) p u k al (stack w) ≡ append (fresh x k al p u (pick seen none v)) (stack w)
+  put-absent-is o = declared-absent x (λ old. pick seen old v) p u k al (stack w) o
 
-pub same-declared : (x : ℕ) {f f' : Option Tree → Option Tree} {p p' u u' : Bool} {k k' : VarType} {al al' : Option VarType} (st : Stack) → f ≡ f' → p ≡ p' → u ≡ u' → k ≡ k' → al ≡ al' → put_declared x f p u k al st ≡ put_declared x f' p' u' k' al' st
-same-declared x st a b c d e = rw (a, b, c, d, e) refl
-
-over-barred : (t : Bool) (e : Option ℕ) (i : ℕ) (st : Stack) → over (pick t (prevent_inline_o e (prevent_inline i st)) st) ≡ over st
-over-barred true none i st = over-marked i st
-over-barred true (some x) i st = over-marked x (prevent_inline i st) ∙ over-marked i st
-over-barred false e i st = refl
+over-barred : (e : Option ℕ) (i : ℕ) (st : Stack) → over (pick (is_some e) (prevent_inline_o e (prevent_inline i st)) st) ≡ over st
+over-barred none i st = refl
+over-barred (some x) i st = over-marked x (prevent_inline i st) ∙ over-marked i st
 
 -- no mark is counted
-pub over-with : (i : ℕ) (f : Option Tree → Option Tree) (e : Option ℕ) (p u : Bool) (k : VarType) (al : Option VarType) (looped barred : Bool) (st : Stack) → over (declare_with i f e p u k al looped barred st) ≡ over (put_declared i f p u k al st)
-over-with i f e p u k al looped barred st = over-barred barred e i (pick looped (prevent_inline i (put_declared i f p u k al st)) (put_declared i f p u k al st)) ∙ over-pick looped i (put_declared i f p u k al st)
-
--- three marks after the first half
-module _ {w u₀ u₁ u₂ u₃ : List ℕ} (x t : ℕ) (looped barred : Bool) (st : Stack) (a : Becomes w u₀ st)
-    (b : Becomes u₀ u₁ (pick looped (prevent_inline x (stack u₀)) (stack u₀))) (c : Becomes u₁ u₂ (pick barred (prevent_inline x (stack u₁)) (stack u₁))) (d : Becomes u₂ u₃ (pick barred (prevent_inline t (stack u₂)) (stack u₂))) where
-  pub three-marks : Becomes w u₃ (pick barred (prevent_inline_o (some t) (prevent_inline x (pick looped (prevent_inline x st) st))) (pick looped (prevent_inline x st) st))
-  three-marks =
-      let s : pick barred (prevent_inline t (stack u₂)) (stack u₂) ≡ pick barred (prevent_inline_o (some t) (prevent_inline x (pick looped (prevent_inline x st) st))) (pick looped (prevent_inline x st) st) = rw (c.is, b.is, a.is) (sym (marks-after x (some t) t looped barred st refl)) in
-      becomes-then (becomes-then (becomes-then a b) c) (rw s at d)
+pub over-with : (i : ℕ) (f : Option Tree → Option Tree) (e : Option ℕ) (p u : Bool) (k : VarType) (al : Option VarType) (looped : Bool) (st : Stack) → over (declare_with i f e p u k al looped st) ≡ over (put_declared i f p u k al st)
+over-with i f e p u k al looped st = over-barred e i (pick looped (prevent_inline i (put_declared i f p u k al st)) (put_declared i f p u k al st)) ∙ over-pick looped i (put_declared i f p u k al st)

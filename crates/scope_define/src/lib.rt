@@ -15,7 +15,7 @@ use refusal::Refusal;
 use scope_redeclare::{own_binding, redeclare_as, redeclare_seen, rewrite};
 use scope_values::{passes, record_value, set_run};
 use words::{Run, layout};
-use words_scopes::{Record, find_binding, prevent_inline, push, record_at};
+use words_scopes::{Record, append_record, find_binding, prevent_inline, record_at};
 
 pub use words_scopes::kinds::{VarDeclKind, VarType};
 
@@ -25,6 +25,15 @@ pub enum Init {
     NoInit,
     Recorded,
     Seen,
+}
+
+impl Init {
+    // Is the old value kept.
+    fn is_seen(self) -> bool
+        ensures { result ≡ is_seen self }
+    {
+        self == Init::Seen
+    }
 }
 
 // What a declaration of x says, and what its look-ups gave.
@@ -70,7 +79,16 @@ fn declare_new(w: &mut [u32], x: u8, r: Run, d: Declaration) -> Result<(), Refus
         return Err(Refusal::Room);
     }
     let n = w[layout::BINDING_COUNT] as usize;
-    push(w, x, d.kind, d.alias, d.prevented, d.undefined);
+    let record = Record {
+        kind: d.kind,
+        alias: d.alias,
+        reads: 0,
+        prevented: d.prevented,
+        undefined: d.undefined,
+        this_sensitive: false,
+        hoisted: false,
+    };
+    append_record(w, x, record, 0);
     if 0 < r.len {
         set_run(w, n, r);
     }
@@ -86,7 +104,7 @@ fn put_declared(w: &mut [u32], x: u8, v: Init, r: Run, d: Declaration) -> Result
     if w[layout::SCOPE_COUNT] == 0 {
         return Ok(());
     }
-    let seen = v == Init::Seen;
+    let seen = v.is_seen();
     match own_binding(w, x) {
         Some(k) if seen => {
             redeclare_seen(w, k, d.prevented, d.undefined);

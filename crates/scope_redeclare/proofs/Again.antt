@@ -1,4 +1,4 @@
--- A binding stored twice, a value of no node, and what row 9 counts of a binding declared again. Assumes nothing.
+-- A binding stored twice, and what row 9 counts of a binding declared again. Assumes nothing.
 use mathlib.Core.Path.{◌≡◌, sym, ap, ◌∙◌}
 use mathlib.Core.List.{List, []}
 use mathlib.Core.Bool.{◌||◌}
@@ -9,17 +9,10 @@ use lib.Dec.{ltb}
 use lib.Seq.{get_or-set_same, set-set}
 use Rattle.def_pass.specs.Tree.{count_o}
 use Rattle.def_pass.specs.Scope.{VarInfo, recorded_nodes, live}
-use Rattle.words.specs.Tab.{tab-zero}
-use Rattle.words.specs.Layout.{run, core_from}
 use Rattle.words_scopes.specs.State.{Good, bind_at, binds, consts, stack, len_at}
 use Rattle.scope_values.specs.Steps.{Listed, over, put_at}
 use Rattle.scope_values.proofs.Count.{length-binds, length-consts}
 use Rattle.scope_values.proofs.Listed.{bind-there, over-put, listed_then}
-
--- a value of no node
-pub run_none : (w : List ℕ) (i : ℕ) → run w 16 i 0 ≡ []
-unfolding run
-run_none w i = tab-zero (λ j. core_from w (16 + (i + j) * 2))
 
 -- two stores into one binding
 pub twice : {w u v : List ℕ} (k : ℕ) (b : VarInfo) (f : VarInfo → VarInfo) → k < get_or w 1 0 → Good w → Listed w u (set (binds w) k b) (consts w) → Listed u v (set (binds u) k (f (bind_at u k))) (consts u) → Listed w v (set (binds w) k (f b)) (consts w)

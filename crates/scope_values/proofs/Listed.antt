@@ -2,7 +2,7 @@
 use mathlib.Core.Path.{◌≡◌, refl, sym, ap, ◌∙◌}
 use mathlib.Core.List.{List, [], ◌∷◌}
 use mathlib.Core.Bool.{Bool, true, false, ◌||◌}
-use mathlib.Core.Option.{Option}
+use mathlib.Core.Option.{Option, none}
 use mathlib.Core.Logic.{◌⊎◌, inl, inr, ⊎_elim}
 use Prim.Native.Nat.{ℕ, suc, ◌+◌, ◌-◌, ◌*◌, ◌≤◌, ◌<◌}
 use native.Mathlib.Omega.{arith}
@@ -12,8 +12,8 @@ use borrow.Author.Tests.{le-ltb, ltb-false}
 use Rattle.def_tree.specs.Tree.{Tree, Core, no_core}
 use Rattle.def_pass.specs.Tree.{count_o}
 use Rattle.def_pass.specs.Scope.{VarInfo, Stack, change, with_value, recorded_nodes, live}
-use Rattle.words.specs.Tab.{tab, tab-ext, length-tab, get_d-tab, set-tab, same_or_not, sum-part}
-use Rattle.words.specs.Layout.{yes, run, node_of, tree}
+use Rattle.words.specs.Tab.{tab, tab-ext, tab-zero, length-tab, get_d-tab, set-tab, same_or_not, sum-part}
+use Rattle.words.specs.Layout.{yes, run, core_from, node_of, tree}
 use Rattle.words.proofs.Nodes.{run_length, tree-length, tree-at}
 use Rattle.words_scopes.specs.State.{Good, Past, Others, Becomes, split, heads, flags, binds, consts, stack, bind_at, len_at, off, coff, run_at, value_of, run_of, var_type_of, alias_at, place}
 use Rattle.words_scopes.proofs.Split as laws
@@ -222,6 +222,26 @@ unfolding run
 same-run w w' i m e h = tab-ext m (λ j. node_of w' (i + j)) (λ j. node_of w (i + j)) (λ j l.
     let n = same_nodes w w' e in
     sym (tree-at w' (i + j) (omega arith)) ∙ ap (λ (t : List Core). get_or t (i + j) no_core) e ∙ tree-at w (i + j) (omega arith))
+
+-- a run of it
+module _ (w w' : List ℕ) (e : tree w' ≡ tree w) (r : Run) (o : Offered w r) where
+  pub same-value : run_value w' r ≡ run_value w r
+  same-value = ap value_of (same-run w w' r.at r.len e o.inside)
+
+  pub same-offered : Offered w' r
+  same-offered = record { inside = let n = same_nodes w w' e in omega (arith, o.inside); one = rw (same-run w w' r.at r.len e o.inside) o.one }
+
+-- none of its nodes
+run_none : (w : List ℕ) (i : ℕ) → run w 16 i 0 ≡ []
+unfolding run
+run_none w i = tab-zero (λ j. core_from w (16 + (i + j) * 2))
+
+module _ (w : List ℕ) (i : ℕ) where
+  pub none-value : run_value w (record { at = i; len = 0 }) ≡ none
+  none-value = rw (run_none w i) refl
+
+  pub none-offered : i ≤ get_or w 0 0 → Offered w (record { at = i; len = 0 })
+  none-offered h = record { inside = omega arith; one = rw (run_none w i) refl }
 
 -- no scope is open: nothing is counted
 pub stack-none : (w : List ℕ) → get_or w 2 0 ≡ 0 → stack w ≡ []

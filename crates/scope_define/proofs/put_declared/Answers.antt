@@ -1,14 +1,12 @@
 -- In place, or appended. Assumes nothing.
-use mathlib.Core.Path.{refl}
-use native.Mathlib.Omega.{arith}
-use mathlib.Core.Option.{Option}
-use mathlib.Core.List.{[]}
-use Rattle.def_tree.specs.Tree.{Tree}
-use Rattle.words.specs.Layout.{yes, run}
-use Rattle.words_scopes.specs.State.{value_of, var_type_of, alias_at}
+use Rattle.std.proofs.Common.{refl, sym, ◌∙◌, arith, []}
+use Rattle.def_pass.specs.Scope.{redeclare}
+use Rattle.words_scopes.specs.Kinds.{type_of, alias_of}
+use Rattle.words_scopes.specs.State.{bind_at}
+use Rattle.scope_values.specs.Steps.{put_at, run_value}
 use Rattle.scope_values.proofs.Listed as listed
+use Rattle.scope_define.specs.Kinds.{is_seen}
 use Rattle.scope_define.proofs.Declares as declares
-use Rattle.scope_redeclare.proofs.Again.{run_none}
 use Rattle.scope_define.proofs.put_declared.Goals as goal
 
 pub returns-then-w-eq0 : goal.returns-then-w-eq0
@@ -17,33 +15,38 @@ returns-then-w-eq0 c =
     let e = listed.stack-none w c.if-w-eq0.true in
     rw e (listed.becomes-self w [] c.requires.0 e, refl)
 
-pub returns-then-seen : goal.returns-then-seen
-returns-then-seen c =
+pub returns-in-Some : goal.returns-in-Some
+returns-in-Some c =
     let w = c.args.w.now in
-    let a = c.args in
-    let v : Option Tree = value_of (run w 16 a.i a.m) in
-    rw (declares.put-there-is w a.x c.own_binding-r.result c.own_binding-r.ensures a.seen v (yes a.prevented) (yes a.undef) (var_type_of a.kind) (alias_at a.alias) c.if-r-n.true, c.if-seen.true) c.redeclare_seen.ensures
+    let d = c.args.d in
+    let there = declares.put-there-is w c.args.x (is_seen c.args.v) (run_value w c.args.r) d.prevented d.undefined (type_of d.kind) (alias_of d.alias) c.in-Some.k c.in-Some.ensures in
+    let seen = sym c.is_seen-seen.ensures ∙ c.if-seen.true in
+    let new = redeclare d.prevented d.undefined (bind_at w c.in-Some.k).value (bind_at w c.in-Some.k) in
+    rw (there, seen) (listed.done-under (listed.listed-becomes (put_at w c.in-Some.k new) refl c.redeclare_seen.ensures))
 
-pub returns-then-r-n : goal.returns-then-r-n
-returns-then-r-n c =
+pub returns-in-Some-2 : goal.returns-in-Some-2
+returns-in-Some-2 c =
     let w = c.args.w.now in
-    let a = c.args in
-    let v : Option Tree = value_of (run w 16 a.i a.m) in
-    rw (declares.put-there-is w a.x c.own_binding-r.result c.own_binding-r.ensures a.seen v (yes a.prevented) (yes a.undef) (var_type_of a.kind) (alias_at a.alias) c.if-r-n.true, c.if-seen.false) c.redeclare_as.ensures
+    let d = c.args.d in
+    let there = declares.put-there-is w c.args.x (is_seen c.args.v) (run_value w c.args.r) d.prevented d.undefined (type_of d.kind) (alias_of d.alias) c.in-Some.k c.in-Some.ensures in
+    let seen = sym c.is_seen-seen.ensures ∙ c.if-seen.false in
+    rw (there, seen) c.redeclare_as.ensures
 
 pub declare_new-requires : goal.declare_new-requires
-declare_new-requires c = (c.requires.0, omega arith, omega arith, rw (run_none c.args.w.now 0) refl)
+declare_new-requires c = (c.requires.0, omega (arith, c.if-w-eq0.false), listed.none-offered c.args.w.now c.args.r.at (omega (arith, c.requires.1.inside)))
 
-pub returns-then-seen-2 : goal.returns-then-seen-2
-returns-then-seen-2 c =
+pub returns-in-None : goal.returns-in-None
+returns-in-None c =
     let w = c.args.w.now in
-    let a = c.args in
-    let v : Option Tree = value_of (run w 16 a.i a.m) in
-    rw (declares.put-absent-is w a.x c.own_binding-r.result c.own_binding-r.ensures a.seen v (yes a.prevented) (yes a.undef) (var_type_of a.kind) (alias_at a.alias) c.if-r-n.false, c.if-seen-2.true) (rw (run_none w 0) at c.declare_new.ensures)
+    let d = c.args.d in
+    let absent = declares.put-absent-is w c.args.x (is_seen c.args.v) (run_value w c.args.r) d.prevented d.undefined (type_of d.kind) (alias_of d.alias) c.in-None.ensures in
+    let seen = sym c.is_seen-seen.ensures ∙ c.if-seen-2.true in
+    rw (absent, seen) (rw (listed.none-value w c.args.r.at) at c.declare_new.ensures)
 
-pub returns : goal.returns
-returns c =
+pub returns-in-None-2 : goal.returns-in-None-2
+returns-in-None-2 c =
     let w = c.args.w.now in
-    let a = c.args in
-    let v : Option Tree = value_of (run w 16 a.i a.m) in
-    rw (declares.put-absent-is w a.x c.own_binding-r.result c.own_binding-r.ensures a.seen v (yes a.prevented) (yes a.undef) (var_type_of a.kind) (alias_at a.alias) c.if-r-n.false, c.if-seen-2.false) c.declare_new-2.ensures
+    let d = c.args.d in
+    let absent = declares.put-absent-is w c.args.x (is_seen c.args.v) (run_value w c.args.r) d.prevented d.undefined (type_of d.kind) (alias_of d.alias) c.in-None.ensures in
+    let seen = sym c.is_seen-seen.ensures ∙ c.if-seen-2.false in
+    rw (absent, seen) c.declare_new-in-None-2.ensures
