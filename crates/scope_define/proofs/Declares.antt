@@ -15,7 +15,8 @@ use Rattle.def_pass.specs.Scope.{VarInfo, Scope, Stack, VarType, find_in, has_in
 use Rattle.def_pass.specs.Scope as def
 use Rattle.words_scopes.specs.State.{Good, Becomes, binds, stack, bind_at, off, coff, value_of}
 use Rattle.words_scopes.proofs.Split as laws
-use Rattle.scope_values.specs.Steps.{over, put_at}
+use Rattle.words.specs.declared.Run.{Run}
+use Rattle.scope_values.specs.Steps.{over, put_at, run_value}
 use Rattle.words.specs.Layout.{run}
 use Rattle.words.proofs.Nodes.{run_length}
 use Rattle.scope_values.proofs.Count.{depth_is, nodes_b, total-append, length-binds, recorded-is, values-in}
@@ -186,10 +187,16 @@ kept_at Recorded [] h old = absurd (omega arith)
 kept_at Recorded (x ∷ xs) h old = refl
 kept_at Seen xs h old = refl
 
-pub kept-is : (v : Init) (xs : List Core) → Sized v (length xs) → ◌≡◌ {A = Option Tree → Option Tree} (kept (init_at v xs)) (λ old. pick (is_seen v) old (value_of xs))
+kept-is : (v : Init) (xs : List Core) → Sized v (length xs) → ◌≡◌ {A = Option Tree → Option Tree} (kept (init_at v xs)) (λ old. pick (is_seen v) old (value_of xs))
 kept-is v xs h = λ t old. kept_at v xs h old t
 
-pub over-pick : (t : Bool) (i : ℕ) (st : Stack) → over (pick t (prevent_inline i st) st) ≡ over st
+pub same-declared : (w : List ℕ) (r : Run) (v : Init) → Sized v r.len → (x : ℕ) (p u : Bool) (k : VarType) (al : Option VarType) (st : Stack)
+    → put_declared x (λ old. pick (is_seen v) old (run_value w r)) p u k al st ≡ put_declared x (kept (init_at v (run w 16 r.at r.len))) p u k al st
+same-declared w r v h x p u k al st =
+    let sized : Sized v (length (run w 16 r.at r.len)) = rw (run_length w 16 r.at r.len) h in
+    ap (λ (f : Option Tree → Option Tree). put_declared x f p u k al st) (sym (kept-is v (run w 16 r.at r.len) sized))
+
+over-pick : (t : Bool) (i : ℕ) (st : Stack) → over (pick t (prevent_inline i st) st) ≡ over st
 over-pick true i st = over-marked i st
 over-pick false i st = refl
 

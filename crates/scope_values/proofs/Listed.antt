@@ -1,5 +1,5 @@
 -- Steps one after the other, and a binding overwritten. Assumes nothing.
-use mathlib.Core.Path.{◌≡◌, refl, sym, ap, ◌∙◌}
+use mathlib.Core.Path.{◌≡◌, refl, sym, ap, subst, ◌∙◌}
 use mathlib.Core.List.{List, [], ◌∷◌}
 use mathlib.Core.Bool.{Bool, true, false, ◌||◌}
 use mathlib.Core.Option.{Option, none}
@@ -30,6 +30,9 @@ others-then a b = record { low = λ j l h. b.low j l h ∙ a.low j l h; high = �
 
 pub becomes-then : {u v w : List ℕ} {s t : Stack} → Becomes u v s → Becomes v w t → Becomes u w t
 becomes-then a b = record { good = b.good; is = b.is; tree = b.tree ∙ a.tree; others = others-then a.others b.others; rest = b.rest ∙ a.rest }
+
+pub becomes-next : {u v w : List ℕ} {s : Stack} (f : Stack → Stack) → Becomes u v s → Becomes v w (f (stack v)) → Becomes u w (f s)
+becomes-next {u} {v} {w} f a b = becomes-then a (subst (λ (t : Stack). Becomes v w (f t)) a.is b)
 
 pub still-self : (w : List ℕ) → Good w → Still w w
 still-self w g = record { good = g; tree = refl; others = record { low = λ j a b. refl; high = λ j a b. refl }; rest = refl }
