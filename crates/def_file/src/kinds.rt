@@ -245,12 +245,13 @@ fn arrow_row(f: usize) -> Row
     ended(1, 1, ANY, Class::Binding, last)
 }
 
-// What kinds 1 to 14 ask of a node of form f; 0 is no kind.
-fn low_row(k: usize, f: usize) -> Row
-    requires { (k ≤ 14) × (f < 256) }
-    ensures { result ≡ row_of k f }
+// What a kind asks of a node of a form. Kinds are numbers, as document 01 has them, and will be rows of a table that is read.
+#[tactic(auto, unfolding(crate::specs::Kinds::row_of))]
+pub fn row_of(kind: u8, form: u8) -> Row
+    ensures { result ≡ row_of kind form }
 {
-    match k {
+    let f = form as usize;
+    match kind {
         // script s*
         1 => every(0, 0, ANY, Class::Statement),
         // block s*
@@ -279,16 +280,6 @@ fn low_row(k: usize, f: usize) -> Row
         13 => head_row(),
         // for-of
         14 => head_row(),
-        _ => no_row(),
-    }
-}
-
-// The same, for kinds 15 to 29.
-fn mid_row(k: usize, f: usize) -> Row
-    requires { (15 ≤ k) × (k ≤ 29) × (f < 256) }
-    ensures { result ≡ row_of k f }
-{
-    match k {
         // throw e
         15 => every(0, 1, 1, Class::Expression),
         // try
@@ -319,16 +310,6 @@ fn mid_row(k: usize, f: usize) -> Row
         28 => every(0, 0, ANY, Class::Property),
         // property, e
         29 => every(0, 1, 1, Class::Expression),
-        _ => no_row(),
-    }
-}
-
-// The same, for kinds from 30 on, of which the last is 44.
-fn high_row(k: usize, f: usize) -> Row
-    requires { (30 ≤ k) × (f < 256) }
-    ensures { result ≡ row_of k f }
-{
-    match k {
         // unary e (0 void, 1 typeof, 2 !, 3 -, 4 +, 5 ~, 6 delete)
         30 => every(6, 1, 1, Class::Expression),
         // update (0 `++x`, 1 `--x`, 2 `x++`, 3 `x--`) of 21, 37 or 38
@@ -361,21 +342,6 @@ fn high_row(k: usize, f: usize) -> Row
         44 => every(0, 0, 0, Class::Expression),
         _ => no_row(),
     }
-}
-
-// What a kind asks of a node of a form.
-pub fn row_of(kind: u8, form: u8) -> Row
-    ensures { result ≡ row_of kind form }
-{
-    let k = kind as usize;
-    let f = form as usize;
-    if k <= 14 {
-        return low_row(k, f);
-    }
-    if k <= 29 {
-        return mid_row(k, f);
-    }
-    high_row(k, f)
 }
 
 // A form, and a number of children, against a row.

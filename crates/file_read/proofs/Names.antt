@@ -9,7 +9,7 @@ use native.Mathlib.Numerals.{add-one}
 use native.Mathlib.Omega.{arith}
 use borrow.Author.Tests.{eq-eqb, ne_eqb}
 use lib.Dec.{T, eqb, eqb_refl}
-use lib.ListN.{length, get_or, drop, set, length-set, drop_of_length-le}
+use lib.ListN.{length, get_or, drop, set, length-set}
 use lib.Seq.{drop-cons, drop-drop, get_or-set_same, get_or-set_other}
 use Rattle.def_tree.specs.Base.{pick}
 use Rattle.words.specs.Tab.{same_or_not, tab, tab-suc, tab-ext, length-tab, get_d-tab}
@@ -36,9 +36,6 @@ module _ (x : Raw) (ids : List Raw) (j : ℕ) where
 
   pub place-miss : j < length ids → same_id x (get_or ids j zero_node) ≡ false → place_of x (drop j ids) ≡ suc (place_of x (drop (j + 1) ids))
   place-miss h e = rw (drop-cons ids j zero_node h, add-one) (ap {B = ℕ} (λ (b : Bool). elim b [ true ↦ 0 | false ↦ suc (place_of x (drop (suc j) ids)) ]) e)
-
-  pub place_end : length ids ≤ j → place_of x (drop j ids) ≡ 0
-  place_end h = rw (drop_of_length-le ids h) refl
 
 -- the search may begin at place j where none before it has the identifier
 pub place-skip : (x : Raw) (ids : List Raw) (j : ℕ) → j ≤ length ids → ((i : ℕ) → i < j → same_id x (get_or ids i zero_node) ≡ false) → place_of x ids ≡ j + place_of x (drop j ids)

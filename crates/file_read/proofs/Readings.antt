@@ -2,27 +2,25 @@
 use mathlib.Core.Path.{◌≡◌, refl, sym, ap, ap₂, ◌∙◌, subst}
 use mathlib.Core.Bool.{Bool, true, false, ◌&&◌}
 use mathlib.Core.List.{List, [], ◌∷◌}
-use Prim.Native.Nat.{ℕ, ◌+◌, ◌-◌, ◌*◌, ◌≤◌, ◌<◌}
+use Prim.Native.Nat.{ℕ, ◌+◌, ◌-◌, ◌*◌, ◌≤◌}
 use native.Mathlib.Omega.{arith}
 use borrow.Author.Tests.{le-leb, lt-leb}
 use lib.Dec.{leb}
 use lib.ListN.{length, drop, take}
 use lib.Seq.{take-length}
-use Rattle.words.specs.Moved.{Cleared}
 use Rattle.def_file.specs.Script.{Script, idents, enter_all}
 use Rattle.def_file.specs.Core.{core_nodes}
 use Rattle.def_file.specs.Read.{Read, bad, script, read, u32, parts, checked, rising, distinct, nodes_ok, fills, nodes_from, ends_from}
 use Rattle.file_read.specs.declared.header.Header.{Header}
 use Rattle.std.proofs.Common.{Result, Ok, Err}
 use Rattle.refusal.specs.declared.Refusal.{Refusal}
-use Rattle.refusal.specs.declared.Refusal.TheVariants as Row
 use Rattle.refusal.specs.Number.{number}
 use Rattle.file_preorder.specs.Child.{root_place}
 use Rattle.file_fields.specs.Text.{Placed, texts_of}
 use Rattle.file_read.specs.Idents.{ids_of, Listed}
 use Rattle.file_read.specs.Head.{HeadIs, Counts}
 use Rattle.file_read.specs.Load.{script_of, Readable, Loaded, Done, Kept}
-use Rattle.file_read.specs.Reading.{CheckIs, Held, counts_of, Told, Left, LoadIs, After, WordsAre, ReadIs}
+use Rattle.file_read.specs.Reading.{CheckIs, Held, counts_of, Told, Left, LoadIs}
 use Rattle.file_fields.proofs.Raws.{nodes-length}
 use Rattle.file_fields.proofs.Strings.{count-texts}
 use Rattle.file_read.proofs.Names.{ids-length}
@@ -146,21 +144,3 @@ module _ {bs : List ℕ} {h : Header} (C : CheckIs bs (Ok h)) where
 
 pub loaded-not : {bs w : List ℕ} {m : Refusal} → CheckIs bs (Err m) → LoadIs bs w w (Err m)
 loaded-not {m = m} e = load_is (bad (number m)) e refl tt (record { size = refl; rest = refl })
-
--- and of reading: with enough words row 1 passes
-answer_is : {bs w w' : List ℕ} {r : Result Header Refusal} → 16384 ≤ length w → Told bs (read bs) r → After bs w w' (read bs) → ReadIs bs w w' r
-answer_is {bs} {w} {w'} {r} long a h =
-    let enough = sym (le-leb 16384 (length w) long) in
-    record { answer = subst (λ (b : Bool). Told bs (elim b [ false ↦ bad 1 | true ↦ read bs ]) r) enough a; words = subst (WordsAre bs w w') enough h }
-
-pub read-script : {bs w w' : List ℕ} {h : Header} → 16384 ≤ length w → LoadIs bs w w' (Ok h) → ReadIs bs w w' (Ok h)
-read-script {bs} {w} {w'} long L = answer_is long L.answer (subst (After bs w w') (sym L.answer.1) (subst (Left bs w') L.answer.1 L.words, L.kept))
-
-pub read-refused : {bs w w₁ w₂ : List ℕ} {m : Refusal} → 16384 ≤ length w → LoadIs bs w w₁ (Err m) → Cleared w₁ w₂ → ReadIs bs w w₂ (Err m)
-read-refused {bs} {w} {w₁} {w₂} long L c = answer_is long L.answer (subst (After bs w w₂) (sym L.answer) (record { size = c.size ∙ L.kept.size; here = c.here; rest = c.rest ∙ L.kept.rest }))
-
-pub read_short : {bs w : List ℕ} → length w < 16384 → ReadIs bs w w (Err Row.Call)
-read_short {bs} {w} h = record {
-  answer = ap {B = Read} (λ (b : Bool). elim b [ false ↦ bad 1 | true ↦ read bs ]) (lt-leb 16384 (length w) h);
-  words = subst (WordsAre bs w w) (sym (lt-leb 16384 (length w) h)) refl;
-}

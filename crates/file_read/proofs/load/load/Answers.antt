@@ -8,9 +8,6 @@ use Rattle.file_read.proofs.load.load.Goals as goal
 pub loop-k-init : goal.loop-k-init
 loop-k-init c = (none-loaded c.requires.1 c.wipe.ensures c.args.file.now c.args.n c.args.t, record { size = refl; rest = refl })
 
-pub loop-k-preserved : goal.loop-k-preserved
-loop-k-preserved c = let s = c.in_ok-load_node.ensures in (s.next, kept_then {w₁ = c.loop-k.words} c.loop-k.invariant.1 s.kept)
-
 pub returns-in_err-load_node : goal.returns-in_err-load_node
 returns-in_err-load_node c =
     let s = c.in_err-load_node.ensures in

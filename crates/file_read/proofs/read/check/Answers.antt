@@ -1,14 +1,11 @@
 -- `file_read::read::check` meets its contract: each way out is a row of the definition. Assumes nothing.
 use Rattle.std.proofs.Common.{sym, ◌∙◌}
 use Rattle.std.proofs.lemmas.Result.{err_from_is_err_and}
-use Rattle.file_read.proofs.Readings.{read-not, falls, twice, placed, not-nodes, passed}
+use Rattle.file_read.proofs.Readings.{read-not, falls, twice, not-nodes, passed}
 use Rattle.file_read.proofs.read.check.Goals as goal
 
 pub returns-in_err-h : goal.returns-in_err-h
 returns-in_err-h c = let e = err_from_is_err_and c.from_residual.result c.from_residual.ensures.1 in rw (e.1, e.2) (read-not c.in_err-h.ensures)
-
-pub distinct_ok-requires : goal.distinct_ok-requires
-distinct_ok-requires c = placed c.in_ok-h.ensures (sym c.rising_ok.ensures ∙ c.if-not-rising_ok.false)
 
 pub returns-then-not-rising_ok : goal.returns-then-not-rising_ok
 returns-then-not-rising_ok c = falls c.in_ok-h.ensures (sym c.rising_ok.ensures ∙ c.if-not-rising_ok.true)
