@@ -53,13 +53,13 @@ const ANY: usize = 65535;
 fn is_stmt(k: usize) -> bool
     ensures { result ≡ is_stmt k }
 {
-    ((2 <= k) & (k <= 5)) | ((7 <= k) & (k <= 16)) | (k == 18) | (k == 43) | (k == 44)
+    matches!(k, 2..=5 | 7..=16 | 18 | 43 | 44)
 }
 
 fn is_expr(k: usize) -> bool
     ensures { result ≡ is_expr k }
 {
-    (21 <= k) & (k <= 42) & !(k == 29)
+    matches!(k, 21..=28 | 30..=42)
 }
 
 // May a node of kind k with n children stand at a place.
@@ -76,10 +76,10 @@ pub fn allows(c: Class, k: usize, n: usize) -> bool
         Class::Catch => k == 17,
         Class::Case => k == 19,
         Class::Property => k == 29,
-        Class::Updated => (k == 21) | (k == 37) | (k == 38),
-        Class::Assigned => (k == 20) | (k == 37) | (k == 38),
-        Class::Start => (k == 5) | is_expr(k),
-        Class::Head => (k == 20) | ((k == 5) & (n == 1)),
+        Class::Updated => matches!(k, 21 | 37 | 38),
+        Class::Assigned => matches!(k, 20 | 37 | 38),
+        Class::Start => k == 5 || is_expr(k),
+        Class::Head => k == 20 || (k == 5 && n == 1),
     }
 }
 
@@ -348,13 +348,13 @@ pub fn row_of(kind: u8, form: u8) -> Row
 pub fn form_ok(r: Row, f: usize) -> bool
     ensures { result ≡ form_ok r f }
 {
-    (r.from <= f) & (f <= r.to)
+    (r.from..=r.to).contains(&f)
 }
 
 pub fn count_ok(r: Row, n: usize) -> bool
     ensures { result ≡ count_ok r n }
 {
-    (r.least <= n) & (n <= r.most)
+    (r.least..=r.most).contains(&n)
 }
 
 // What child i of n may be.
@@ -377,11 +377,11 @@ pub fn child(r: Row, n: u16, i: u16) -> Class
 pub fn uses_text(k: usize) -> bool
     ensures { result ≡ uses_text k }
 {
-    (k == 20) | (k == 21) | (k == 25) | (k == 29) | (k == 37)
+    matches!(k, 20 | 21 | 25 | 29 | 37)
 }
 
 pub fn uses_bits(k: usize) -> bool
     ensures { result ≡ uses_bits k }
 {
-    (k == 20) | (k == 21) | (k == 24)
+    matches!(k, 20 | 21 | 24)
 }
