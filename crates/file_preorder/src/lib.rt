@@ -39,7 +39,7 @@ fn fields_ok(x: Raw, t: usize) -> bool
     let k = x.kind as usize;
     let text = x.text as usize;
     let known = if uses_text(k) { text < t } else { text == 0 };
-    known & (uses_bits(k) | (x.bits == 0))
+    known && (uses_bits(k) || x.bits == 0)
 }
 
 // A node that fills a place of a class, in a script with t texts.
@@ -50,7 +50,7 @@ fn node_ok(x: Raw, c: Class, t: usize) -> bool
     let f = x.form as usize;
     let n = x.arity as usize;
     let row = row_of(x.kind, x.form);
-    allows(c, k, n) & fields_ok(x, t) & form_ok(row, f) & count_ok(row, n)
+    allows(c, k, n) && fields_ok(x, t) && form_ok(row, f) && count_ok(row, n)
 }
 
 // The children of the node at index `at`, which fills a place of class c with `left` levels.
