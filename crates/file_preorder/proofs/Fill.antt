@@ -19,6 +19,7 @@ use Rattle.def_file.specs.Script.{zero_node}
 use Rattle.def_file.specs.Read.{Place, raw_of, fields_ok, node_ok, below, fills}
 use Rattle.file_fields.proofs.Tests.{is_T, and_left, and_right}
 use Rattle.std.proofs.Common.{Result, Ok, Err}
+use Rattle.std.specs.Result.{MatchResult}
 use Rattle.refusal.specs.declared.Refusal.{Refusal}
 use Rattle.file_preorder.specs.declared.Child.{Child}
 use Rattle.refusal.specs.declared.Refusal.TheVariants.{Nodes}
@@ -239,9 +240,15 @@ pub rest-same : {x y : Raw} (t : ℕ) (c : Class) → x ≡ y
 rest-same t c e = ap (λ (z : Raw). allows c z.kind z.arity && fields_ok t z && form_ok (row_of z.kind z.form) z.form && count_ok (row_of z.kind z.form) z.arity) (sym e)
 
 -- at the end no place is left, and no node may be
-pub fills-end : (t : ℕ) (xs : List Raw) (j : ℕ) → j ≤ length xs → fills t [] (drop j xs) ≡ eqb j (length xs)
+fills-end : (t : ℕ) (xs : List Raw) (j : ℕ) → j ≤ length xs → fills t [] (drop j xs) ≡ eqb j (length xs)
 unfolding fills
 fills-end t [] zero h = refl
 fills-end t [] (suc j) h = absurd (omega arith)
 fills-end t (x ∷ xs) zero h = sym (eqb-zero-suc (length xs))
 fills-end t (x ∷ xs) (suc j) h = fills-end t xs j (omega arith) ∙ sym (eqb-suc-suc j (length xs))
+
+-- what a test of the index behind the script's node says of its place
+pub filled-whole : {t n : ℕ} {xs : List Raw} {p : Place} {P : Child → Type 0} (r : Result Child Refusal) (b : Bool) → length xs ≡ n → Filled t xs p 0 r → MatchResult r P (λ _. b ≡ false)
+    → ((c : Child) → P c → b ≡ eqb (behind c) n) → b ≡ fills t (p ∷ []) xs
+filled-whole {t} {n} {xs} (Ok c) b e f m h = h c m ∙ ap (eqb (behind c)) (sym e) ∙ sym (f.is [] ∙ fills-end t xs (behind c) f.fits.0)
+filled-whole (Err _) b e f m h = m ∙ sym (f.is [])

@@ -132,8 +132,5 @@ pub fn nodes_ok(file: &[u8], n: usize, t: usize) -> bool
     requires { Room file.now n }
     ensures { result ≡ fills t (root_place ∷ []) (nodes_of file.now n) }
 {
-    match node(file, n, t, 0, Class::Root, 200) {
-        Ok(root) => root.behind() == n,
-        Err(_) => false,
-    }
+    node(file, n, t, 0, Class::Root, 200).is_ok_and(|root| root.behind() == n)
 }
