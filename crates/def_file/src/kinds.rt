@@ -1,4 +1,5 @@
-// The kinds 1 to 44 of document 01, "The tree file", with their forms, and what may stand below each.
+// The kinds 1 to 44 of document 01, "The tree file", with their forms, and what may stand below each. Kinds and forms are that
+// document's own numbers and no enum: what each asks is a table by these numbers.
 ghost use Rattle.std.specs.Prelude.{◌≡◌, ◌&&◌, ◌||◌, eqb, leb, ◌<◌, ◌≤◌};
 ghost use Rattle.def_file.specs.Kinds.{allows, is_stmt, is_expr, every, led, ended, for_row, try_row, case_row, new_row, function_row, head_row, arrow_row, no_row, row_of, form_ok, count_ok, child_of, uses_text, uses_bits};
 
@@ -245,7 +246,7 @@ fn arrow_row(f: usize) -> Row
     ended(1, 1, ANY, Class::Binding, last)
 }
 
-// What a kind asks of a node of a form. Kinds are numbers, as document 01 has them, and will be rows of a table that is read.
+// What a kind asks of a node of a form.
 #[tactic(auto, unfolding(crate::specs::Kinds::row_of))]
 pub fn row_of(kind: u8, form: u8) -> Row
     ensures { result ≡ row_of kind form }

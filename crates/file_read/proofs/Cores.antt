@@ -7,7 +7,8 @@ use native.Mathlib.Nat.{le_of_suc-le-suc, not-suc-le-zero}
 use native.Mathlib.Decide.{dec_le}
 use native.Mathlib.Numerals.{add-one}
 use native.Mathlib.Omega.{arith}
-use borrow.Author.Tests.{ne_eqb}
+use borrow.Author.Tests.{ne_eqb, le-leb}
+use Rattle.std.proofs.lemmas.Bool.Decides.{nat_tests}
 use lib.Dec.{T, eqb, leb, leb→le, ltb, ltb→lt, lit≤}
 use mir.Val.{bool_byte}
 use lib.ListN.{length, get_or, drop, take, set, length-set, length-append, take-append-drop, get_or-eq_default}
@@ -286,6 +287,13 @@ module _ (w : List ℕ) (k kind form arity num : ℕ) (long : 16384 ≤ length w
     last = λ j l. put_other j (λ e. omega (arith, e)) (λ e. omega (arith, e)) (λ e. omega (arith, e));
   }
 
+-- the kinds of literals, and those of neither a literal nor a name
+lit-kinds : (x : Raw) → 22 ≤ x.kind → x.kind ≤ 25 → is_lit x ≡ true
+lit-kinds x h l = rw (le-leb 22 x.kind h, le-leb x.kind 25 l) refl
+
+plain-kinds : (x : Raw) → (20 ≤ x.kind → 26 ≤ x.kind) → (is_lit x ≡ false) × (has_id x ≡ false)
+plain-kinds x h = grind (arith, nat_tests)
+
 -- a literal has no identifier
 lit-no-id : (x : Raw) → T (is_lit x) → has_id x ≡ false
 lit-no-id x h =
@@ -340,11 +348,11 @@ module _ {bs w : List ℕ} {n t k : ℕ} (L : Loading bs w n t k) where
   loaded-as : {w₂ : List ℕ} {c : Core} → c ≡ core_node s (k + 1) x → has_id x ≡ false → Appended w w₂ c → Loaded bs w₂ n t (k + 1)
   loaded-as e z p = loaded-more e refl refl (sym (enter-none (ids_of bs w) x z)) L.loaded.listed L.loaded.texted p
 
-  pub loaded-lit : {w₂ : List ℕ} → is_lit x ≡ true → Appended w w₂ (core 22 0 0 (k + 1)) → Loaded bs w₂ n t (k + 1)
-  loaded-lit lit p = loaded-as (sym (core-lit s (k + 1) x lit)) (lit-no-id x (is_T (is_lit x) lit)) p
+  pub loaded-lit : {w₂ : List ℕ} → 22 ≤ x.kind → x.kind ≤ 25 → Appended w w₂ (core 22 0 0 (k + 1)) → Loaded bs w₂ n t (k + 1)
+  loaded-lit h l p = let lit = lit-kinds x h l in loaded-as (sym (core-lit s (k + 1) x lit)) (lit-no-id x (is_T (is_lit x) lit)) p
 
-  pub loaded-plain : {w₂ : List ℕ} {kind form arity : ℕ} → kind ≡ x.kind → form ≡ x.form → arity ≡ x.arity → is_lit x ≡ false → has_id x ≡ false → Appended w w₂ (core kind form arity (k + 1)) → Loaded bs w₂ n t (k + 1)
-  loaded-plain q f a lit z p = loaded-as (rw (q, f, a) (sym (core-plain s (k + 1) x lit z))) z p
+  pub loaded-plain : {w₂ : List ℕ} {kind form arity : ℕ} → kind ≡ x.kind → form ≡ x.form → arity ≡ x.arity → (20 ≤ x.kind → 26 ≤ x.kind) → Appended w w₂ (core kind form arity (k + 1)) → Loaded bs w₂ n t (k + 1)
+  loaded-plain q f a h p = let z = plain-kinds x h in loaded-as (rw (q, f, a) (sym (core-plain s (k + 1) x z.0 z.1))) z.1 p
 
   -- the number that its identifier has in the end
   pub number-final : has_id x ≡ true → place_of x (idents s) ≡ place_of x (enter (ids_of bs w) x)

@@ -18,7 +18,7 @@ pub struct Header {
 fn counts_ok(h: Header) -> bool
     ensures { result ≡ (leb 1 h.nodes && leb h.nodes 1024 && leb h.texts 256 && leb h.bytes 4096) }
 {
-    (1 <= h.nodes) & (h.nodes <= 1024) & (h.texts <= 256) & (h.bytes <= 4096)
+    (1..=1024).contains(&h.nodes) && h.texts <= 256 && h.bytes <= 4096
 }
 
 // Row 4: each offset, and the length, is the sum of its parts; the length is that of the bytes given.
@@ -29,11 +29,11 @@ fn sums_ok(file: &[u8], h: Header) -> bool
     let total = word(file, 4);
     let ends = 32 + 16 * h.nodes;
     let bytes = ends + 4 * h.texts;
-    (total == file.len())
-        & (word(file, 12) == 32)
-        & (word(file, 20) == ends)
-        & (word(file, 24) == bytes)
-        & (total == bytes + h.bytes)
+    total == file.len()
+        && word(file, 12) == 32
+        && word(file, 20) == ends
+        && word(file, 24) == bytes
+        && total == bytes + h.bytes
 }
 
 fn word(file: &[u8], i: usize) -> usize

@@ -47,23 +47,20 @@ fn load_node(file: &[u8], words: &mut [u32], n: usize, t: usize, k: usize) -> Re
     ensures { Step file.now words.old words.new n t k result }
 {
     let x = raw_at(file, 32 + 16 * k);
-    let literal = (22 <= x.kind) & (x.kind <= 25);
-    if literal {
-        put_node(words, k, 22, 0, 0, (k + 1) as u32);
-        return Ok(());
+    match x.kind {
+        // A literal.
+        22..=25 => put_node(words, k, 22, 0, 0, (k + 1) as u32),
+        // A binding or an identifier.
+        20 | 21 => load_ident(file, words, n, t, k)?,
+        _ => put_node(
+            words,
+            k,
+            u32::from(x.kind),
+            u32::from(x.form),
+            u32::from(x.arity),
+            (k + 1) as u32,
+        ),
     }
-    let named = (x.kind == 20) | (x.kind == 21);
-    if named {
-        return load_ident(file, words, n, t, k);
-    }
-    put_node(
-        words,
-        k,
-        u32::from(x.kind),
-        u32::from(x.form),
-        u32::from(x.arity),
-        (k + 1) as u32,
-    );
     Ok(())
 }
 

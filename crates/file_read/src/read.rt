@@ -15,10 +15,7 @@ fn check(file: &[u8]) -> Result<Header, Refusal>
     let h = read_header(file)?;
     let ends = 32 + 16 * h.nodes;
     let bytes = ends + 4 * h.texts;
-    if !rising_ok(file, ends, h.texts, h.bytes) {
-        return Err(Refusal::Texts);
-    }
-    if !distinct_ok(file, ends, bytes, h.texts) {
+    if !rising_ok(file, ends, h.texts, h.bytes) || !distinct_ok(file, ends, bytes, h.texts) {
         return Err(Refusal::Texts);
     }
     if !nodes_ok(file, h.nodes, h.texts) {
