@@ -3,11 +3,13 @@ use Rattle.std.proofs.Common.{◌≡◌, ℕ, zero, suc, ◌+◌, ◌*◌, ◌<�
 use mathlib.Core.Option.{Option, none, some}
 use Rattle.def_pass.specs.Scope.{VarInfo, Stack, is_var, hoist, with_value, change, append, find_in, find_binding_from_current, count_in, is_some}
 use Rattle.words.specs.Layout.{yes, Agree}
-use Rattle.words_scopes.specs.State.{Becomes, bind_at, binds, consts, stack, var_type_of, alias_at, bare_of, with_count}
+use Rattle.words_scopes.specs.State.{Becomes, bind_at, binds, consts, stack, var_type_of, alias_at, recorded, Recorded, with_count}
 use Rattle.words_scopes.proofs.Words.{bind-eq}
 use Rattle.scope_values.specs.Steps.{Listed, refill}
 use Rattle.scope_values.proofs.Listed.{change-at, listed-becomes}
-use Rattle.scope_redeclare.specs.Own.{Own}
+use Rattle.std.proofs.Common.{None}
+use Rattle.words_scopes.specs.declared.Record.{Record}
+use Rattle.scope_redeclare.specs.Own.{Own, OwnAt}
 use Rattle.scope_redeclare.proofs.Top.{put_top, put-there, put-absent, unres_top}
 use Rattle.scope_child.specs.Hoist.{record_at, hoist_one, hoist_up, end_one}
 
@@ -57,35 +59,41 @@ count-away i (s ∷ st) e = count-in i s.bindings ∙ go (find_in i s.bindings) 
     go none e = refl
     go (some b) e = absurd (let z : ◌≡◌ {A = ℕ} 0 1 = cc in omega arith)
 
--- in the words
-module _ (w : List ℕ) (j x p : ℕ) (named : get_or w (4112 + j * 10) 0 ≡ x) (var : get_or w (4112 + j * 10 + 1) 0 ≡ 1) (mark : yes p ≡ (unres_top (stack w) x || yes (get_or w (4112 + j * 10 + 4) 0))) where
+-- in the words: record j of a closed scope, of x, and whether it is prevented then
+module _ (w : List ℕ) (j x : ℕ) (r : Record) (t : Recorded w j r) (named : get_or w (4112 + j * 10) 0 ≡ x) (var : get_or w (4112 + j * 10 + 1) 0 ≡ 1) (p : Bool) (mark : p ≡ (unres_top (stack w) x || r.prevented)) where
   abbrev pub gone : VarInfo
   gone = hoist (unres_top (stack w)) (record_at w j)
 
-  pub bare-gone : bare_of x 1 (get_or w (4112 + j * 10 + 2) 0) (get_or w (4112 + j * 10 + 3) 0) p 0 (get_or w (4112 + j * 10 + 6) 0) 1 (get_or w (8080 + j) 0) ≡ gone
-  bare-gone = bind-eq (sym named) (ap var_type_of (sym var)) refl refl (rw named mark) refl refl refl refl refl
+  abbrev pub up : Record
+  up = record { kind = r.kind; alias = r.alias; reads = r.reads; prevented = p; undefined = false; this_sensitive = r.this_sensitive; hoisted = true }
 
-  pub refill-gone : (b : VarInfo) → b.id ≡ x → with_count (get_or w (8080 + j) 0) (refill 1 (get_or w (4112 + j * 10 + 2) 0) (get_or w (4112 + j * 10 + 3) 0) p 0 (get_or w (4112 + j * 10 + 6) 0) 1 (with_value none b)) ≡ gone
-  refill-gone b e = bind-eq (e ∙ sym named) (ap var_type_of (sym var)) refl refl (rw named mark) refl refl refl refl refl
+  prevented-is : p ≡ gone.inline_prevented
+  prevented-is = rw named (mark ∙ ap (λ (b : Bool). unres_top (stack w) x || b) t.prevented)
+
+  pub bare-gone : recorded x up (get_or w (8080 + j) 0) ≡ gone
+  bare-gone = bind-eq (sym named) t.kind t.alias t.reads prevented-is refl refl t.this_sensitive refl refl
+
+  pub refill-gone : (b : VarInfo) → b.id ≡ x → with_count (get_or w (8080 + j) 0) (refill up (with_value none b)) ≡ gone
+  refill-gone b e = bind-eq (e ∙ sym named) t.kind t.alias t.reads prevented-is refl refl t.this_sensitive refl refl
 
   is-var : is_var (record_at w j).kind ≡ true
   is-var = ap (λ (n : ℕ). is_var (var_type_of n)) var
 
-  pub gone-there : {w' : List ℕ} (r : ℕ) → r < get_or w 1 0 → Own w x r → Listed w w' (set (binds w) r gone) (consts w) → Becomes w w' (hoist_one (record_at w j) (stack w))
-  gone-there r h o l =
-      let t = o.there h in
-      let s : hoist_one (record_at w j) (stack w) ≡ change x (λ b. gone) (stack w) = hoist-var-is (record_at w j) (stack w) is-var ∙ put-there gone (stack w) (rw named t.1) ∙ ap (λ (n : ℕ). change n (λ b. gone) (stack w)) named in
-      listed-becomes (hoist_one (record_at w j) (stack w)) (s ∙ change-at w r h x (λ b. gone) t.0) l
+  pub gone-there : {w' : List ℕ} (k : ℕ) → OwnAt w x k → Listed w w' (set (binds w) k gone) (consts w) → Becomes w w' (hoist_one (record_at w j) (stack w))
+  gone-there k o l =
+      let here : is_some (find_binding_from_current x (stack w)) ≡ true = ap is_some o.found in
+      let s : hoist_one (record_at w j) (stack w) ≡ change x (λ b. gone) (stack w) = hoist-var-is (record_at w j) (stack w) is-var ∙ put-there gone (stack w) (rw named here) ∙ ap (λ (n : ℕ). change n (λ b. gone) (stack w)) named in
+      listed-becomes (hoist_one (record_at w j) (stack w)) (s ∙ change-at w k o.below x (λ b. gone) o.place) l
 
-  pub gone-absent : (r : ℕ) → get_or w 1 0 ≤ r → Own w x r → hoist_one (record_at w j) (stack w) ≡ append gone (stack w)
-  gone-absent r h o = hoist-var-is (record_at w j) (stack w) is-var ∙ put-absent gone (stack w) (rw named (o.absent h))
+  pub gone-absent : Own w x None → hoist_one (record_at w j) (stack w) ≡ append gone (stack w)
+  gone-absent o = hoist-var-is (record_at w j) (stack w) is-var ∙ put-absent gone (stack w) (rw named o)
 
   -- the count that ends: of the binding found, or none
-  pub ends_there : (r : ℕ) → r < get_or w 1 0 → Own w x r → get_or w (8080 + r) 0 ≡ end_one (record_at w j) (stack w)
-  ends_there r h o = sym (end-var (record_at w j) (stack w) is-var ∙ rw named (count-here x (stack w) (bind_at w r) (o.found h)))
+  pub ends_there : (k : ℕ) → OwnAt w x k → get_or w (8080 + k) 0 ≡ end_one (record_at w j) (stack w)
+  ends_there k o = sym (end-var (record_at w j) (stack w) is-var ∙ rw named (count-here x (stack w) (bind_at w k) o.found))
 
-  pub ends-absent : (r : ℕ) → get_or w 1 0 ≤ r → Own w x r → 0 ≡ end_one (record_at w j) (stack w)
-  ends-absent r h o = sym (end-var (record_at w j) (stack w) is-var ∙ rw named (count-away x (stack w) (o.absent h)))
+  pub ends-absent : Own w x None → 0 ≡ end_one (record_at w j) (stack w)
+  ends-absent o = sym (end-var (record_at w j) (stack w) is-var ∙ rw named (count-away x (stack w) o))
 
 -- the kind of a record that is no `var`
 pub no-var : (k : ℕ) → (k ≡ 1 → ⊥) → is_var (var_type_of k) ≡ false
@@ -108,8 +116,3 @@ record_same w w' j f c =
     let at : (q : ℕ) → q < 8 → get_or w' (4112 + j * 10 + q) 0 ≡ get_or w (4112 + j * 10 + q) 0 = λ q l. f (4112 + j * 10 + q) (omega arith) (omega arith) in
     bind-eq (f (4112 + j * 10) (omega arith) (omega arith)) (ap var_type_of (at 1 (omega arith))) (ap alias_at (at 2 (omega arith))) (at 3 (omega arith))
     (ap yes (at 4 (omega arith))) (ap yes (at 5 (omega arith))) refl (ap yes (at 6 (omega arith))) (ap yes (at 7 (omega arith))) c
-
--- a word that is not 0 is a mark
-pub yes_of : (n : ℕ) → (n ≡ 0 → ⊥) → yes n ≡ true
-yes_of zero h = absurd (h refl)
-yes_of (suc n) h = refl

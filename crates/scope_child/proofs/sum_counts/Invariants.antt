@@ -6,7 +6,4 @@ use Rattle.words_scopes.specs.State.{bind_at}
 use Rattle.scope_child.proofs.sum_counts.Given as goal
 
 abbrev pub invariant-loop-j : goal.invariant-loop-j
-invariant-loop-j l = (l.a ≤ l.j) × (l.j ≤ l.e) × (l.sum ≡ counts_in (tab (l.j - l.a) (λ i. bind_at l.w (l.a + i))) % 4294967296)
-
-abbrev pub decreases-loop-j : goal.decreases-loop-j
-decreases-loop-j l = l.e - l.j
+invariant-loop-j l = l.sum ≡ counts_in (tab (l.j - l.a) (λ i. bind_at l.w (l.a + i))) % 4294967296
