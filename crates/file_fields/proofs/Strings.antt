@@ -14,6 +14,7 @@ use lib.ListN.{length, get_or, drop, take, drop_of_length-le}
 use lib.Seq.{drop-cons, drop-drop, get_or-drop}
 use Rattle.def_file.specs.Script.{same_text}
 use Rattle.def_file.specs.Read.{number, u32, ends_from, texts_from, rising, any_text, distinct}
+use Rattle.file_fields.specs.declared.texts.Texts.{Texts}
 use Rattle.file_fields.specs.Text.{part, start_of, text_in, texts_of, Placed}
 use Rattle.file_fields.proofs.Tests.{is_T, T-is, and_left, and_right}
 
@@ -120,14 +121,23 @@ part-is bs from p e h l =
     let m : from + e - (from + p) ≡ e - p = omega arith in
     rw (le-leb (from + p) (from + e) (omega arith), le-leb (from + e) (length bs) l, m, drop-drop) refl
 
-module _ {bs : List ℕ} {ends from t : ℕ} (P : Placed bs ends from t) where
+module _ {bs : List ℕ} {at : Texts} (P : Placed bs at) where
+  abbrev ends : ℕ
+  ends = at.ends
+
+  abbrev from : ℕ
+  from = at.bytes
+
+  abbrev t : ℕ
+  t = at.count
+
   abbrev es : List ℕ
   es = ends_from t (drop ends bs)
 
-  pub count-texts : length (texts_of bs ends from t) ≡ t
+  pub count-texts : length (texts_of bs at) ≡ t
   count-texts = texts-length 0 es (drop from bs) ∙ ends-length t (drop ends bs)
 
-  pub text-is : (k : ℕ) → k < t → get_or (texts_of bs ends from t) k [] ≡ text_in bs ends from k
+  pub text-is : (k : ℕ) → k < t → get_or (texts_of bs at) k [] ≡ text_in bs ends from k
   unfolding text_in prev rising
   text-is k h =
       let n = length bs - from in
@@ -136,7 +146,7 @@ module _ {bs : List ℕ} {ends from t : ℕ} (P : Placed bs ends from t) where
       let b = between 0 n es k l P.rises in
       let b₁ = between 0 n es (suc k) (omega (arith, len)) P.rises in
       let lo : prev 0 es k ≤ get_or es k 0 = rise-at 0 n es k (omega (arith, len)) P.rises in
-      ap (λ (m : ℕ). get_or (texts_of bs ends from t) m []) (plus k) ∙ sym (get_or-drop k (texts_of bs ends from t) 0 [])
+      ap (λ (m : ℕ). get_or (texts_of bs at) m []) (plus k) ∙ sym (get_or-drop k (texts_of bs at) 0 [])
       ∙ ap (λ (xs : List (List ℕ)). get_or xs 0 []) (texts-drop 0 n es (drop from bs) k l P.rises)
       ∙ ap (λ (ys : List ℕ). get_or (texts_from (prev 0 es k) ys (drop (prev 0 es k - 0) (drop from bs))) 0 []) (drop-cons es k 0 (omega (arith, len)))
       ∙ first-text (prev 0 es k) (get_or es k 0) (drop (suc k) es) (drop (prev 0 es k - 0) (drop from bs))
@@ -155,8 +165,8 @@ module _ {bs : List ℕ} {ends from t : ℕ} (P : Placed bs ends from t) where
           rest : (at e : ℕ) (es : List ℕ) → rising at (e ∷ es) n ≡ true → rising e es n ≡ true
           rest at e es r = T-is (rising e es n) (and_right (leb at e) (rising e es n) (is_T (leb at e && rising e es n) r))
 
-  pub text-cons : (k : ℕ) → k < t → drop k (texts_of bs ends from t) ≡ text_in bs ends from k ∷ drop (k + 1) (texts_of bs ends from t)
-  text-cons k h = drop-cons (texts_of bs ends from t) k [] (omega (arith, count-texts)) ∙ ap₂ {C = List (List ℕ)} (λ x xs. x ∷ xs) (text-is k h) (ap (λ (m : ℕ). drop m (texts_of bs ends from t)) (sym (add-one k)))
+  pub text-cons : (k : ℕ) → k < t → drop k (texts_of bs at) ≡ text_in bs ends from k ∷ drop (k + 1) (texts_of bs at)
+  text-cons k h = drop-cons (texts_of bs at) k [] (omega (arith, count-texts)) ∙ ap₂ {C = List (List ℕ)} (λ x xs. x ∷ xs) (text-is k h) (ap (λ (m : ℕ). drop m (texts_of bs at)) (sym (add-one k)))
 
 -- looking for a text, and for two texts that are equal, from place k on
 module _ {u : List ℕ} {us ts : List (List ℕ)} (e : ts ≡ u ∷ us) where
@@ -177,13 +187,13 @@ unfolding distinct
 distinct-end ts k h = rw (drop_of_length-le ts h) refl
 
 -- the texts from k on, by their numbers
-module _ {bs : List ℕ} {ends from t : ℕ} (P : Placed bs ends from t) where
-  pub any-range : (x : List ℕ) (k n : ℕ) → k + n ≡ t → list_any (λ j. pointwise eqb x (text_in bs ends from j)) (range_with_len k n) ≡ any_text x (drop k (texts_of bs ends from t))
-  any-range x k zero e = sym (any-end x (texts_of bs ends from t) k (omega (arith, count-texts P)))
+module _ {bs : List ℕ} {at : Texts} (P : Placed bs at) where
+  pub any-range : (x : List ℕ) (k n : ℕ) → k + n ≡ at.count → list_any (λ j. pointwise eqb x (text_in bs at.ends at.bytes j)) (range_with_len k n) ≡ any_text x (drop k (texts_of bs at))
+  any-range x k zero e = sym (any-end x (texts_of bs at) k (omega (arith, count-texts P)))
   any-range x k (suc n) e =
       let h = any-range x (k + 1) n (omega arith) in
-      ap₂ {C = Bool} ◌||◌ (same_pointwise x (text_in bs ends from k)) h ∙ sym (any-next (text-cons P k (omega arith)) x)
+      ap₂ {C = Bool} ◌||◌ (same_pointwise x (text_in bs at.ends at.bytes k)) h ∙ sym (any-next (text-cons P k (omega arith)) x)
 
-  pub all-range : (k n : ℕ) → k + n ≡ t → list_all (λ i. not (any_text (text_in bs ends from i) (drop (i + 1) (texts_of bs ends from t)))) (range_with_len k n) ≡ distinct (drop k (texts_of bs ends from t))
-  all-range k zero e = sym (distinct-end (texts_of bs ends from t) k (omega (arith, count-texts P)))
-  all-range k (suc n) e = ap {B = Bool} (λ (b : Bool). not (any_text (text_in bs ends from k) (drop (k + 1) (texts_of bs ends from t))) && b) (all-range (k + 1) n (omega arith)) ∙ sym (distinct-next (text-cons P k (omega arith)))
+  pub all-range : (k n : ℕ) → k + n ≡ at.count → list_all (λ i. not (any_text (text_in bs at.ends at.bytes i) (drop (i + 1) (texts_of bs at)))) (range_with_len k n) ≡ distinct (drop k (texts_of bs at))
+  all-range k zero e = sym (distinct-end (texts_of bs at) k (omega (arith, count-texts P)))
+  all-range k (suc n) e = ap {B = Bool} (λ (b : Bool). not (any_text (text_in bs at.ends at.bytes k) (drop (k + 1) (texts_of bs at))) && b) (all-range (k + 1) n (omega arith)) ∙ sym (distinct-next (text-cons P k (omega arith)))

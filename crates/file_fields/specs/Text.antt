@@ -1,6 +1,7 @@
 -- The texts of a file by their number. Assumes nothing: these are definitions.
 use Rattle.std.specs.Prelude.{◌≡◌, Bool, ◌&&◌, List, [], ℕ, zero, suc, ◌+◌, ◌-◌, ◌*◌, ◌≤◌, leb, length, take, drop}
 use Rattle.def_tree.specs.Base.{pick}
+use Rattle.file_fields.specs.declared.texts.Texts.{Texts}
 use Rattle.def_file.specs.Read.{u32, ends_from, texts_from, rising}
 
 -- the bytes from a up to b, none if these are no stretch of the list
@@ -17,14 +18,18 @@ unfoldable pub text_in : List ℕ → ℕ → ℕ → ℕ → List ℕ
 text_in bs ends from k = part bs (from + start_of bs ends k) (from + u32 bs (ends + 4 * k))
 
 -- all texts, as reading has them
-abbrev pub texts_of : List ℕ → ℕ → ℕ → ℕ → List (List ℕ)
-texts_of bs ends from t = texts_from 0 (ends_from t (drop ends bs)) (drop from bs)
+abbrev pub texts_of : List ℕ → Texts → List (List ℕ)
+texts_of bs x = texts_from 0 (ends_from x.count (drop x.ends bs)) (drop x.bytes bs)
 
--- t ends from `ends` on, which never fall, and the texts from `from` on to the last byte
-pub record Placed (bs : List ℕ) (ends from t : ℕ) : Type 0 where
-  pub low : ends ≤ 100000
-  pub high : from ≤ 100000
-  pub few : t ≤ 256
-  pub room : ends + 4 * t ≤ length bs
-  pub size : from ≤ length bs
-  pub rises : rising 0 (ends_from t (drop ends bs)) (length bs - from) ≡ Bool.true
+-- the ends stand in the file
+pub record Stored (bs : List ℕ) (x : Texts) : Type 0 where
+  pub low : x.ends ≤ 100000
+  pub high : x.bytes ≤ 100000
+  pub few : x.count ≤ 256
+  pub room : x.ends + 4 * x.count ≤ length bs
+
+-- and never fall, and the texts go up to the last byte
+pub record Placed (bs : List ℕ) (x : Texts) : Type 0 where
+  pub stored : Stored bs x
+  pub size : x.bytes ≤ length bs
+  pub rises : rising 0 (ends_from x.count (drop x.ends bs)) (length bs - x.bytes) ≡ Bool.true

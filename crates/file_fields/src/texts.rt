@@ -1,73 +1,82 @@
 // The texts: their ends, looking one up, and row 5.
-ghost use Rattle.std.specs.Prelude.{◌≡◌, ℕ, ◌+◌, ◌*◌, ◌<◌, ◌≤◌, length, drop};
-ghost use Rattle.def_file.specs.Read.{u32, ends_from, texts_from, rising, any_text, distinct};
-ghost use Rattle.file_fields.specs.Text.{Placed, start_of, text_in, texts_of};
+ghost use Rattle.std.specs.Prelude.{◌≡◌, ◌+◌, ◌*◌, ◌<◌, drop};
+ghost use Rattle.def_file.specs.Read.{u32, ends_from, rising, any_text, distinct};
+ghost use Rattle.file_fields.specs.Text.{Stored, Placed, start_of, text_in, texts_of};
 
 use crate::fields::u32_at;
 
-// The end of text k, from the first text byte on; the ends stand from byte `ends` on.
-fn end_at(file: &[u8], ends: usize, k: usize) -> usize
-    requires { (ends ≤ 100000) × (k ≤ 256) × (ends + 4 * k + 4 ≤ length file.now) }
-    ensures { (result ≡ u32 file.now (ends + 4 * k)) × (result < 4294967296) }
-{
-    u32_at(file, ends + 4 * k) as usize
+// Where a file's texts stand: as many ends as there are texts from byte `ends` on, and the texts' bytes from byte `bytes` on.
+#[derive(Clone, Copy, Debug, PartialEq, Eq)]
+pub struct Texts {
+    pub ends: usize,
+    pub bytes: usize,
+    pub count: usize,
 }
 
-// Row 5: the ends never fall, and the last (0 with no texts) is the byte count b.
-pub fn rising_ok(file: &[u8], ends: usize, t: usize, b: usize) -> bool
-    requires { (ends ≤ 100000) × (t ≤ 256) × (ends + 4 * t ≤ length file.now) }
-    ensures { result ≡ rising 0 (ends_from t (drop ends file.now)) b }
-{
-    let mut at = 0;
-    for k in 0..t {
-        let e = end_at(file, ends, k);
-        if e < at {
-            return false;
+impl Texts {
+    // The end of text k, from the first text byte on.
+    fn end(self, file: &[u8], k: usize) -> usize
+        requires { Stored file.now self × (k < self.count) }
+        ensures { (result ≡ u32 file.now (self.ends + 4 * k)) × (result < 4294967296) }
+    {
+        u32_at(file, self.ends + 4 * k) as usize
+    }
+
+    // Where text k begins, from the first text byte on: at the end before it.
+    fn start(self, file: &[u8], k: usize) -> usize
+        requires { Stored file.now self × (k < self.count) }
+        ensures { (result ≡ start_of file.now self.ends k) × (result < 4294967296) }
+    {
+        if k == 0 {
+            return 0;
         }
-        at = e;
+        self.end(file, k - 1)
     }
-    at == b
-}
 
-// Where text k begins, from the first text byte on: at the end before it.
-fn start_at(file: &[u8], ends: usize, k: usize) -> usize
-    requires { (ends ≤ 100000) × (k < 256) × (ends + 4 * k ≤ length file.now) }
-    ensures { (result ≡ start_of file.now ends k) × (result < 4294967296) }
-{
-    if k == 0 {
-        return 0;
+    // Text k: the stretch of the file's own bytes between two stored ends; no bytes where these are no such stretch.
+    #[tactic(auto, unfolding(crate::specs::Text::text_in))]
+    pub fn text(self, file: &[u8], k: usize) -> &[u8]
+        requires { Stored file.now self × (k < self.count) }
+        ensures { result.now ≡ text_in file.now self.ends self.bytes k }
+    {
+        let from = self.bytes + self.start(file, k);
+        let to = self.bytes + self.end(file, k);
+        if from <= to && to <= file.len() {
+            return &file[from..to];
+        }
+        &file[0..0]
     }
-    end_at(file, ends, k - 1)
-}
 
-// Text k: the stretch of the file's own bytes between two stored ends; no bytes where these are no such stretch.
-#[tactic(auto, unfolding(crate::specs::Text::text_in))]
-pub fn text(file: &[u8], ends: usize, bytes: usize, k: usize) -> &[u8]
-    requires { (ends ≤ 100000) × (bytes ≤ 100000) × (k < 256) × (ends + 4 * k + 4 ≤ length file.now) }
-    ensures { result.now ≡ text_in file.now ends bytes k }
-{
-    let from = bytes + start_at(file, ends, k);
-    let to = bytes + end_at(file, ends, k);
-    let whole = (from <= to) & (to <= file.len());
-    if whole {
-        return &file[from..to];
+    // Row 5: the ends never fall, and the last (0 with no texts) is the byte count b.
+    pub fn rising(self, file: &[u8], b: usize) -> bool
+        requires { Stored file.now self }
+        ensures { result ≡ rising 0 (ends_from self.count (drop self.ends file.now)) b }
+    {
+        let mut at = 0;
+        for k in 0..self.count {
+            let e = self.end(file, k);
+            if e < at {
+                return false;
+            }
+            at = e;
+        }
+        at == b
     }
-    &file[0..0]
-}
 
-// Is text i one of those behind it.
-fn any_text(file: &[u8], ends: usize, bytes: usize, t: usize, i: usize) -> bool
-    requires { Placed file.now ends bytes t × (i < t) }
-    ensures { result ≡ any_text (text_in file.now ends bytes i) (drop (i + 1) (texts_of file.now ends bytes t)) }
-{
-    let x = text(file, ends, bytes, i);
-    (i + 1..t).any(|j| x == text(file, ends, bytes, j))
-}
+    // Is text i one of those behind it.
+    fn again(self, file: &[u8], i: usize) -> bool
+        requires { Placed file.now self × (i < self.count) }
+        ensures { result ≡ any_text (text_in file.now self.ends self.bytes i) (drop (i + 1) (texts_of file.now self)) }
+    {
+        let x = self.text(file, i);
+        (i + 1..self.count).any(|j| x == self.text(file, j))
+    }
 
-// Row 5: no text stands twice.
-pub fn distinct_ok(file: &[u8], ends: usize, bytes: usize, t: usize) -> bool
-    requires { Placed file.now ends bytes t }
-    ensures { result ≡ distinct (texts_of file.now ends bytes t) }
-{
-    (0..t).all(|i| !any_text(file, ends, bytes, t, i))
+    // Row 5: no text stands twice.
+    pub fn distinct(self, file: &[u8]) -> bool
+        requires { Placed file.now self }
+        ensures { result ≡ distinct (texts_of file.now self) }
+    {
+        (0..self.count).all(|i| !self.again(file, i))
+    }
 }
