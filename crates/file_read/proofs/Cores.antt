@@ -27,6 +27,7 @@ use Rattle.def_file.specs.Script.{Script, is_lit, has_id, same_id, known, enter,
 use Rattle.def_file.specs.Core.{core_node, core_from, core_nodes}
 use Rattle.def_file.specs.Read.{raw_of, Place, fields_ok, node_ok, below, fills, nodes_ok}
 use Rattle.file_read.specs.Idents.{ids_of, Listed, Texted}
+use Rattle.file_read.specs.Head.{places}
 use Rattle.file_read.specs.Load.{Appended, script_of, Loaded, Loading, Kept}
 use Rattle.file_fields.specs.Text.{text_in}
 use Rattle.file_fields.proofs.Raws.{nodes-length, node-raw}
@@ -330,7 +331,7 @@ module _ {bs w : List ℕ} {n t k : ℕ} (L : Loading bs w n t k) where
   pub loading-text : has_id x ≡ true → x.text < t
   loading-text h = omega (arith, loading-sound.text (id-text x h), count-texts L.readable.placed)
 
-  pub loading-name : has_id x ≡ true → text_in bs (32 + 16 * n) (32 + 16 * n + 4 * t) x.text ≡ text_at s x.text
+  pub loading-name : has_id x ≡ true → text_in bs (places n t).ends (places n t).bytes x.text ≡ text_at s x.text
   loading-name h = sym (text-is L.readable.placed x.text (loading-text h))
 
   pub loaded-more : {w₁ w₂ : List ℕ} {c : Core} → c ≡ core_node s (k + 1) x → tree w₁ ≡ tree w → get_or w₁ 0 0 ≡ get_or w 0 0 → ids_of bs w₁ ≡ enter (ids_of bs w) x → Listed w₁ n → Texted bs w₁ → Appended w₁ w₂ c → Loaded bs w₂ n t (k + 1)

@@ -16,9 +16,10 @@ use Rattle.std.proofs.Common.{Result, Ok, Err}
 use Rattle.refusal.specs.declared.Refusal.{Refusal}
 use Rattle.refusal.specs.Number.{number}
 use Rattle.file_preorder.specs.Child.{root_place}
+use Rattle.file_fields.specs.declared.texts.Texts.{Texts}
 use Rattle.file_fields.specs.Text.{Placed, texts_of}
 use Rattle.file_read.specs.Idents.{ids_of, Listed}
-use Rattle.file_read.specs.Head.{HeadIs, Counts}
+use Rattle.file_read.specs.Head.{places, HeadIs, Counts}
 use Rattle.file_read.specs.Load.{script_of, Readable, Loaded, Done, Kept}
 use Rattle.file_read.specs.Reading.{CheckIs, Held, counts_of, Told, Left, LoadIs}
 use Rattle.file_fields.proofs.Raws.{nodes-length}
@@ -53,24 +54,26 @@ module _ {bs : List ℕ} {h : Header} (f : HeadIs bs (Ok h)) where
       f.is (parts (u32 bs 8) (u32 bs 16) (u32 bs 28) bs)
       ∙ sym (ap (λ (m : ℕ). parts m h.texts h.bytes bs) counts.nodes ∙ ap (λ (m : ℕ). parts (u32 bs 8) m h.bytes bs) counts.texts ∙ ap (λ (m : ℕ). parts (u32 bs 8) (u32 bs 16) m bs) counts.bytes)
 
-  rises : Bool
-  rises = rising 0 (ends_from t (drop ends bs)) h.bytes
+  -- what the texts answered, where they stand in places that were computed
+  module _ {at : Texts} {b c : Bool} (e : at ≡ places n t) where
+    pub rises-as : b ≡ rising 0 (ends_from at.count (drop at.ends bs)) h.bytes → b ≡ c → rising 0 (ends_from t (drop ends bs)) h.bytes ≡ c
+    rises-as p q = ap (λ (x : Texts). rising 0 (ends_from x.count (drop x.ends bs)) h.bytes) (sym e) ∙ sym p ∙ q
 
-  step5 : (a b : Bool) → rising 0 (ends_from t (drop ends bs)) h.bytes ≡ a → distinct (texts_of bs ends from t) ≡ b → read bs ≡ elim (a && b) [ false ↦ bad 5 | true ↦ checked (script_of bs n t) ]
+    pub distinct-as : b ≡ distinct (texts_of bs at) → b ≡ c → distinct (texts_of bs (places n t)) ≡ c
+    distinct-as p q = ap (λ (x : Texts). distinct (texts_of bs x)) (sym e) ∙ sym p ∙ q
+
+  step5 : (a b : Bool) → rising 0 (ends_from t (drop ends bs)) h.bytes ≡ a → distinct (texts_of bs (places n t)) ≡ b → read bs ≡ elim (a && b) [ false ↦ bad 5 | true ↦ checked (script_of bs n t) ]
   step5 a b p q = to-parts ∙ ap₂ {C = Read} (λ (x y : Bool). elim (x && y) [ false ↦ bad 5 | true ↦ checked (script_of bs n t) ]) p q
 
   pub falls : rising 0 (ends_from t (drop ends bs)) h.bytes ≡ false → read bs ≡ bad 5
-  falls p = step5 false (distinct (texts_of bs ends from t)) p refl
+  falls p = step5 false (distinct (texts_of bs (places n t))) p refl
 
-  pub twice : rising 0 (ends_from t (drop ends bs)) h.bytes ≡ true → distinct (texts_of bs ends from t) ≡ false → read bs ≡ bad 5
+  pub twice : rising 0 (ends_from t (drop ends bs)) h.bytes ≡ true → distinct (texts_of bs (places n t)) ≡ false → read bs ≡ bad 5
   twice p q = step5 true false p q
 
-  pub placed : rising 0 (ends_from t (drop ends bs)) h.bytes ≡ true → Placed bs ends from t
+  pub placed : rising 0 (ends_from t (drop ends bs)) h.bytes ≡ true → Placed bs (places n t)
   placed p = record {
-    low = omega (arith, counts.few);
-    high = omega (arith, counts.few, counts.few_texts);
-    few = counts.few_texts;
-    room = omega (arith, counts.size);
+    stored = record { low = omega (arith, counts.few); high = omega (arith, counts.few, counts.few_texts); few = counts.few_texts; room = omega (arith, counts.size) };
     size = omega (arith, counts.size);
     rises = ap (rising 0 (ends_from t (drop ends bs))) (rest (length bs) h.bytes counts.size) ∙ p;
   }
@@ -78,7 +81,7 @@ module _ {bs : List ℕ} {h : Header} (f : HeadIs bs (Ok h)) where
       rest : (l b : ℕ) → l ≡ 32 + 16 * n + 4 * t + b → l - from ≡ b
       rest l b z = omega arith
 
-  module _ (p : rising 0 (ends_from t (drop ends bs)) h.bytes ≡ true) (q : distinct (texts_of bs ends from t) ≡ true) where
+  module _ (p : rising 0 (ends_from t (drop ends bs)) h.bytes ≡ true) (q : distinct (texts_of bs (places n t)) ≡ true) where
     same_ok : nodes_ok (script_of bs n t) ≡ fills t (root_place ∷ []) (nodes_from n (drop 32 bs))
     unfolding nodes_ok
     same_ok = ap (λ (m : ℕ). fills m (root_place ∷ []) (nodes_from n (drop 32 bs))) (count-texts (placed p))

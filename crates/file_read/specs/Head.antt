@@ -3,7 +3,12 @@ use Rattle.std.specs.Prelude.{◌≡◌, List, ℕ, ◌+◌, ◌*◌, ◌≤◌,
 use Rattle.def_file.specs.Read.{Read, bad, u32, header}
 use Rattle.refusal.specs.declared.Refusal.{Refusal}
 use Rattle.refusal.specs.Number.{number}
+use Rattle.file_fields.specs.declared.texts.Texts.{Texts}
 use Rattle.file_read.specs.declared.header.Header.{Header}
+
+-- where the texts stand in a file of n nodes and t texts
+abbrev pub places : ℕ → ℕ → Texts
+places n t = record { ends = 32 + 16 * n; bytes = 32 + 16 * n + 4 * t; count = t }
 
 -- what reading gives after the header, by what `rest` gives
 abbrev pub headed : Result Header Refusal → Read → Read

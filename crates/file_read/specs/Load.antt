@@ -8,6 +8,7 @@ use Rattle.def_file.specs.Script.{Script, has_id, enter_all, idents}
 use Rattle.def_file.specs.Core.{core_nodes}
 use Rattle.def_file.specs.Read.{nodes_from, raw_of, nodes_ok}
 use Rattle.file_fields.specs.Text.{texts_of, Placed}
+use Rattle.file_read.specs.Head.{places}
 use Rattle.file_read.specs.Idents.{ids_of, Listed, Texted}
 
 -- a node more in the tree; the words of the scopes and identifiers as they were
@@ -20,13 +21,13 @@ pub record Appended (w w' : List ℕ) (c : Core) : Type 0 where
 
 -- the script of a file of n nodes and t texts
 abbrev pub script_of : List ℕ → ℕ → ℕ → Script
-script_of bs n t = record { nodes = nodes_from n (drop 32 bs); texts = texts_of bs (32 + 16 * n) (32 + 16 * n + 4 * t) t }
+script_of bs n t = record { nodes = nodes_from n (drop 32 bs); texts = texts_of bs (places n t) }
 
 -- rows 2 to 6 passed
 pub record Readable (bs : List ℕ) (n t : ℕ) : Type 0 where
   pub some : 1 ≤ n
   pub few : n ≤ 1024
-  pub placed : Placed bs (32 + 16 * n) (32 + 16 * n + 4 * t) t
+  pub placed : Placed bs (places n t)
   pub ok : nodes_ok (script_of bs n t) ≡ true
 
 -- node k has an identifier

@@ -1,9 +1,10 @@
 // Rows 2 to 4: the header.
 ghost use Rattle.std.specs.Prelude.{◌≡◌, ◌&&◌, ◌+◌, ◌*◌, ◌≤◌, eqb, leb, length};
 ghost use Rattle.def_file.specs.Read.{u32};
-ghost use Rattle.file_read.specs.Head.{HeadIs};
+ghost use Rattle.file_read.specs.Head.{places, HeadIs};
 
 use file_fields::fields::u32_at;
+use file_fields::texts::Texts;
 use refusal::Refusal;
 
 // How many nodes, texts and text bytes a file has.
@@ -12,6 +13,21 @@ pub struct Header {
     pub nodes: usize,
     pub texts: usize,
     pub bytes: usize,
+}
+
+impl Header {
+    // Where the texts stand.
+    pub fn places(self) -> Texts
+        requires { (self.nodes ≤ 1024) × (self.texts ≤ 256) }
+        ensures { result ≡ places self.nodes self.texts }
+    {
+        let ends = 32 + 16 * self.nodes;
+        Texts {
+            ends,
+            bytes: ends + 4 * self.texts,
+            count: self.texts,
+        }
+    }
 }
 
 // Row 3: 1 to 1,024 nodes, at most 256 texts, at most 4,096 text bytes.
@@ -27,13 +43,12 @@ fn sums_ok(file: &[u8], h: Header) -> bool
     ensures { result ≡ (eqb (u32 file.now 4) (length file.now) && eqb (u32 file.now 12) 32 && eqb (u32 file.now 20) (32 + 16 * h.nodes) && eqb (u32 file.now 24) (32 + 16 * h.nodes + 4 * h.texts) && eqb (u32 file.now 4) (32 + 16 * h.nodes + 4 * h.texts + h.bytes)) }
 {
     let total = word(file, 4);
-    let ends = 32 + 16 * h.nodes;
-    let bytes = ends + 4 * h.texts;
+    let at = h.places();
     total == file.len()
         && word(file, 12) == 32
-        && word(file, 20) == ends
-        && word(file, 24) == bytes
-        && total == bytes + h.bytes
+        && word(file, 20) == at.ends
+        && word(file, 24) == at.bytes
+        && total == at.bytes + h.bytes
 }
 
 fn word(file: &[u8], i: usize) -> usize

@@ -2,6 +2,7 @@
 ghost use Rattle.std.specs.Prelude.{◌≡◌, true, ◌+◌, ◌*◌, ◌<◌, ◌≤◌, length, drop};
 ghost use Rattle.def_file.specs.Script.{has_id, same_id};
 ghost use Rattle.def_file.specs.Read.{raw_of};
+ghost use Rattle.file_preorder.specs.Child.{Room};
 ghost use Rattle.file_read.specs.Idents.{ids_of, Listed, Texted, Found, FirstSet, Enters};
 
 use file_fields::fields::{u32_at, u64_at};
@@ -17,7 +18,7 @@ fn same_id(file: &[u8], a: usize, b: usize) -> bool
 
 // The place of the identifier of the node at byte b among those listed.
 fn place_of(file: &[u8], words: &[u32], n: usize, b: usize) -> Option<usize>
-    requires { Listed words.now n × (n ≤ 1024) × (32 + 16 * n ≤ length file.now) × (b ≤ 100000) × (b + 16 ≤ length file.now) × Texted file.now words.now × ((raw_of (drop b file.now)).text < 256) }
+    requires { Listed words.now n × Room file.now n × (b ≤ 100000) × (b + 16 ≤ length file.now) × Texted file.now words.now × ((raw_of (drop b file.now)).text < 256) }
     ensures { Found (raw_of (drop b file.now)) (ids_of file.now words.now) result }
 {
     let count = words[layout::IDENT_COUNT] as usize;
@@ -45,7 +46,7 @@ fn set_first(words: &mut [u32], t: usize, v: u32)
 
 // The number of the identifier of node k, which is listed where it is new; none where 256 others are listed.
 pub fn enter(file: &[u8], words: &mut [u32], n: usize, k: usize) -> Option<u32>
-    requires { Listed words.old n × (n ≤ 1024) × (32 + 16 * n ≤ length file.now) × (k < n) × (has_id (raw_of (drop (32 + 16 * k) file.now)) ≡ true) × Texted file.now words.old × ((raw_of (drop (32 + 16 * k) file.now)).text < 256) }
+    requires { Listed words.old n × Room file.now n × (k < n) × (has_id (raw_of (drop (32 + 16 * k) file.now)) ≡ true) × Texted file.now words.old × ((raw_of (drop (32 + 16 * k) file.now)).text < 256) }
     ensures { Enters file.now words.old words.new n (raw_of (drop (32 + 16 * k) file.now)) result }
 {
     if let Some(j) = place_of(file, words, n, 32 + 16 * k) {

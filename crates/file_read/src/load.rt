@@ -3,9 +3,9 @@ ghost use Rattle.std.specs.Prelude.{◌≡◌, ◌+◌, ◌*◌, ◌<◌, ◌≤
 ghost use Rattle.def_tree.specs.Tree.{core};
 ghost use Rattle.file_read.specs.Load.{Appended, Named, Readable, Loading, Step, Done};
 
+use crate::header::Header;
 use crate::idents::enter;
 use file_fields::fields::raw_at;
-use file_fields::texts::text;
 use refusal::Refusal;
 use words::{layout, wipe};
 
@@ -20,16 +20,14 @@ fn put_node(words: &mut [u32], k: usize, kind: u32, form: u32, arity: u32, num: 
 }
 
 // Node k, which has an identifier.
-fn load_ident(file: &[u8], words: &mut [u32], n: usize, t: usize, k: usize) -> Result<(), Refusal>
-    requires { Loading file.now words.old n t k × (Named file.now k) }
-    ensures { Step file.now words.old words.new n t k result }
+fn load_ident(file: &[u8], words: &mut [u32], h: Header, k: usize) -> Result<(), Refusal>
+    requires { Loading file.now words.old h.nodes h.texts k × (Named file.now k) }
+    ensures { Step file.now words.old words.new h.nodes h.texts k result }
 {
     let x = raw_at(file, 32 + 16 * k);
-    let ends = 32 + 16 * n;
-    let bytes = ends + 4 * t;
-    let name = text(file, ends, bytes, x.text as usize);
+    let name = h.places().text(file, x.text as usize);
     let arguments = name == b"arguments".as_slice();
-    let j = enter(file, words, n, k).ok_or(Refusal::Idents)?;
+    let j = enter(file, words, h.nodes, k).ok_or(Refusal::Idents)?;
     put_node(
         words,
         k,
@@ -42,16 +40,16 @@ fn load_ident(file: &[u8], words: &mut [u32], n: usize, t: usize, k: usize) -> R
 }
 
 // Node k.
-fn load_node(file: &[u8], words: &mut [u32], n: usize, t: usize, k: usize) -> Result<(), Refusal>
-    requires { Loading file.now words.old n t k }
-    ensures { Step file.now words.old words.new n t k result }
+fn load_node(file: &[u8], words: &mut [u32], h: Header, k: usize) -> Result<(), Refusal>
+    requires { Loading file.now words.old h.nodes h.texts k }
+    ensures { Step file.now words.old words.new h.nodes h.texts k result }
 {
     let x = raw_at(file, 32 + 16 * k);
     match x.kind {
         // A literal.
         22..=25 => put_node(words, k, 22, 0, 0, (k + 1) as u32),
         // A binding or an identifier.
-        20 | 21 => load_ident(file, words, n, t, k)?,
+        20 | 21 => load_ident(file, words, h, k)?,
         _ => put_node(
             words,
             k,
@@ -65,15 +63,15 @@ fn load_node(file: &[u8], words: &mut [u32], n: usize, t: usize, k: usize) -> Re
 }
 
 // All n nodes of a script that passed rows 2 to 6.
-pub fn load(file: &[u8], words: &mut [u32], n: usize, t: usize) -> Result<(), Refusal>
-    requires { Readable file.now n t × (16384 ≤ length words.old) }
-    ensures { Done file.now words.old words.new n t result }
+pub fn load(file: &[u8], words: &mut [u32], h: Header) -> Result<(), Refusal>
+    requires { Readable file.now h.nodes h.texts × (16384 ≤ length words.old) }
+    ensures { Done file.now words.old words.new h.nodes h.texts result }
 {
     wipe(words, layout::FIRST_OF_TEXT, 256);
     words[layout::NODE_COUNT] = 0;
     words[layout::IDENT_COUNT] = 0;
-    for k in 0..n {
-        load_node(file, words, n, t, k)?;
+    for k in 0..h.nodes {
+        load_node(file, words, h, k)?;
     }
     Ok(())
 }

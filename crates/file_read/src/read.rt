@@ -4,7 +4,6 @@ ghost use Rattle.file_read.specs.Reading.{CheckIs, LoadIs, ReadIs};
 
 use crate::header::{Header, read_header};
 use crate::load::load;
-use file_fields::texts::{distinct_ok, rising_ok};
 use file_preorder::nodes_ok;
 use refusal::Refusal;
 
@@ -13,9 +12,8 @@ fn check(file: &[u8]) -> Result<Header, Refusal>
     ensures { CheckIs file.now result }
 {
     let h = read_header(file)?;
-    let ends = 32 + 16 * h.nodes;
-    let bytes = ends + 4 * h.texts;
-    if !rising_ok(file, ends, h.texts, h.bytes) || !distinct_ok(file, ends, bytes, h.texts) {
+    let at = h.places();
+    if !at.rising(file, h.bytes) || !at.distinct(file) {
         return Err(Refusal::Texts);
     }
     if !nodes_ok(file, h.nodes, h.texts) {
@@ -30,7 +28,7 @@ fn load_file(file: &[u8], words: &mut [u32]) -> Result<Header, Refusal>
     ensures { LoadIs file.now words.old words.new result }
 {
     let h = check(file)?;
-    load(file, words, h.nodes, h.texts)?;
+    load(file, words, h)?;
     Ok(h)
 }
 

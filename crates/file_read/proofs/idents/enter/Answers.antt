@@ -25,7 +25,7 @@ returns-in-Some c =
       first = λ j l h. refl;
       mid = λ j l h. refl;
       last = λ j l. refl;
-      case = (sym old, at.1 ∙ ap (place_of x) (sym old), c.requires.0, c.requires.5);
+      case = (sym old, at.1 ∙ ap (place_of x) (sym old), c.requires.0, c.requires.4);
     }
 
 pub returns-then-count-eq256 : goal.returns-then-count-eq256
@@ -34,7 +34,7 @@ returns-then-count-eq256 c =
     let x = raw_of (drop (32 + 16 * a.k) a.file.now) in
     let ids = ids_of a.file.now a.words.now in
     let len = ids-length a.file.now a.words.now in
-    let new = enter-new ids x c.requires.4 c.in_default.ensures in
+    let new = enter-new ids x c.requires.3 c.in_default.ensures in
     record {
       size = refl;
       first = λ j l h. refl;
@@ -44,7 +44,7 @@ returns-then-count-eq256 c =
     }
 
 pub set_first-requires : goal.set_first-requires
-set_first-requires c = (simp length-set c.requires.0.long, omega (arith, c.u32_at-t.ensures, text-field c.args.file.now (32 + 16 * c.args.k), c.requires.6))
+set_first-requires c = (simp length-set c.requires.0.long, omega (arith, c.u32_at-t.ensures, text-field c.args.file.now (32 + 16 * c.args.k), c.requires.5))
 
 pub returns : goal.returns
 returns c =
@@ -56,11 +56,11 @@ returns c =
     let x = raw_of (drop (32 + 16 * a.k) bs) in
     let ids = ids_of bs w in
     let no = c.in_default.ensures in
-    let new = enter-new ids x p.4 no in
+    let new = enter-new ids x p.3 no in
     let room : get_or w 4 0 < 256 = omega (arith, L.few) in
     let same : numbered bs (a.k + 1) ≡ x = ap (λ (m : ℕ). raw_of (drop (32 + 16 * m) bs)) (minus a.k) in
     let text : x.text ≡ c.u32_at-t.result = text-field bs (32 + 16 * a.k) ∙ sym c.u32_at-t.ensures in
-    let small : c.u32_at-t.result < 256 = omega (arith, p.6) in
+    let small : c.u32_at-t.result < 256 = omega (arith, p.5) in
     let w₁ = set (set w (15504 + get_or w 4 0) (a.k + 1)) 4 (get_or w 4 0 + 1) in
     let w₂ = c.set_first.new.words in
     let F = c.set_first.ensures in
@@ -74,7 +74,7 @@ returns c =
       case = (
         ids-same bs w₁ w₂ (first_count F) list ∙ more-ids bs w a.n (a.k + 1) L room ∙ ap (λ (y : Raw). ids ++ (y ∷ [])) same ∙ sym new,
         sym (ids-length bs w) ∙ sym (ap (place_of x) new ∙ place-new x ids no),
-        listed_same w₁ w₂ a.n F.size (first_count F) list (more-listed bs w a.n (a.k + 1) L room (omega arith) (omega (arith, p.3))),
-        more-texted bs w a.n (a.k + 1) L room small (ap (λ (y : Raw). y.text) same ∙ text) p.5 F,
+        listed_same w₁ w₂ a.n F.size (first_count F) list (more-listed bs w a.n (a.k + 1) L room (omega arith) (omega (arith, p.2))),
+        more-texted bs w a.n (a.k + 1) L room small (ap (λ (y : Raw). y.text) same ∙ text) p.4 F,
       );
     }

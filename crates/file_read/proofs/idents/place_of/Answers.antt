@@ -7,7 +7,7 @@ use Rattle.file_read.proofs.Names.{text-field, ids-length, ids_at, place-hit, pl
 use Rattle.file_read.proofs.idents.place_of.Goals as goal
 
 pub bounds-words-t : goal.bounds-words-t
-bounds-words-t c = omega (arith, c.u32_at-t.ensures, text-field c.args.file.now c.args.b, c.requires.6, c.requires.0.long)
+bounds-words-t c = omega (arith, c.u32_at-t.ensures, text-field c.args.file.now c.args.b, c.requires.5, c.requires.0.long)
 
 pub returns-in_err-first : goal.returns-in_err-first
 returns-in_err-first c =
@@ -15,7 +15,7 @@ returns-in_err-first c =
     let x = raw_of (drop a.b a.file.now) in
     let text = c.u32_at-t.ensures ∙ sym (text-field a.file.now a.b) in
     let none = ap (λ (t : ℕ). get_or a.words.now (15760 + t) 0) text in
-    rw c.from_residual.ensures (first-none c.requires.5 x (omega (arith, none, c.in_err-first.ensures)))
+    rw c.from_residual.ensures (first-none c.requires.4 x (omega (arith, none, c.in_err-first.ensures)))
 
 pub loop-j-init : goal.loop-j-init
 loop-j-init c =
@@ -23,7 +23,7 @@ loop-j-init c =
     let x = raw_of (drop a.b a.file.now) in
     let text = c.u32_at-t.ensures ∙ sym (text-field a.file.now a.b) in
     let word = ap (λ (t : ℕ). get_or a.words.now (15760 + t) 0) text in
-    first-from c.requires.5 x _ c.requires.6 (omega (arith, word, c.in_ok-first.ensures))
+    first-from c.requires.4 x _ c.requires.5 (omega (arith, word, c.in_ok-first.ensures))
 
 pub returns-then-same_id : goal.returns-then-same_id
 returns-then-same_id c =

@@ -6,7 +6,7 @@ use Rattle.file_read.proofs.Cores.{none-loaded, none_kept, kept_then}
 use Rattle.file_read.proofs.load.load.Goals as goal
 
 pub loop-k-init : goal.loop-k-init
-loop-k-init c = (none-loaded c.requires.1 c.wipe.ensures c.args.file.now c.args.n c.args.t, record { size = refl; rest = refl })
+loop-k-init c = (none-loaded c.requires.1 c.wipe.ensures c.args.file.now c.args.h.nodes c.args.h.texts, record { size = refl; rest = refl })
 
 pub returns-in_err-load_node : goal.returns-in_err-load_node
 returns-in_err-load_node c =
@@ -17,5 +17,5 @@ returns-in_err-load_node c =
 pub returns : goal.returns
 returns c =
     let l = c.loop-k.invariant in
-    let all : c.loop-k.k ≡ c.args.n = omega arith in
-    record { kept = kept_then (none_kept c.requires.1 c.wipe.ensures) l.1; next = subst (λ (k : ℕ). Loaded c.args.file.now c.loop-k.words c.args.n c.args.t k) all l.0 }
+    let all : c.loop-k.k ≡ c.args.h.nodes = omega arith in
+    record { kept = kept_then (none_kept c.requires.1 c.wipe.ensures) l.1; next = subst (λ (k : ℕ). Loaded c.args.file.now c.loop-k.words c.args.h.nodes c.args.h.texts k) all l.0 }

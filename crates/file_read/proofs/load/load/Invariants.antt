@@ -3,4 +3,4 @@ use Rattle.file_read.specs.Load.{Loaded, Kept}
 use Rattle.file_read.proofs.load.load.Given as goal
 
 abbrev pub invariant-loop-k : goal.invariant-loop-k
-invariant-loop-k l = Loaded l.file l.words l.n l.t l.k × Kept l.initial.words l.words
+invariant-loop-k l = Loaded l.file l.words l.h.nodes l.h.texts l.k × Kept l.initial.words l.words
