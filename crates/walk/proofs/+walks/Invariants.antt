@@ -1,11 +1,10 @@
 -- The measure of each walk, the depth that is left and where in one node's walk it stands, and what each loop has done of its list.
-use Rattle.std.proofs.Common.{◌+◌, ◌-◌, ◌*◌, ◌<◌, ◌≤◌, ◌≡◌, length}
+use Rattle.std.proofs.Common.{◌+◌, ◌*◌, ◌≡◌, Ok, length}
 use Rattle.def_tree.specs.Combine.{many}
-use Rattle.words_scopes.specs.State.{scope_kind_of}
+use Rattle.words_scopes.specs.Kinds.{kind_of}
 use Rattle.words_state.specs.State.{abs}
 use Rattle.laws_flat.specs.WalkF.{walks_f, visit_with_child_f, catch_param_f, in_cond_f}
 use Rattle.walk_laws.specs.Did.{Did, clause_f}
-use Rattle.walk_ident.specs.declared.Next.TheVariants.{At}
 use Rattle.walk.proofs.+walks.Given as goal
 
 abbrev pub decreases-after : goal.decreases-after
@@ -120,31 +119,16 @@ abbrev pub decreases-whiles : goal.decreases-whiles
 decreases-whiles l = 8 * l.d + 3
 
 abbrev pub invariant-arms-loop-k : goal.invariant-arms-loop-k
-invariant-arms-loop-k l = (l.k ≤ l.n) × (length l.w ≡ length l.initial.w) × Did l.initial.w l.w (At l.at) (many (visit_with_child_f (walks_f l.d) l.p (scope_kind_of l.kind)) l.k l.i (abs l.initial.w)) × (l.at < 65536)
-
-abbrev pub decreases-arms-loop-k : goal.decreases-arms-loop-k
-decreases-arms-loop-k l = l.n - l.k
+invariant-arms-loop-k l = (length l.w ≡ length l.initial.w) × Did l.initial.w l.w (Ok l.at) (many (visit_with_child_f (walks_f l.d) l.p (kind_of l.kind)) l._k l.i (abs l.initial.w))
 
 abbrev pub invariant-binds-loop-k : goal.invariant-binds-loop-k
-invariant-binds-loop-k l = (l.k ≤ l.n) × (length l.w ≡ length l.initial.w) × Did l.initial.w l.w (At l.at) (many (catch_param_f (walks_f l.d) l.p) l.k l.i (abs l.initial.w)) × (l.at < 65536)
-
-abbrev pub decreases-binds-loop-k : goal.decreases-binds-loop-k
-decreases-binds-loop-k l = l.n - l.k
+invariant-binds-loop-k l = (length l.w ≡ length l.initial.w) × Did l.initial.w l.w (Ok l.at) (many (catch_param_f (walks_f l.d) l.p) l._k l.i (abs l.initial.w))
 
 abbrev pub invariant-conds-loop-k : goal.invariant-conds-loop-k
-invariant-conds-loop-k l = (l.k ≤ l.n) × (length l.w ≡ length l.initial.w) × Did l.initial.w l.w (At l.at) (many (λ r. in_cond_f ((walks_f l.d).bare l.p r)) l.k l.i (abs l.initial.w)) × (l.at < 65536)
-
-abbrev pub decreases-conds-loop-k : goal.decreases-conds-loop-k
-decreases-conds-loop-k l = l.n - l.k
+invariant-conds-loop-k l = (length l.w ≡ length l.initial.w) × Did l.initial.w l.w (Ok l.at) (many (λ r. in_cond_f ((walks_f l.d).bare l.p r)) l._k l.i (abs l.initial.w))
 
 abbrev pub invariant-many-loop-k : goal.invariant-many-loop-k
-invariant-many-loop-k l = (l.k ≤ l.n) × (length l.w ≡ length l.initial.w) × Did l.initial.w l.w (At l.at) (many ((walks_f l.d).full l.p) l.k l.i (abs l.initial.w)) × (l.at < 65536)
-
-abbrev pub decreases-many-loop-k : goal.decreases-many-loop-k
-decreases-many-loop-k l = l.n - l.k
+invariant-many-loop-k l = (length l.w ≡ length l.initial.w) × Did l.initial.w l.w (Ok l.at) (many ((walks_f l.d).full l.p) l._k l.i (abs l.initial.w))
 
 abbrev pub invariant-parts-loop-k : goal.invariant-parts-loop-k
-invariant-parts-loop-k l = (l.k ≤ l.n) × (length l.w ≡ length l.initial.w) × Did l.initial.w l.w (At l.at) (many (clause_f (walks_f l.d) l.p) l.k l.i (abs l.initial.w)) × (l.at < 65536)
-
-abbrev pub decreases-parts-loop-k : goal.decreases-parts-loop-k
-decreases-parts-loop-k l = l.n - l.k
+invariant-parts-loop-k l = (length l.w ≡ length l.initial.w) × Did l.initial.w l.w (Ok l.at) (many (clause_f (walks_f l.d) l.p) l._k l.i (abs l.initial.w))
