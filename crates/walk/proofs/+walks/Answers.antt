@@ -105,23 +105,20 @@ after-returns-then-w-eq0 = of_after.after-returns-then-w-eq0
 pub after-after_assign-requires : goal.after-after_assign-requires
 after-after_assign-requires = of_after.after-after_assign-requires
 
-pub after-coded-requires : goal.after-coded-requires
-after-coded-requires = of_after.after-coded-requires
-
 pub after-returns : goal.after-returns
 after-returns = of_after.after-returns
 
-pub arm-returns-then-e-ne0 : goal.arm-returns-then-e-ne0
-arm-returns-then-e-ne0 = of_arm.arm-returns-then-e-ne0
+pub arm-returns-in_err-enter : goal.arm-returns-in_err-enter
+arm-returns-in_err-enter = of_arm.arm-returns-in_err-enter
 
 pub arm-returns-then-d-eq0 : goal.arm-returns-then-d-eq0
 arm-returns-then-d-eq0 = of_arm.arm-returns-then-d-eq0
 
-pub arm-own-r-requires : goal.arm-own-r-requires
-arm-own-r-requires = of_arm.arm-own-r-requires
+pub arm-own-requires : goal.arm-own-requires
+arm-own-requires = of_arm.arm-own-requires
 
-pub arm-returns-in_default : goal.arm-returns-in_default
-arm-returns-in_default = of_arm.arm-returns-in_default
+pub arm-returns-in_err-j : goal.arm-returns-in_err-j
+arm-returns-in_err-j = of_arm.arm-returns-in_err-j
 
 pub arm-returns : goal.arm-returns
 arm-returns = of_arm.arm-returns
@@ -129,11 +126,11 @@ arm-returns = of_arm.arm-returns
 pub arms-loop-k-init : goal.arms-loop-k-init
 arms-loop-k-init = of_arms.arms-loop-k-init
 
-pub arms-arm-r-requires : goal.arms-arm-r-requires
-arms-arm-r-requires = of_arms.arms-arm-r-requires
+pub arms-arm-requires : goal.arms-arm-requires
+arms-arm-requires = of_arms.arms-arm-requires
 
-pub arms-returns-in_default : goal.arms-returns-in_default
-arms-returns-in_default = of_arms.arms-returns-in_default
+pub arms-returns-in_err-at : goal.arms-returns-in_err-at
+arms-returns-in_err-at = of_arms.arms-returns-in_err-at
 
 pub arms-loop-k-preserved : goal.arms-loop-k-preserved
 arms-loop-k-preserved = of_arms.arms-loop-k-preserved
@@ -141,14 +138,14 @@ arms-loop-k-preserved = of_arms.arms-loop-k-preserved
 pub arms-returns : goal.arms-returns
 arms-returns = of_arms.arms-returns
 
-pub arrow-returns-then-e-ne0 : goal.arrow-returns-then-e-ne0
-arrow-returns-then-e-ne0 = of_arrow.arrow-returns-then-e-ne0
+pub arrow-returns-in_err-enter : goal.arrow-returns-in_err-enter
+arrow-returns-in_err-enter = of_arrow.arrow-returns-in_err-enter
 
-pub arrow-kids-r-requires : goal.arrow-kids-r-requires
-arrow-kids-r-requires = of_arrow.arrow-kids-r-requires
+pub arrow-kids-requires : goal.arrow-kids-requires
+arrow-kids-requires = of_arrow.arrow-kids-requires
 
-pub arrow-returns-in_default : goal.arrow-returns-in_default
-arrow-returns-in_default = of_arrow.arrow-returns-in_default
+pub arrow-returns-in_err-j : goal.arrow-returns-in_err-j
+arrow-returns-in_err-j = of_arrow.arrow-returns-in_err-j
 
 pub arrow-returns : goal.arrow-returns
 arrow-returns = of_arrow.arrow-returns
@@ -162,11 +159,11 @@ assign-arity_at-n-requires = of_assign.assign-arity_at-n-requires
 pub assign-overflow_add-i : goal.assign-overflow_add-i
 assign-overflow_add-i = of_assign.assign-overflow_add-i
 
-pub assign-assign_first-e-requires : goal.assign-assign_first-e-requires
-assign-assign_first-e-requires = of_assign.assign-assign_first-e-requires
+pub assign-assign_first-requires : goal.assign-assign_first-requires
+assign-assign_first-requires = of_assign.assign-assign_first-requires
 
-pub assign-returns-then-e-ne0 : goal.assign-returns-then-e-ne0
-assign-returns-then-e-ne0 = of_assign.assign-returns-then-e-ne0
+pub assign-returns-in_err-assign_first : goal.assign-returns-in_err-assign_first
+assign-returns-in_err-assign_first = of_assign.assign-returns-in_err-assign_first
 
 pub assign-overflow_add-p : goal.assign-overflow_add-p
 assign-overflow_add-p = of_assign.assign-overflow_add-p
@@ -174,20 +171,20 @@ assign-overflow_add-p = of_assign.assign-overflow_add-p
 pub assign-overflow_add-i-2 : goal.assign-overflow_add-i-2
 assign-overflow_add-i-2 = of_assign.assign-overflow_add-i-2
 
-pub assign-tail-r-requires : goal.assign-tail-r-requires
-assign-tail-r-requires = of_assign.assign-tail-r-requires
+pub assign-tail-requires : goal.assign-tail-requires
+assign-tail-requires = of_assign.assign-tail-requires
 
-pub assign-returns-in_default : goal.assign-returns-in_default
-assign-returns-in_default = of_assign.assign-returns-in_default
+pub assign-returns-in_err-j : goal.assign-returns-in_err-j
+assign-returns-in_err-j = of_assign.assign-returns-in_err-j
 
 pub assign-overflow_add-i-3 : goal.assign-overflow_add-i-3
 assign-overflow_add-i-3 = of_assign.assign-overflow_add-i-3
 
-pub assign-assign_last-g-requires : goal.assign-assign_last-g-requires
-assign-assign_last-g-requires = of_assign.assign-assign_last-g-requires
+pub assign-assign_last-requires : goal.assign-assign_last-requires
+assign-assign_last-requires = of_assign.assign-assign_last-requires
 
-pub assign-returns-then-g-ne0 : goal.assign-returns-then-g-ne0
-assign-returns-then-g-ne0 = of_assign.assign-returns-then-g-ne0
+pub assign-returns-in_err-assign_last : goal.assign-returns-in_err-assign_last
+assign-returns-in_err-assign_last = of_assign.assign-returns-in_err-assign_last
 
 pub assign-returns : goal.assign-returns
 assign-returns = of_assign.assign-returns
@@ -201,11 +198,11 @@ binds-kind_at-kind-requires = of_binds.binds-kind_at-kind-requires
 pub binds-num_at-x-requires : goal.binds-num_at-x-requires
 binds-num_at-x-requires = of_binds.binds-num_at-x-requires
 
-pub binds-full-r-requires : goal.binds-full-r-requires
-binds-full-r-requires = of_binds.binds-full-r-requires
+pub binds-full-requires : goal.binds-full-requires
+binds-full-requires = of_binds.binds-full-requires
 
-pub binds-returns-in_default : goal.binds-returns-in_default
-binds-returns-in_default = of_binds.binds-returns-in_default
+pub binds-returns-in_err-at : goal.binds-returns-in_err-at
+binds-returns-in_err-at = of_binds.binds-returns-in_err-at
 
 pub binds-mark_caught-requires : goal.binds-mark_caught-requires
 binds-mark_caught-requires = of_binds.binds-mark_caught-requires
@@ -216,14 +213,14 @@ binds-loop-k-preserved = of_binds.binds-loop-k-preserved
 pub binds-returns : goal.binds-returns
 binds-returns = of_binds.binds-returns
 
-pub block-returns-then-e-ne0 : goal.block-returns-then-e-ne0
-block-returns-then-e-ne0 = of_block.block-returns-then-e-ne0
+pub block-returns-in_err-enter : goal.block-returns-in_err-enter
+block-returns-in_err-enter = of_block.block-returns-in_err-enter
 
-pub block-body-r-requires : goal.block-body-r-requires
-block-body-r-requires = of_block.block-body-r-requires
+pub block-body-requires : goal.block-body-requires
+block-body-requires = of_block.block-body-requires
 
-pub block-returns-in_default : goal.block-returns-in_default
-block-returns-in_default = of_block.block-returns-in_default
+pub block-returns-in_err-j : goal.block-returns-in_err-j
+block-returns-in_err-j = of_block.block-returns-in_err-j
 
 pub block-returns : goal.block-returns
 block-returns = of_block.block-returns
@@ -258,11 +255,11 @@ call-overflow_add-p = of_call.call-overflow_add-p
 pub call-overflow_add-i : goal.call-overflow_add-i
 call-overflow_add-i = of_call.call-overflow_add-i
 
-pub call-full-r-requires : goal.call-full-r-requires
-call-full-r-requires = of_call.call-full-r-requires
+pub call-full-requires : goal.call-full-requires
+call-full-requires = of_call.call-full-requires
 
-pub call-returns-in_default : goal.call-returns-in_default
-call-returns-in_default = of_call.call-returns-in_default
+pub call-returns-in_err-j : goal.call-returns-in_err-j
+call-returns-in_err-j = of_call.call-returns-in_err-j
 
 pub call-overflow_add-i-2 : goal.call-overflow_add-i-2
 call-overflow_add-i-2 = of_call.call-overflow_add-i-2
@@ -270,38 +267,38 @@ call-overflow_add-i-2 = of_call.call-overflow_add-i-2
 pub call-mark_callee-requires : goal.call-mark_callee-requires
 call-mark_callee-requires = of_call.call-mark_callee-requires
 
-pub call-write_args-e-requires : goal.call-write_args-e-requires
-call-write_args-e-requires = of_call.call-write_args-e-requires
+pub call-write_args-requires : goal.call-write_args-requires
+call-write_args-requires = of_call.call-write_args-requires
 
-pub call-returns-then-e-ne0 : goal.call-returns-then-e-ne0
-call-returns-then-e-ne0 = of_call.call-returns-then-e-ne0
+pub call-returns-in_err-write_args : goal.call-returns-in_err-write_args
+call-returns-in_err-write_args = of_call.call-returns-in_err-write_args
 
 pub call-overflow_add-p-2 : goal.call-overflow_add-p-2
 call-overflow_add-p-2 = of_call.call-overflow_add-p-2
 
-pub call-many-s-requires : goal.call-many-s-requires
-call-many-s-requires = of_call.call-many-s-requires
+pub call-many-requires : goal.call-many-requires
+call-many-requires = of_call.call-many-requires
 
-pub call-returns-in_default-next : goal.call-returns-in_default-next
-call-returns-in_default-next = of_call.call-returns-in_default-next
+pub call-returns-in_err-end : goal.call-returns-in_err-end
+call-returns-in_err-end = of_call.call-returns-in_err-end
 
 pub call-returns : goal.call-returns
 call-returns = of_call.call-returns
 
-pub case-returns-then-e-ne0 : goal.case-returns-then-e-ne0
-case-returns-then-e-ne0 = of_case.case-returns-then-e-ne0
+pub case-returns-in_err-enter : goal.case-returns-in_err-enter
+case-returns-in_err-enter = of_case.case-returns-in_err-enter
 
-pub case-items-r-requires : goal.case-items-r-requires
-case-items-r-requires = of_case.case-items-r-requires
+pub case-items-requires : goal.case-items-requires
+case-items-requires = of_case.case-items-requires
 
-pub case-returns-in_default : goal.case-returns-in_default
-case-returns-in_default = of_case.case-returns-in_default
+pub case-returns-in_err-j : goal.case-returns-in_err-j
+case-returns-in_err-j = of_case.case-returns-in_err-j
 
 pub case-returns : goal.case-returns
 case-returns = of_case.case-returns
 
-pub catch-returns-then-e-ne0 : goal.catch-returns-then-e-ne0
-catch-returns-then-e-ne0 = of_catch.catch-returns-then-e-ne0
+pub catch-returns-in_err-enter : goal.catch-returns-in_err-enter
+catch-returns-in_err-enter = of_catch.catch-returns-in_err-enter
 
 pub catch-arity_at-n-requires : goal.catch-arity_at-n-requires
 catch-arity_at-n-requires = of_catch.catch-arity_at-n-requires
@@ -318,20 +315,20 @@ catch-overflow_add-p = of_catch.catch-overflow_add-p
 pub catch-overflow_add-i : goal.catch-overflow_add-i
 catch-overflow_add-i = of_catch.catch-overflow_add-i
 
-pub catch-binds-r-requires : goal.catch-binds-r-requires
-catch-binds-r-requires = of_catch.catch-binds-r-requires
+pub catch-binds-requires : goal.catch-binds-requires
+catch-binds-requires = of_catch.catch-binds-requires
 
-pub catch-returns-in_default : goal.catch-returns-in_default
-catch-returns-in_default = of_catch.catch-returns-in_default
+pub catch-returns-in_err-j : goal.catch-returns-in_err-j
+catch-returns-in_err-j = of_catch.catch-returns-in_err-j
 
 pub catch-overflow_add-p-2 : goal.catch-overflow_add-p-2
 catch-overflow_add-p-2 = of_catch.catch-overflow_add-p-2
 
-pub catch-full-s-requires : goal.catch-full-s-requires
-catch-full-s-requires = of_catch.catch-full-s-requires
+pub catch-full-requires : goal.catch-full-requires
+catch-full-requires = of_catch.catch-full-requires
 
-pub catch-returns-in_default-next : goal.catch-returns-in_default-next
-catch-returns-in_default-next = of_catch.catch-returns-in_default-next
+pub catch-returns-in_err-end : goal.catch-returns-in_err-end
+catch-returns-in_err-end = of_catch.catch-returns-in_err-end
 
 pub catch-returns : goal.catch-returns
 catch-returns = of_catch.catch-returns
@@ -339,17 +336,17 @@ catch-returns = of_catch.catch-returns
 pub conds-loop-k-init : goal.conds-loop-k-init
 conds-loop-k-init = of_conds.conds-loop-k-init
 
-pub conds-deeper-e-requires : goal.conds-deeper-e-requires
-conds-deeper-e-requires = of_conds.conds-deeper-e-requires
+pub conds-deeper-requires : goal.conds-deeper-requires
+conds-deeper-requires = of_conds.conds-deeper-requires
 
-pub conds-returns-then-e-ne0 : goal.conds-returns-then-e-ne0
-conds-returns-then-e-ne0 = of_conds.conds-returns-then-e-ne0
+pub conds-returns-in_err-deeper : goal.conds-returns-in_err-deeper
+conds-returns-in_err-deeper = of_conds.conds-returns-in_err-deeper
 
-pub conds-arm-r-requires : goal.conds-arm-r-requires
-conds-arm-r-requires = of_conds.conds-arm-r-requires
+pub conds-arm-requires : goal.conds-arm-requires
+conds-arm-requires = of_conds.conds-arm-requires
 
-pub conds-returns-in_default : goal.conds-returns-in_default
-conds-returns-in_default = of_conds.conds-returns-in_default
+pub conds-returns-in_err-at : goal.conds-returns-in_err-at
+conds-returns-in_err-at = of_conds.conds-returns-in_err-at
 
 pub conds-loop-k-preserved : goal.conds-loop-k-preserved
 conds-loop-k-preserved = of_conds.conds-loop-k-preserved
@@ -375,11 +372,11 @@ declr-overflow_add-p = of_declr.declr-overflow_add-p
 pub declr-overflow_add-i : goal.declr-overflow_add-i
 declr-overflow_add-i = of_declr.declr-overflow_add-i
 
-pub declr-tail-r-requires : goal.declr-tail-r-requires
-declr-tail-r-requires = of_declr.declr-tail-r-requires
+pub declr-tail-requires : goal.declr-tail-requires
+declr-tail-requires = of_declr.declr-tail-requires
 
-pub declr-returns-in_default : goal.declr-returns-in_default
-declr-returns-in_default = of_declr.declr-returns-in_default
+pub declr-returns-in_err-tail : goal.declr-returns-in_err-tail
+declr-returns-in_err-tail = of_declr.declr-returns-in_err-tail
 
 pub declr-overflow_add-i-2 : goal.declr-overflow_add-i-2
 declr-overflow_add-i-2 = of_declr.declr-overflow_add-i-2
@@ -396,23 +393,20 @@ declr-returns-then-nameless = of_declr.declr-returns-then-nameless
 pub declr-init-requires : goal.declr-init-requires
 declr-init-requires = of_declr.declr-init-requires
 
-pub declr-coded-requires : goal.declr-coded-requires
-declr-coded-requires = of_declr.declr-coded-requires
-
 pub declr-returns-then-w-ne0 : goal.declr-returns-then-w-ne0
 declr-returns-then-w-ne0 = of_declr.declr-returns-then-w-ne0
 
 pub declr-overflow_add-i-3 : goal.declr-overflow_add-i-3
 declr-overflow_add-i-3 = of_declr.declr-overflow_add-i-3
 
-pub declr-ident_at-x-requires : goal.declr-ident_at-x-requires
-declr-ident_at-x-requires = of_declr.declr-ident_at-x-requires
+pub declr-ident_at-requires : goal.declr-ident_at-requires
+declr-ident_at-requires = of_declr.declr-ident_at-requires
 
 pub declr-overflow_add-i-4 : goal.declr-overflow_add-i-4
 declr-overflow_add-i-4 = of_declr.declr-overflow_add-i-4
 
-pub declr-form_at-f-requires : goal.declr-form_at-f-requires
-declr-form_at-f-requires = of_declr.declr-form_at-f-requires
+pub declr-form_at-requires : goal.declr-form_at-requires
+declr-form_at-requires = of_declr.declr-form_at-requires
 
 pub declr-overflow_add-i-5 : goal.declr-overflow_add-i-5
 declr-overflow_add-i-5 = of_declr.declr-overflow_add-i-5
@@ -423,23 +417,23 @@ declr-over-requires = of_declr.declr-over-requires
 pub declr-skip-requires : goal.declr-skip-requires
 declr-skip-requires = of_declr.declr-skip-requires
 
-pub declr-returns-then-gone : goal.declr-returns-then-gone
-declr-returns-then-gone = of_declr.declr-returns-then-gone
+pub declr-returns-then-over : goal.declr-returns-then-over
+declr-returns-then-over = of_declr.declr-returns-then-over
 
-pub declr-name-requires-in-Answer : goal.declr-name-requires-in-Answer
-declr-name-requires-in-Answer = of_declr.declr-name-requires-in-Answer
+pub declr-name-requires-2 : goal.declr-name-requires-2
+declr-name-requires-2 = of_declr.declr-name-requires-2
 
-pub declr-returns-in-Stopped : goal.declr-returns-in-Stopped
-declr-returns-in-Stopped = of_declr.declr-returns-in-Stopped
+pub declr-returns : goal.declr-returns
+declr-returns = of_declr.declr-returns
 
-pub declr-returns-else-gone : goal.declr-returns-else-gone
-declr-returns-else-gone = of_declr.declr-returns-else-gone
+pub declr-returns-in_err-over : goal.declr-returns-in_err-over
+declr-returns-in_err-over = of_declr.declr-returns-in_err-over
 
-pub fdecl-declare_name-e-requires : goal.fdecl-declare_name-e-requires
-fdecl-declare_name-e-requires = of_fdecl.fdecl-declare_name-e-requires
+pub fdecl-declare_name-requires : goal.fdecl-declare_name-requires
+fdecl-declare_name-requires = of_fdecl.fdecl-declare_name-requires
 
-pub fdecl-returns-then-e-ne0 : goal.fdecl-returns-then-e-ne0
-fdecl-returns-then-e-ne0 = of_fdecl.fdecl-returns-then-e-ne0
+pub fdecl-returns-in_err-declare_name : goal.fdecl-returns-in_err-declare_name
+fdecl-returns-in_err-declare_name = of_fdecl.fdecl-returns-in_err-declare_name
 
 pub fdecl-arity_at-n-requires : goal.fdecl-arity_at-n-requires
 fdecl-arity_at-n-requires = of_fdecl.fdecl-arity_at-n-requires
@@ -477,11 +471,11 @@ fexpr-func-requires = of_fexpr.fexpr-func-requires
 pub fexpr-returns-then-f-ne1 : goal.fexpr-returns-then-f-ne1
 fexpr-returns-then-f-ne1 = of_fexpr.fexpr-returns-then-f-ne1
 
-pub fexpr-write_name-e-requires : goal.fexpr-write_name-e-requires
-fexpr-write_name-e-requires = of_fexpr.fexpr-write_name-e-requires
+pub fexpr-write_name-requires : goal.fexpr-write_name-requires
+fexpr-write_name-requires = of_fexpr.fexpr-write_name-requires
 
-pub fexpr-returns-then-e-ne0 : goal.fexpr-returns-then-e-ne0
-fexpr-returns-then-e-ne0 = of_fexpr.fexpr-returns-then-e-ne0
+pub fexpr-returns-in_err-write_name : goal.fexpr-returns-in_err-write_name
+fexpr-returns-in_err-write_name = of_fexpr.fexpr-returns-in_err-write_name
 
 pub fexpr-overflow_add-result : goal.fexpr-overflow_add-result
 fexpr-overflow_add-result = of_fexpr.fexpr-overflow_add-result
@@ -516,26 +510,26 @@ forin-overflow_add-p = of_forin.forin-overflow_add-p
 pub forin-overflow_add-i : goal.forin-overflow_add-i
 forin-overflow_add-i = of_forin.forin-overflow_add-i
 
-pub forin-full-r-requires : goal.forin-full-r-requires
-forin-full-r-requires = of_forin.forin-full-r-requires
+pub forin-full-requires : goal.forin-full-requires
+forin-full-requires = of_forin.forin-full-requires
 
-pub forin-returns-in_default : goal.forin-returns-in_default
-forin-returns-in_default = of_forin.forin-returns-in_default
+pub forin-returns-in_err-j : goal.forin-returns-in_err-j
+forin-returns-in_err-j = of_forin.forin-returns-in_err-j
 
 pub forin-overflow_add-i-2 : goal.forin-overflow_add-i-2
 forin-overflow_add-i-2 = of_forin.forin-overflow_add-i-2
 
-pub forin-write_tree-e-requires : goal.forin-write_tree-e-requires
-forin-write_tree-e-requires = of_forin.forin-write_tree-e-requires
+pub forin-write_tree-requires : goal.forin-write_tree-requires
+forin-write_tree-requires = of_forin.forin-write_tree-requires
 
-pub forin-returns-then-e-ne0 : goal.forin-returns-then-e-ne0
-forin-returns-then-e-ne0 = of_forin.forin-returns-then-e-ne0
+pub forin-returns-in_err-write_tree : goal.forin-returns-in_err-write_tree
+forin-returns-in_err-write_tree = of_forin.forin-returns-in_err-write_tree
 
-pub forin-write_but_last-g-requires : goal.forin-write_but_last-g-requires
-forin-write_but_last-g-requires = of_forin.forin-write_but_last-g-requires
+pub forin-write_but_last-requires : goal.forin-write_but_last-requires
+forin-write_but_last-requires = of_forin.forin-write_but_last-requires
 
-pub forin-returns-then-g-ne0 : goal.forin-returns-then-g-ne0
-forin-returns-then-g-ne0 = of_forin.forin-returns-then-g-ne0
+pub forin-returns-in_err-write_but_last : goal.forin-returns-in_err-write_but_last
+forin-returns-in_err-write_but_last = of_forin.forin-returns-in_err-write_but_last
 
 pub forin-overflow_add-p-2 : goal.forin-overflow_add-p-2
 forin-overflow_add-p-2 = of_forin.forin-overflow_add-p-2
@@ -546,11 +540,11 @@ forin-loops-requires = of_forin.forin-loops-requires
 pub forin-returns : goal.forin-returns
 forin-returns = of_forin.forin-returns
 
-pub fors-write_kids_but_last-e-requires : goal.fors-write_kids_but_last-e-requires
-fors-write_kids_but_last-e-requires = of_fors.fors-write_kids_but_last-e-requires
+pub fors-write_kids_but_last-requires : goal.fors-write_kids_but_last-requires
+fors-write_kids_but_last-requires = of_fors.fors-write_kids_but_last-requires
 
-pub fors-returns-then-e-ne0 : goal.fors-returns-then-e-ne0
-fors-returns-then-e-ne0 = of_fors.fors-returns-then-e-ne0
+pub fors-returns-in_err-write_kids_but_last : goal.fors-returns-in_err-write_kids_but_last
+fors-returns-in_err-write_kids_but_last = of_fors.fors-returns-in_err-write_kids_but_last
 
 pub fors-form_at-f-requires : goal.fors-form_at-f-requires
 fors-form_at-f-requires = of_fors.fors-form_at-f-requires
@@ -564,11 +558,11 @@ fors-overflow_add-p = of_fors.fors-overflow_add-p
 pub fors-overflow_add-i : goal.fors-overflow_add-i
 fors-overflow_add-i = of_fors.fors-overflow_add-i
 
-pub fors-loops-r-requires : goal.fors-loops-r-requires
-fors-loops-r-requires = of_fors.fors-loops-r-requires
+pub fors-loops-requires : goal.fors-loops-requires
+fors-loops-requires = of_fors.fors-loops-requires
 
-pub fors-returns-in_default : goal.fors-returns-in_default
-fors-returns-in_default = of_fors.fors-returns-in_default
+pub fors-returns-in_err-j : goal.fors-returns-in_err-j
+fors-returns-in_err-j = of_fors.fors-returns-in_err-j
 
 pub fors-returns-then-f-eq0 : goal.fors-returns-then-f-eq0
 fors-returns-then-f-eq0 = of_fors.fors-returns-then-f-eq0
@@ -597,11 +591,11 @@ full-overflow_add-result = of_full.full-overflow_add-result
 pub full-returns-then-bare : goal.full-returns-then-bare
 full-returns-then-bare = of_full.full-returns-then-bare
 
-pub full-own-r-requires : goal.full-own-r-requires
-full-own-r-requires = of_full.full-own-r-requires
+pub full-own-requires : goal.full-own-requires
+full-own-requires = of_full.full-own-requires
 
-pub full-returns-in_default : goal.full-returns-in_default
-full-returns-in_default = of_full.full-returns-in_default
+pub full-returns-in_err-j : goal.full-returns-in_err-j
+full-returns-in_err-j = of_full.full-returns-in_err-j
 
 pub full-settled-requires : goal.full-settled-requires
 full-settled-requires = of_full.full-settled-requires
@@ -615,35 +609,32 @@ full-after-requires = of_full.full-after-requires
 pub full-returns : goal.full-returns
 full-returns = of_full.full-returns
 
-pub func-returns-then-e-ne0 : goal.func-returns-then-e-ne0
-func-returns-then-e-ne0 = of_func.func-returns-then-e-ne0
+pub func-returns-in_err-enter : goal.func-returns-in_err-enter
+func-returns-in_err-enter = of_func.func-returns-in_err-enter
 
-pub func-params-r-requires : goal.func-params-r-requires
-func-params-r-requires = of_func.func-params-r-requires
+pub func-params-requires : goal.func-params-requires
+func-params-requires = of_func.func-params-requires
 
-pub func-returns-in_default : goal.func-returns-in_default
-func-returns-in_default = of_func.func-returns-in_default
+pub func-returns-in_err-j : goal.func-returns-in_err-j
+func-returns-in_err-j = of_func.func-returns-in_err-j
 
 pub func-returns : goal.func-returns
 func-returns = of_func.func-returns
 
-pub ident-constant-m-requires : goal.ident-constant-m-requires
-ident-constant-m-requires = of_ident.ident-constant-m-requires
+pub ident-constant-requires : goal.ident-constant-requires
+ident-constant-requires = of_ident.ident-constant-requires
 
-pub ident-inline_constant-r-requires : goal.ident-inline_constant-r-requires
-ident-inline_constant-r-requires = of_ident.ident-inline_constant-r-requires
+pub ident-inline_constant-requires : goal.ident-inline_constant-requires
+ident-inline_constant-requires = of_ident.ident-inline_constant-requires
 
-pub ident-coded-requires : goal.ident-coded-requires
-ident-coded-requires = of_ident.ident-coded-requires
-
-pub ident-returns-in_default : goal.ident-returns-in_default
-ident-returns-in_default = of_ident.ident-returns-in_default
+pub ident-returns-in_err-inline_constant : goal.ident-returns-in_err-inline_constant
+ident-returns-in_err-inline_constant = of_ident.ident-returns-in_err-inline_constant
 
 pub ident-full-requires : goal.ident-full-requires
 ident-full-requires = of_ident.ident-full-requires
 
-pub ident-returns-then-m-gt0 : goal.ident-returns-then-m-gt0
-ident-returns-then-m-gt0 = of_ident.ident-returns-then-m-gt0
+pub ident-returns-in-Some : goal.ident-returns-in-Some
+ident-returns-in-Some = of_ident.ident-returns-in-Some
 
 pub ident-ident_analysis-requires : goal.ident-ident_analysis-requires
 ident-ident_analysis-requires = of_ident.ident-ident_analysis-requires
@@ -663,17 +654,11 @@ ident-skip-requires-in-Nothing = of_ident.ident-skip-requires-in-Nothing
 pub ident-inline_undefined-requires : goal.ident-inline_undefined-requires
 ident-inline_undefined-requires = of_ident.ident-inline_undefined-requires
 
-pub ident-coded-requires-in-Void : goal.ident-coded-requires-in-Void
-ident-coded-requires-in-Void = of_ident.ident-coded-requires-in-Void
+pub ident-inline_value-requires : goal.ident-inline_value-requires
+ident-inline_value-requires = of_ident.ident-inline_value-requires
 
-pub ident-inline_value-r-requires : goal.ident-inline_value-r-requires
-ident-inline_value-r-requires = of_ident.ident-inline_value-r-requires
-
-pub ident-coded-requires-in_default-r : goal.ident-coded-requires-in_default-r
-ident-coded-requires-in_default-r = of_ident.ident-coded-requires-in_default-r
-
-pub ident-returns-in_default-r : goal.ident-returns-in_default-r
-ident-returns-in_default-r = of_ident.ident-returns-in_default-r
+pub ident-returns-in_err-inline_value : goal.ident-returns-in_err-inline_value
+ident-returns-in_err-inline_value = of_ident.ident-returns-in_err-inline_value
 
 pub ident-logic-requires : goal.ident-logic-requires
 ident-logic-requires = of_ident.ident-logic-requires
@@ -684,8 +669,8 @@ ident-returns-in-Nothing = of_ident.ident-returns-in-Nothing
 pub ident-returns-in-Void : goal.ident-returns-in-Void
 ident-returns-in-Void = of_ident.ident-returns-in-Void
 
-pub ident-returns-in-At-r : goal.ident-returns-in-At-r
-ident-returns-in-At-r = of_ident.ident-returns-in-At-r
+pub ident-returns-in-Value : goal.ident-returns-in-Value
+ident-returns-in-Value = of_ident.ident-returns-in-Value
 
 pub ifs-arity_at-n-requires : goal.ifs-arity_at-n-requires
 ifs-arity_at-n-requires = of_ifs.ifs-arity_at-n-requires
@@ -702,11 +687,11 @@ ifs-overflow_add-p = of_ifs.ifs-overflow_add-p
 pub ifs-overflow_add-i : goal.ifs-overflow_add-i
 ifs-overflow_add-i = of_ifs.ifs-overflow_add-i
 
-pub ifs-full-r-requires : goal.ifs-full-r-requires
-ifs-full-r-requires = of_ifs.ifs-full-r-requires
+pub ifs-full-requires : goal.ifs-full-requires
+ifs-full-requires = of_ifs.ifs-full-requires
 
-pub ifs-returns-in_default : goal.ifs-returns-in_default
-ifs-returns-in_default = of_ifs.ifs-returns-in_default
+pub ifs-returns-in_err-j : goal.ifs-returns-in_err-j
+ifs-returns-in_err-j = of_ifs.ifs-returns-in_err-j
 
 pub ifs-overflow_add-p-2 : goal.ifs-overflow_add-p-2
 ifs-overflow_add-p-2 = of_ifs.ifs-overflow_add-p-2
@@ -720,20 +705,20 @@ ifs-returns = of_ifs.ifs-returns
 pub init-name-requires : goal.init-name-requires
 init-name-requires = of_init.init-name-requires
 
-pub init-returns-then-kind-ge3 : goal.init-returns-then-kind-ge3
-init-returns-then-kind-ge3 = of_init.init-returns-then-kind-ge3
+pub init-returns-then-kind : goal.init-returns-then-kind
+init-returns-then-kind = of_init.init-returns-then-kind
 
 pub init-overflow_add-i : goal.init-overflow_add-i
 init-overflow_add-i = of_init.init-overflow_add-i
 
-pub init-ident_at-x-requires : goal.init-ident_at-x-requires
-init-ident_at-x-requires = of_init.init-ident_at-x-requires
+pub init-ident_at-requires : goal.init-ident_at-requires
+init-ident_at-requires = of_init.init-ident_at-requires
 
 pub init-overflow_add-i-2 : goal.init-overflow_add-i-2
 init-overflow_add-i-2 = of_init.init-overflow_add-i-2
 
-pub init-form_at-f-requires : goal.init-form_at-f-requires
-init-form_at-f-requires = of_init.init-form_at-f-requires
+pub init-form_at-requires : goal.init-form_at-requires
+init-form_at-requires = of_init.init-form_at-requires
 
 pub init-overflow_add-i-3 : goal.init-overflow_add-i-3
 init-overflow_add-i-3 = of_init.init-overflow_add-i-3
@@ -750,8 +735,8 @@ init-skip-requires = of_init.init-skip-requires
 pub init-returns-then-stays : goal.init-returns-then-stays
 init-returns-then-stays = of_init.init-returns-then-stays
 
-pub init-declr_end-requires : goal.init-declr_end-requires
-init-declr_end-requires = of_init.init-declr_end-requires
+pub init-declr_after-requires : goal.init-declr_after-requires
+init-declr_after-requires = of_init.init-declr_after-requires
 
 pub init-returns-then-n-eq1 : goal.init-returns-then-n-eq1
 init-returns-then-n-eq1 = of_init.init-returns-then-n-eq1
@@ -762,14 +747,14 @@ init-overflow_add-p = of_init.init-overflow_add-p
 pub init-full-requires : goal.init-full-requires
 init-full-requires = of_init.init-full-requires
 
-pub init-returns-in_default : goal.init-returns-in_default
-init-returns-in_default = of_init.init-returns-in_default
+pub init-returns-in_err-full : goal.init-returns-in_err-full
+init-returns-in_err-full = of_init.init-returns-in_err-full
 
 pub init-skip-end-requires : goal.init-skip-end-requires
 init-skip-end-requires = of_init.init-skip-end-requires
 
-pub init-declr_end-requires-2 : goal.init-declr_end-requires-2
-init-declr_end-requires-2 = of_init.init-declr_end-requires-2
+pub init-declr_after-requires-2 : goal.init-declr_after-requires-2
+init-declr_after-requires-2 = of_init.init-declr_after-requires-2
 
 pub init-returns : goal.init-returns
 init-returns = of_init.init-returns
@@ -798,11 +783,11 @@ items-overflow_add-p = of_items.items-overflow_add-p
 pub items-overflow_add-i : goal.items-overflow_add-i
 items-overflow_add-i = of_items.items-overflow_add-i
 
-pub items-full-r-requires : goal.items-full-r-requires
-items-full-r-requires = of_items.items-full-r-requires
+pub items-full-requires : goal.items-full-requires
+items-full-requires = of_items.items-full-requires
 
-pub items-returns-in_default : goal.items-returns-in_default
-items-returns-in_default = of_items.items-returns-in_default
+pub items-returns-in_err-j : goal.items-returns-in_err-j
+items-returns-in_err-j = of_items.items-returns-in_err-j
 
 pub items-overflow_add-p-2 : goal.items-overflow_add-p-2
 items-overflow_add-p-2 = of_items.items-overflow_add-p-2
@@ -873,11 +858,11 @@ logic-returns = of_logic.logic-returns
 pub loops-returns-then-n-eq0 : goal.loops-returns-then-n-eq0
 loops-returns-then-n-eq0 = of_loops.loops-returns-then-n-eq0
 
-pub loops-many-r-requires : goal.loops-many-r-requires
-loops-many-r-requires = of_loops.loops-many-r-requires
+pub loops-many-requires : goal.loops-many-requires
+loops-many-requires = of_loops.loops-many-requires
 
-pub loops-returns-in_default : goal.loops-returns-in_default
-loops-returns-in_default = of_loops.loops-returns-in_default
+pub loops-returns-in_err-j : goal.loops-returns-in_err-j
+loops-returns-in_err-j = of_loops.loops-returns-in_err-j
 
 pub loops-arm-requires : goal.loops-arm-requires
 loops-arm-requires = of_loops.loops-arm-requires
@@ -888,11 +873,11 @@ loops-returns = of_loops.loops-returns
 pub many-loop-k-init : goal.many-loop-k-init
 many-loop-k-init = of_many.many-loop-k-init
 
-pub many-full-r-requires : goal.many-full-r-requires
-many-full-r-requires = of_many.many-full-r-requires
+pub many-full-requires : goal.many-full-requires
+many-full-requires = of_many.many-full-requires
 
-pub many-returns-in_default : goal.many-returns-in_default
-many-returns-in_default = of_many.many-returns-in_default
+pub many-returns-in_err-at : goal.many-returns-in_err-at
+many-returns-in_err-at = of_many.many-returns-in_err-at
 
 pub many-loop-k-preserved : goal.many-loop-k-preserved
 many-loop-k-preserved = of_many.many-loop-k-preserved
@@ -912,11 +897,11 @@ name-overflow_add-p = of_name.name-overflow_add-p
 pub name-overflow_add-i : goal.name-overflow_add-i
 name-overflow_add-i = of_name.name-overflow_add-i
 
-pub name-full-r-requires : goal.name-full-r-requires
-name-full-r-requires = of_name.name-full-r-requires
+pub name-full-requires : goal.name-full-requires
+name-full-requires = of_name.name-full-requires
 
-pub name-returns-in_default : goal.name-returns-in_default
-name-returns-in_default = of_name.name-returns-in_default
+pub name-returns-in_err-full : goal.name-returns-in_err-full
+name-returns-in_err-full = of_name.name-returns-in_err-full
 
 pub name-skip-requires : goal.name-skip-requires
 name-skip-requires = of_name.name-skip-requires
@@ -1050,11 +1035,11 @@ own-returns-in_default = of_own.own-returns-in_default
 pub params-returns-then-n-eq0 : goal.params-returns-then-n-eq0
 params-returns-then-n-eq0 = of_params.params-returns-then-n-eq0
 
-pub params-many-r-requires : goal.params-many-r-requires
-params-many-r-requires = of_params.params-many-r-requires
+pub params-many-requires : goal.params-many-requires
+params-many-requires = of_params.params-many-requires
 
-pub params-returns-in_default : goal.params-returns-in_default
-params-returns-in_default = of_params.params-returns-in_default
+pub params-returns-in_err-j : goal.params-returns-in_err-j
+params-returns-in_err-j = of_params.params-returns-in_err-j
 
 pub params-returns-then-d-eq0 : goal.params-returns-then-d-eq0
 params-returns-then-d-eq0 = of_params.params-returns-then-d-eq0
@@ -1068,8 +1053,8 @@ params-returns = of_params.params-returns
 pub parts-loop-k-init : goal.parts-loop-k-init
 parts-loop-k-init = of_parts.parts-loop-k-init
 
-pub parts-kind_at-kind-requires : goal.parts-kind_at-kind-requires
-parts-kind_at-kind-requires = of_parts.parts-kind_at-kind-requires
+pub parts-kind_at-requires : goal.parts-kind_at-requires
+parts-kind_at-requires = of_parts.parts-kind_at-requires
 
 pub parts-skip-at-requires : goal.parts-skip-at-requires
 parts-skip-at-requires = of_parts.parts-skip-at-requires
@@ -1077,11 +1062,11 @@ parts-skip-at-requires = of_parts.parts-skip-at-requires
 pub parts-loop-k-preserved-then-kind-ne17 : goal.parts-loop-k-preserved-then-kind-ne17
 parts-loop-k-preserved-then-kind-ne17 = of_parts.parts-loop-k-preserved-then-kind-ne17
 
-pub parts-full-r-requires : goal.parts-full-r-requires
-parts-full-r-requires = of_parts.parts-full-r-requires
+pub parts-full-requires : goal.parts-full-requires
+parts-full-requires = of_parts.parts-full-requires
 
-pub parts-returns-in_default : goal.parts-returns-in_default
-parts-returns-in_default = of_parts.parts-returns-in_default
+pub parts-returns-in_err-full : goal.parts-returns-in_err-full
+parts-returns-in_err-full = of_parts.parts-returns-in_err-full
 
 pub parts-loop-k-preserved : goal.parts-loop-k-preserved
 parts-loop-k-preserved = of_parts.parts-loop-k-preserved
@@ -1095,11 +1080,11 @@ stmts-many-requires = of_stmts.stmts-many-requires
 pub stmts-returns-then-w-eq0 : goal.stmts-returns-then-w-eq0
 stmts-returns-then-w-eq0 = of_stmts.stmts-returns-then-w-eq0
 
-pub stmts-many-r-requires : goal.stmts-many-r-requires
-stmts-many-r-requires = of_stmts.stmts-many-r-requires
+pub stmts-many-requires : goal.stmts-many-requires
+stmts-many-requires = of_stmts.stmts-many-requires
 
-pub stmts-returns-in_default : goal.stmts-returns-in_default
-stmts-returns-in_default = of_stmts.stmts-returns-in_default
+pub stmts-returns-in_err-many : goal.stmts-returns-in_err-many
+stmts-returns-in_err-many = of_stmts.stmts-returns-in_err-many
 
 pub stmts-many-requires-2 : goal.stmts-many-requires-2
 stmts-many-requires-2 = of_stmts.stmts-many-requires-2
@@ -1131,11 +1116,11 @@ tries-returns-then-n-eq0 = of_tries.tries-returns-then-n-eq0
 pub tries-overflow_add-i : goal.tries-overflow_add-i
 tries-overflow_add-i = of_tries.tries-overflow_add-i
 
-pub tries-write_tree-e-requires : goal.tries-write_tree-e-requires
-tries-write_tree-e-requires = of_tries.tries-write_tree-e-requires
+pub tries-write_tree-requires : goal.tries-write_tree-requires
+tries-write_tree-requires = of_tries.tries-write_tree-requires
 
-pub tries-returns-then-e-ne0 : goal.tries-returns-then-e-ne0
-tries-returns-then-e-ne0 = of_tries.tries-returns-then-e-ne0
+pub tries-returns-in_err-write_tree : goal.tries-returns-in_err-write_tree
+tries-returns-in_err-write_tree = of_tries.tries-returns-in_err-write_tree
 
 pub tries-overflow_add-i-2 : goal.tries-overflow_add-i-2
 tries-overflow_add-i-2 = of_tries.tries-overflow_add-i-2
@@ -1164,11 +1149,11 @@ unary-returns-then-f-ne6 = of_unary.unary-returns-then-f-ne6
 pub unary-returns : goal.unary-returns
 unary-returns = of_unary.unary-returns
 
-pub whiles-write_kids_but_last-e-requires : goal.whiles-write_kids_but_last-e-requires
-whiles-write_kids_but_last-e-requires = of_whiles.whiles-write_kids_but_last-e-requires
+pub whiles-write_kids_but_last-requires : goal.whiles-write_kids_but_last-requires
+whiles-write_kids_but_last-requires = of_whiles.whiles-write_kids_but_last-requires
 
-pub whiles-returns-then-e-ne0 : goal.whiles-returns-then-e-ne0
-whiles-returns-then-e-ne0 = of_whiles.whiles-returns-then-e-ne0
+pub whiles-returns-in_err-write_kids_but_last : goal.whiles-returns-in_err-write_kids_but_last
+whiles-returns-in_err-write_kids_but_last = of_whiles.whiles-returns-in_err-write_kids_but_last
 
 pub whiles-arity_at-n-requires : goal.whiles-arity_at-n-requires
 whiles-arity_at-n-requires = of_whiles.whiles-arity_at-n-requires

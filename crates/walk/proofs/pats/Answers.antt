@@ -1,23 +1,24 @@
 -- `pats` meets its contract: the step, then past the tree. Assumes nothing.
-use mathlib.Core.Path.{sym}
+use Rattle.std.proofs.lemmas.Result.{err_from_is_err_and}
 use Rattle.def_pass.specs.Walk.{when, is_bind, pat_by}
 use Rattle.laws_flat.specs.WalkF.{visit_mut_pat_f}
 use Rattle.walk_laws.proofs.Laws as laws
 use Rattle.walk_laws.proofs.Heres as heres
 use Rattle.walk_laws.proofs.Ways as ways
-use Rattle.walk_laws.proofs.Codes as codes
 use Rattle.walk.proofs.pats.Goals as goal
 
-pub pat_step-e-requires : goal.pat_step-e-requires
-pat_step-e-requires c = heres.at-skip c.requires
+pub pat_step-requires : goal.pat_step-requires
+pat_step-requires c = heres.at-skip c.requires
 
-pub returns-then-e-ne0 : goal.returns-then-e-ne0
+pub returns-in_err-pat_step : goal.returns-in_err-pat_step
 unfolding visit_mut_pat_f
-returns-then-e-ne0 c = ways.did-as (sym c.refused.ensures) (laws.act-stop _ c.if-e-ne0.true c.pat_step-e.ensures)
+returns-in_err-pat_step c =
+    let q = err_from_is_err_and c.from_residual.result c.from_residual.ensures.1 in
+    rw (q.1, q.2) (laws.act-stop _ c.in_err-pat_step.ensures)
 
 pub skip-requires : goal.skip-requires
-skip-requires c = heres.at-skip (heres.here-tree (λ t s. when (is_bind t) (pat_by s.pat_mode t) s) c.args.i c.if-e-ne0.false c.pat_step-e.ensures c.requires)
+skip-requires c = heres.at-skip (heres.here-tree (λ t s. when (is_bind t) (pat_by s.pat_mode t) s) c.args.i c.in_ok-pat_step.ensures c.requires)
 
 pub returns : goal.returns
 unfolding visit_mut_pat_f
-returns c = codes.did_at (codes.low_end c.pat_step-e.ensures.ok.planted c.skip.ensures.2) (laws.act-then _ c.if-e-ne0.false c.pat_step-e.ensures (ways.did-skip c.args.i c.pat_step-e.ensures.ok.planted c.skip.ensures.0))
+returns c = laws.act-then _ c.in_ok-pat_step.ensures (ways.did-skip c.args.i c.in_ok-pat_step.ensures.ok.planted c.skip.ensures.0)

@@ -1,5 +1,5 @@
 -- `update` meets its contract: the step, then past the tree. Assumes nothing.
-use mathlib.Core.Path.{sym}
+use Rattle.std.proofs.lemmas.Result.{err_from_is_err_and}
 use mathlib.Core.Bool.{true}
 use Rattle.def_pass.specs.Tree.{kids}
 use Rattle.def_pass.specs.Walk.{write_forest}
@@ -7,19 +7,20 @@ use Rattle.laws_flat.specs.WalkF.{visit_mut_update_expr_f}
 use Rattle.walk_laws.proofs.Laws as laws
 use Rattle.walk_laws.proofs.Heres as heres
 use Rattle.walk_laws.proofs.Ways as ways
-use Rattle.walk_laws.proofs.Codes as codes
 use Rattle.walk.proofs.update.Goals as goal
 
-pub write_kids-e-requires : goal.write_kids-e-requires
-write_kids-e-requires c = heres.at-skip c.requires
+pub write_kids-requires : goal.write_kids-requires
+write_kids-requires c = heres.at-skip c.requires
 
-pub returns-then-e-ne0 : goal.returns-then-e-ne0
+pub returns-in_err-write_kids : goal.returns-in_err-write_kids
 unfolding visit_mut_update_expr_f
-returns-then-e-ne0 c = ways.did-as (sym c.refused.ensures) (laws.act-stop _ c.if-e-ne0.true c.write_kids-e.ensures)
+returns-in_err-write_kids c =
+    let q = err_from_is_err_and c.from_residual.result c.from_residual.ensures.1 in
+    rw (q.1, q.2) (laws.act-stop _ c.in_err-write_kids.ensures)
 
 pub skip-requires : goal.skip-requires
-skip-requires c = heres.at-skip (heres.here-tree (λ t. write_forest true (kids t)) c.args.i c.if-e-ne0.false c.write_kids-e.ensures c.requires)
+skip-requires c = heres.at-skip (heres.here-tree (λ t. write_forest true (kids t)) c.args.i c.in_ok-write_kids.ensures c.requires)
 
 pub returns : goal.returns
 unfolding visit_mut_update_expr_f
-returns c = codes.did_at (codes.low_end c.write_kids-e.ensures.ok.planted c.skip.ensures.2) (laws.act-then _ c.if-e-ne0.false c.write_kids-e.ensures (ways.did-skip c.args.i c.write_kids-e.ensures.ok.planted c.skip.ensures.0))
+returns c = laws.act-then _ c.in_ok-write_kids.ensures (ways.did-skip c.args.i c.in_ok-write_kids.ensures.ok.planted c.skip.ensures.0)

@@ -1,25 +1,29 @@
 -- The goals of block. Assumes nothing.
 use mathlib.Core.Path.{sym, ◌∙◌}
 use native.Mathlib.Omega.{arith}
+use Rattle.std.proofs.lemmas.Result.{err_from_is_err_and}
 use Rattle.def_pass.specs.Scope.{block as block_kind}
 use Rattle.def_pass.specs.Walk.{opening}
 use Rattle.laws_flat.specs.WalkF.{walks_f, visit_mut_block_stmt_f, script_f}
-use Rattle.walk_laws.proofs.Codes as codes
 use Rattle.walk_laws.proofs.Heres as heres
 use Rattle.walk_laws.proofs.Ways as ways
 use Rattle.walk.proofs.+walks.Goals as goal
 
-pub block-returns-then-e-ne0 : goal.block-returns-then-e-ne0
+pub block-returns-in_err-enter : goal.block-returns-in_err-enter
 unfolding visit_mut_block_stmt_f script_f
-block-returns-then-e-ne0 t c = ways.did-as (sym c.refused.ensures) (ways.scope-full block_kind (script_f (walks_f c.args.d) c.args.p c.args.i) c.enter-e.ensures c.if-e-ne0.true)
+block-returns-in_err-enter t c =
+    let q = err_from_is_err_and c.from_residual.result c.from_residual.ensures.1 in
+    rw (q.1, q.2) (ways.scope-full block_kind (script_f (walks_f c.args.d) c.args.p c.args.i) c.in_err-enter.ensures)
 
-pub block-body-r-requires : goal.block-body-r-requires
-block-body-r-requires t c = (omega (arith, c.decreases), (heres.here-rest (opening block_kind) c.if-e-ne0.false c.enter-e.ensures c.requires))
+pub block-body-requires : goal.block-body-requires
+block-body-requires t c = (omega (arith, c.decreases), (heres.here-rest (opening block_kind) c.in_ok-enter.ensures c.requires))
 
-pub block-returns-in_default : goal.block-returns-in_default
+pub block-returns-in_err-j : goal.block-returns-in_err-j
 unfolding visit_mut_block_stmt_f script_f
-block-returns-in_default t c = ways.scope-stop block_kind (script_f (walks_f c.args.d) c.args.p c.args.i) c.enter-e.ensures c.if-e-ne0.false (sym c.next.ensures.0 ∙ c.in_default.is) c.body-r.ensures
+block-returns-in_err-j t c =
+    let q = err_from_is_err_and c.from_residual.result c.from_residual.ensures.1 in
+    rw (q.1, q.2) (ways.scope-stop block_kind (script_f (walks_f c.args.d) c.args.p c.args.i) c.in_ok-enter.ensures c.in_err-j.ensures)
 
 pub block-returns : goal.block-returns
 unfolding visit_mut_block_stmt_f script_f
-block-returns t c = codes.did-got c.next.ensures.1 c.in-At.is (ways.scope_then block_kind (script_f (walks_f c.args.d) c.args.p c.args.i) c.enter-e.ensures c.if-e-ne0.false (sym c.next.ensures.0 ∙ c.in-At.is) c.body-r.ensures c.leave.ensures)
+block-returns t c = ways.scope_then block_kind (script_f (walks_f c.args.d) c.args.p c.args.i) c.in_ok-enter.ensures c.in_ok-j.ensures c.save_fields-before.ensures c.leave.ensures

@@ -1,26 +1,30 @@
 -- The goals of case. Assumes nothing.
 use mathlib.Core.Path.{sym, ◌∙◌}
 use native.Mathlib.Omega.{arith}
+use Rattle.std.proofs.lemmas.Result.{err_from_is_err_and}
 use Rattle.def_pass.specs.Scope.{block as block_kind}
 use Rattle.def_pass.specs.Walk.{opening}
 use Rattle.laws_flat.specs.WalkF.{walks_f, visit_mut_switch_case_f}
 use Rattle.walk_laws.specs.Did.{items_f}
-use Rattle.walk_laws.proofs.Codes as codes
 use Rattle.walk_laws.proofs.Heres as heres
 use Rattle.walk_laws.proofs.Ways as ways
 use Rattle.walk.proofs.+walks.Goals as goal
 
-pub case-returns-then-e-ne0 : goal.case-returns-then-e-ne0
+pub case-returns-in_err-enter : goal.case-returns-in_err-enter
 unfolding visit_mut_switch_case_f
-case-returns-then-e-ne0 t c = ways.did-as (sym c.refused.ensures) (ways.scope-full block_kind (items_f (walks_f c.args.d) c.args.p c.args.i) c.enter-e.ensures c.if-e-ne0.true)
+case-returns-in_err-enter t c =
+    let q = err_from_is_err_and c.from_residual.result c.from_residual.ensures.1 in
+    rw (q.1, q.2) (ways.scope-full block_kind (items_f (walks_f c.args.d) c.args.p c.args.i) c.in_err-enter.ensures)
 
-pub case-items-r-requires : goal.case-items-r-requires
-case-items-r-requires t c = (omega (arith, c.decreases), (heres.here-rest (opening block_kind) c.if-e-ne0.false c.enter-e.ensures c.requires))
+pub case-items-requires : goal.case-items-requires
+case-items-requires t c = (omega (arith, c.decreases), (heres.here-rest (opening block_kind) c.in_ok-enter.ensures c.requires))
 
-pub case-returns-in_default : goal.case-returns-in_default
+pub case-returns-in_err-j : goal.case-returns-in_err-j
 unfolding visit_mut_switch_case_f
-case-returns-in_default t c = ways.scope-stop block_kind (items_f (walks_f c.args.d) c.args.p c.args.i) c.enter-e.ensures c.if-e-ne0.false (sym c.next.ensures.0 ∙ c.in_default.is) c.items-r.ensures
+case-returns-in_err-j t c =
+    let q = err_from_is_err_and c.from_residual.result c.from_residual.ensures.1 in
+    rw (q.1, q.2) (ways.scope-stop block_kind (items_f (walks_f c.args.d) c.args.p c.args.i) c.in_ok-enter.ensures c.in_err-j.ensures)
 
 pub case-returns : goal.case-returns
 unfolding visit_mut_switch_case_f
-case-returns t c = codes.did-got c.next.ensures.1 c.in-At.is (ways.scope_then block_kind (items_f (walks_f c.args.d) c.args.p c.args.i) c.enter-e.ensures c.if-e-ne0.false (sym c.next.ensures.0 ∙ c.in-At.is) c.items-r.ensures c.leave.ensures)
+case-returns t c = ways.scope_then block_kind (items_f (walks_f c.args.d) c.args.p c.args.i) c.in_ok-enter.ensures c.in_ok-j.ensures c.save_fields-before.ensures c.leave.ensures

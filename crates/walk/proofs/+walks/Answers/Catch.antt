@@ -2,6 +2,7 @@
 use Prim.Native.Nat.{suc, ◌+◌, ◌-◌}
 use mathlib.Core.Path.{refl, sym, ◌∙◌}
 use native.Mathlib.Omega.{arith}
+use Rattle.std.proofs.lemmas.Result.{err_from_is_err_and}
 use Rattle.def_tree.specs.Combine.{each_but_f, on_kids_f}
 use Rattle.def_tree.proofs.Sims.{sim-each}
 use Rattle.def_pass.specs.Scope.{block as block_kind}
@@ -9,24 +10,25 @@ use Rattle.def_pass.specs.Walk.{opening, set_pat_mode, as_catch}
 use Rattle.laws_flat.specs.WalkF.{walks_f, catch_param_f, visit_mut_catch_clause_f}
 use Rattle.laws_flat.proofs.Sim.{sims, sim-catch_param}
 use Rattle.walk_laws.specs.Did.{caught_f}
-use Rattle.walk_laws.proofs.Codes as codes
 use Rattle.walk_laws.proofs.Heres as heres
 use Rattle.walk_laws.proofs.Ways as ways
 use Rattle.walk.proofs.+walks.Goals as goal
 
-pub catch-returns-then-e-ne0 : goal.catch-returns-then-e-ne0
+pub catch-returns-in_err-enter : goal.catch-returns-in_err-enter
 unfolding visit_mut_catch_clause_f
-catch-returns-then-e-ne0 t c = ways.did-as (sym c.refused.ensures) (ways.scope-full block_kind (caught_f (walks_f c.args.d) c.args.p c.args.i) c.enter-e.ensures c.if-e-ne0.true)
+catch-returns-in_err-enter t c =
+    let q = err_from_is_err_and c.from_residual.result c.from_residual.ensures.1 in
+    rw (q.1, q.2) (ways.scope-full block_kind (caught_f (walks_f c.args.d) c.args.p c.args.i) c.in_err-enter.ensures)
 
 pub catch-arity_at-n-requires : goal.catch-arity_at-n-requires
-catch-arity_at-n-requires t c = heres.at-node (heres.here-turn c.set_pat_mode.ensures (heres.here-rest (opening block_kind) c.if-e-ne0.false c.enter-e.ensures c.requires))
+catch-arity_at-n-requires t c = heres.at-node (heres.here-turn c.set_pat_mode.ensures (heres.here-rest (opening block_kind) c.in_ok-enter.ensures c.requires))
 
 pub catch-overflow_add-result : goal.catch-overflow_add-result
 catch-overflow_add-result t c = omega (arith, c.requires.depth, (heres.at-node c.requires).1)
 
 pub catch-returns-then-n-eq0 : goal.catch-returns-then-n-eq0
 unfolding visit_mut_catch_clause_f
-catch-returns-then-n-eq0 t c = codes.did_at (codes.low-next c.requires) (ways.scope_then block_kind (caught_f (walks_f c.args.d) c.args.p c.args.i) c.enter-e.ensures c.if-e-ne0.false refl (ways.modify-then (set_pat_mode as_catch) (on_kids_f (each_but_f (catch_param_f (walks_f c.args.d) (suc c.args.p)) ((walks_f c.args.d).full (suc c.args.p))) c.args.i) c.set_pat_mode.ensures (ways.on-kids (λ q. each_but_f (catch_param_f (walks_f c.args.d) q) ((walks_f c.args.d).full q)) (heres.here-turn c.set_pat_mode.ensures (heres.here-rest (opening block_kind) c.if-e-ne0.false c.enter-e.ensures c.requires)) c.arity_at-n.ensures (ways.but-none (catch_param_f (walks_f c.args.d) (c.args.p + 1)) ((walks_f c.args.d).full (c.args.p + 1)) c.arity_at-n.result (c.args.i + 1) c.if-n-eq0.true (heres.here-turn c.set_pat_mode.ensures (heres.here-rest (opening block_kind) c.if-e-ne0.false c.enter-e.ensures c.requires)).planted))) c.leave.ensures)
+catch-returns-then-n-eq0 t c = ways.scope_then block_kind (caught_f (walks_f c.args.d) c.args.p c.args.i) c.in_ok-enter.ensures (ways.modify-then (set_pat_mode as_catch) (on_kids_f (each_but_f (catch_param_f (walks_f c.args.d) (suc c.args.p)) ((walks_f c.args.d).full (suc c.args.p))) c.args.i) c.set_pat_mode.ensures (ways.on-kids (λ q. each_but_f (catch_param_f (walks_f c.args.d) q) ((walks_f c.args.d).full q)) (heres.here-turn c.set_pat_mode.ensures (heres.here-rest (opening block_kind) c.in_ok-enter.ensures c.requires)) c.arity_at-n.ensures (ways.but-none (catch_param_f (walks_f c.args.d) (c.args.p + 1)) ((walks_f c.args.d).full (c.args.p + 1)) c.arity_at-n.result (c.args.i + 1) c.if-n-eq0.true (heres.here-turn c.set_pat_mode.ensures (heres.here-rest (opening block_kind) c.in_ok-enter.ensures c.requires)).planted))) c.save_fields-before.ensures c.leave.ensures
 
 pub catch-overflow_add-p : goal.catch-overflow_add-p
 catch-overflow_add-p t c = omega (arith, c.requires.depth, (heres.at-node c.requires).1)
@@ -34,23 +36,27 @@ catch-overflow_add-p t c = omega (arith, c.requires.depth, (heres.at-node c.requ
 pub catch-overflow_add-i : goal.catch-overflow_add-i
 catch-overflow_add-i t c = omega (arith, c.requires.depth, (heres.at-node c.requires).1)
 
-pub catch-binds-r-requires : goal.catch-binds-r-requires
-catch-binds-r-requires t c = (omega (arith, c.decreases), heres.here-less (heres.here-kids (heres.here-turn c.set_pat_mode.ensures (heres.here-rest (opening block_kind) c.if-e-ne0.false c.enter-e.ensures c.requires)) c.arity_at-n.ensures))
+pub catch-binds-requires : goal.catch-binds-requires
+catch-binds-requires t c = (omega (arith, c.decreases), heres.here-less (heres.here-kids (heres.here-turn c.set_pat_mode.ensures (heres.here-rest (opening block_kind) c.in_ok-enter.ensures c.requires)) c.arity_at-n.ensures))
 
-pub catch-returns-in_default : goal.catch-returns-in_default
+pub catch-returns-in_err-j : goal.catch-returns-in_err-j
 unfolding visit_mut_catch_clause_f
-catch-returns-in_default t c = ways.scope-stop block_kind (caught_f (walks_f c.args.d) c.args.p c.args.i) c.enter-e.ensures c.if-e-ne0.false (sym c.next.ensures.0 ∙ c.in_default.is) (ways.modify-then (set_pat_mode as_catch) (on_kids_f (each_but_f (catch_param_f (walks_f c.args.d) (suc c.args.p)) ((walks_f c.args.d).full (suc c.args.p))) c.args.i) c.set_pat_mode.ensures (ways.on-kids (λ q. each_but_f (catch_param_f (walks_f c.args.d) q) ((walks_f c.args.d).full q)) (heres.here-turn c.set_pat_mode.ensures (heres.here-rest (opening block_kind) c.if-e-ne0.false c.enter-e.ensures c.requires)) c.arity_at-n.ensures (ways.but-stop (catch_param_f (walks_f c.args.d) (c.args.p + 1)) ((walks_f c.args.d).full (c.args.p + 1)) c.arity_at-n.result (c.args.i + 1) c.if-n-eq0.false (sym c.next.ensures.0 ∙ c.in_default.is) c.binds-r.ensures)))
+catch-returns-in_err-j t c =
+    let q = err_from_is_err_and c.from_residual.result c.from_residual.ensures.1 in
+    rw (q.1, q.2) (ways.scope-stop block_kind (caught_f (walks_f c.args.d) c.args.p c.args.i) c.in_ok-enter.ensures (ways.modify-then (set_pat_mode as_catch) (on_kids_f (each_but_f (catch_param_f (walks_f c.args.d) (suc c.args.p)) ((walks_f c.args.d).full (suc c.args.p))) c.args.i) c.set_pat_mode.ensures (ways.on-kids (λ q. each_but_f (catch_param_f (walks_f c.args.d) q) ((walks_f c.args.d).full q)) (heres.here-turn c.set_pat_mode.ensures (heres.here-rest (opening block_kind) c.in_ok-enter.ensures c.requires)) c.arity_at-n.ensures (ways.but-stop (catch_param_f (walks_f c.args.d) (c.args.p + 1)) ((walks_f c.args.d).full (c.args.p + 1)) c.arity_at-n.result (c.args.i + 1) c.if-n-eq0.false c.in_err-j.ensures))))
 
 pub catch-overflow_add-p-2 : goal.catch-overflow_add-p-2
 catch-overflow_add-p-2 t c = omega (arith, c.requires.depth, (heres.at-node c.requires).1)
 
-pub catch-full-s-requires : goal.catch-full-s-requires
-catch-full-s-requires t c = (omega (arith, c.decreases), heres.here-behind (sim-each (sim-catch_param (sims c.args.d) (c.args.p + 1))) (heres.here-kids (heres.here-turn c.set_pat_mode.ensures (heres.here-rest (opening block_kind) c.if-e-ne0.false c.enter-e.ensures c.requires)) c.arity_at-n.ensures) (sym c.next.ensures.0 ∙ c.in-At.is) (c.arity_at-n.result - 1) (omega (arith, c.if-n-eq0.false)) c.binds-r.ensures)
+pub catch-full-requires : goal.catch-full-requires
+catch-full-requires t c = (omega (arith, c.decreases), heres.here-behind (sim-each (sim-catch_param (sims c.args.d) (c.args.p + 1))) (heres.here-kids (heres.here-turn c.set_pat_mode.ensures (heres.here-rest (opening block_kind) c.in_ok-enter.ensures c.requires)) c.arity_at-n.ensures) (c.arity_at-n.result - 1) (omega (arith, c.if-n-eq0.false)) c.in_ok-j.ensures)
 
-pub catch-returns-in_default-next : goal.catch-returns-in_default-next
+pub catch-returns-in_err-end : goal.catch-returns-in_err-end
 unfolding visit_mut_catch_clause_f
-catch-returns-in_default-next t c = ways.scope-stop block_kind (caught_f (walks_f c.args.d) c.args.p c.args.i) c.enter-e.ensures c.if-e-ne0.false (sym c.next-2.ensures.0 ∙ c.in_default-next.is) (ways.modify-then (set_pat_mode as_catch) (on_kids_f (each_but_f (catch_param_f (walks_f c.args.d) (suc c.args.p)) ((walks_f c.args.d).full (suc c.args.p))) c.args.i) c.set_pat_mode.ensures (ways.on-kids (λ q. each_but_f (catch_param_f (walks_f c.args.d) q) ((walks_f c.args.d).full q)) (heres.here-turn c.set_pat_mode.ensures (heres.here-rest (opening block_kind) c.if-e-ne0.false c.enter-e.ensures c.requires)) c.arity_at-n.ensures (ways.but-then (catch_param_f (walks_f c.args.d) (c.args.p + 1)) ((walks_f c.args.d).full (c.args.p + 1)) c.arity_at-n.result (c.args.i + 1) c.if-n-eq0.false (sym c.next.ensures.0 ∙ c.in-At.is) c.binds-r.ensures c.full-s.ensures)))
+catch-returns-in_err-end t c =
+    let q = err_from_is_err_and c.from_residual.result c.from_residual.ensures.1 in
+    rw (q.1, q.2) (ways.scope-stop block_kind (caught_f (walks_f c.args.d) c.args.p c.args.i) c.in_ok-enter.ensures (ways.modify-then (set_pat_mode as_catch) (on_kids_f (each_but_f (catch_param_f (walks_f c.args.d) (suc c.args.p)) ((walks_f c.args.d).full (suc c.args.p))) c.args.i) c.set_pat_mode.ensures (ways.on-kids (λ q. each_but_f (catch_param_f (walks_f c.args.d) q) ((walks_f c.args.d).full q)) (heres.here-turn c.set_pat_mode.ensures (heres.here-rest (opening block_kind) c.in_ok-enter.ensures c.requires)) c.arity_at-n.ensures (ways.but-then (catch_param_f (walks_f c.args.d) (c.args.p + 1)) ((walks_f c.args.d).full (c.args.p + 1)) c.arity_at-n.result (c.args.i + 1) c.if-n-eq0.false c.in_ok-j.ensures c.in_err-end.ensures))))
 
 pub catch-returns : goal.catch-returns
 unfolding visit_mut_catch_clause_f
-catch-returns t c = codes.did-got c.next-2.ensures.1 c.in-At-next.is (ways.scope_then block_kind (caught_f (walks_f c.args.d) c.args.p c.args.i) c.enter-e.ensures c.if-e-ne0.false (sym c.next-2.ensures.0 ∙ c.in-At-next.is) (ways.modify-then (set_pat_mode as_catch) (on_kids_f (each_but_f (catch_param_f (walks_f c.args.d) (suc c.args.p)) ((walks_f c.args.d).full (suc c.args.p))) c.args.i) c.set_pat_mode.ensures (ways.on-kids (λ q. each_but_f (catch_param_f (walks_f c.args.d) q) ((walks_f c.args.d).full q)) (heres.here-turn c.set_pat_mode.ensures (heres.here-rest (opening block_kind) c.if-e-ne0.false c.enter-e.ensures c.requires)) c.arity_at-n.ensures (ways.but-then (catch_param_f (walks_f c.args.d) (c.args.p + 1)) ((walks_f c.args.d).full (c.args.p + 1)) c.arity_at-n.result (c.args.i + 1) c.if-n-eq0.false (sym c.next.ensures.0 ∙ c.in-At.is) c.binds-r.ensures c.full-s.ensures))) c.leave-2.ensures)
+catch-returns t c = ways.scope_then block_kind (caught_f (walks_f c.args.d) c.args.p c.args.i) c.in_ok-enter.ensures (ways.modify-then (set_pat_mode as_catch) (on_kids_f (each_but_f (catch_param_f (walks_f c.args.d) (suc c.args.p)) ((walks_f c.args.d).full (suc c.args.p))) c.args.i) c.set_pat_mode.ensures (ways.on-kids (λ q. each_but_f (catch_param_f (walks_f c.args.d) q) ((walks_f c.args.d).full q)) (heres.here-turn c.set_pat_mode.ensures (heres.here-rest (opening block_kind) c.in_ok-enter.ensures c.requires)) c.arity_at-n.ensures (ways.but-then (catch_param_f (walks_f c.args.d) (c.args.p + 1)) ((walks_f c.args.d).full (c.args.p + 1)) c.arity_at-n.result (c.args.i + 1) c.if-n-eq0.false c.in_ok-j.ensures c.in_ok-end.ensures))) c.save_fields-before.ensures c.leave-2.ensures

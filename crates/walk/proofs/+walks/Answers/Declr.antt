@@ -2,12 +2,12 @@
 use Prim.Native.Nat.{◌+◌}
 use mathlib.Core.Path.{sym, ◌∙◌}
 use native.Mathlib.Omega.{arith}
+use Rattle.std.proofs.lemmas.Result.{err_from_is_err_and}
 use Rattle.def_tree.specs.Combine.{tree_at}
 use Rattle.def_tree.proofs.Sims.{sim-each, sim-skip, sim-split}
 use Rattle.words_state.specs.State.{abs, rest}
 use Rattle.laws_flat.specs.WalkF.{walks_f}
 use Rattle.laws_flat.proofs.Sim.{sims, sim-declr, sim-name}
-use Rattle.walk_laws.proofs.Codes as codes
 use Rattle.walk_laws.proofs.Heres as heres
 use Rattle.walk_laws.proofs.Ways as ways
 use Rattle.walk_laws.proofs.Declrs as declrs
@@ -22,62 +22,63 @@ declr-overflow_add-p t c = omega (arith, c.requires.depth, (heres.at-node c.requ
 pub declr-overflow_add-i : goal.declr-overflow_add-i
 declr-overflow_add-i t c = omega (arith, c.requires.depth, (heres.at-node c.requires).1)
 
-pub declr-tail-r-requires : goal.declr-tail-r-requires
-declr-tail-r-requires t c = (omega (arith, c.decreases), (heres.here-kids c.requires c.arity_at-n.ensures))
+pub declr-tail-requires : goal.declr-tail-requires
+declr-tail-requires t c = (omega (arith, c.decreases), (heres.here-kids c.requires c.arity_at-n.ensures))
 
-pub declr-returns-in_default : goal.declr-returns-in_default
-declr-returns-in_default t c = declrs.declr-stop (walks_f c.args.d) c.requires c.arity_at-n.ensures c.tail-r.ensures (sym c.next.ensures.0 ∙ c.in_default.is)
+pub declr-returns-in_err-tail : goal.declr-returns-in_err-tail
+declr-returns-in_err-tail t c =
+    let q = err_from_is_err_and c.from_residual.result c.from_residual.ensures.1 in
+    rw (q.1, q.2) (declrs.declr-stop (walks_f c.args.d) c.requires c.arity_at-n.ensures c.in_err-tail.ensures)
 
 pub declr-overflow_add-i-2 : goal.declr-overflow_add-i-2
 declr-overflow_add-i-2 t c = omega (arith, c.requires.depth, (heres.at-node c.requires).1)
 
 pub declr-nameless-requires : goal.declr-nameless-requires
-declr-nameless-requires t c = heres.here-flat (heres.here-turn c.set_pat_mode.ensures (heres.here-again (sim-split sim-skip (sim-each ((sims c.args.d).full (c.args.p + 1)))) (heres.here-kids c.requires c.arity_at-n.ensures) (sym c.next.ensures.0 ∙ c.in-At.is) c.tail-r.ensures))
+declr-nameless-requires t c = heres.here-flat (heres.here-turn c.set_pat_mode.ensures (heres.here-again (sim-split sim-skip (sim-each ((sims c.args.d).full (c.args.p + 1)))) (heres.here-kids c.requires c.arity_at-n.ensures) c.in_ok-tail.ensures))
 
 pub declr-name-requires : goal.declr-name-requires
-declr-name-requires t c = (omega (arith, c.decreases), (declrs.kids-again (sim-split sim-skip (sim-each ((sims c.args.d).full (c.args.p + 1)))) c.requires c.arity_at-n.ensures (sym c.next.ensures.0 ∙ c.in-At.is) c.tail-r.ensures c.set_pat_mode.ensures))
+declr-name-requires t c = (omega (arith, c.decreases), (declrs.kids-again (sim-split sim-skip (sim-each ((sims c.args.d).full (c.args.p + 1)))) c.requires c.arity_at-n.ensures c.in_ok-tail.ensures c.set_pat_mode.ensures))
 
 pub declr-returns-then-nameless : goal.declr-returns-then-nameless
-declr-returns-then-nameless t c = declrs.declr-then (walks_f c.args.d) c.requires c.arity_at-n.ensures c.tail-r.ensures (sym c.next.ensures.0 ∙ c.in-At.is) c.set_pat_mode.ensures (declrs.end_none (walks_f c.args.d) c.args.p (sim-name (sims c.args.d) c.args.p) (declrs.kids-again (sim-split sim-skip (sim-each ((sims c.args.d).full (c.args.p + 1)))) c.requires c.arity_at-n.ensures (sym c.next.ensures.0 ∙ c.in-At.is) c.tail-r.ensures c.set_pat_mode.ensures).0 (declrs.kids-again (sim-split sim-skip (sim-each ((sims c.args.d).full (c.args.p + 1)))) c.requires c.arity_at-n.ensures (sym c.next.ensures.0 ∙ c.in-At.is) c.tail-r.ensures c.set_pat_mode.ensures).1 (rest c.set_pat_mode.new.w).inlining (rest c.set_pat_mode.new.w).var_decl_kind (declrs.headed-yes c.set_pat_mode.new.w c.arity_at-n.result (c.args.i + 1) c.nameless.result c.nameless.ensures c.if-nameless.true) c.name.ensures)
+declr-returns-then-nameless t c = declrs.declr-then (walks_f c.args.d) c.requires c.arity_at-n.ensures c.in_ok-tail.ensures c.set_pat_mode.ensures (declrs.end_none (walks_f c.args.d) c.args.p (sim-name (sims c.args.d) c.args.p) (declrs.kids-again (sim-split sim-skip (sim-each ((sims c.args.d).full (c.args.p + 1)))) c.requires c.arity_at-n.ensures c.in_ok-tail.ensures c.set_pat_mode.ensures).0 (declrs.kids-again (sim-split sim-skip (sim-each ((sims c.args.d).full (c.args.p + 1)))) c.requires c.arity_at-n.ensures c.in_ok-tail.ensures c.set_pat_mode.ensures).1 (rest c.set_pat_mode.new.w).inlining (rest c.set_pat_mode.new.w).var_decl_kind (declrs.headed-yes c.set_pat_mode.new.w c.arity_at-n.result (c.args.i + 1) c.nameless.result c.nameless.ensures c.if-nameless.true) c.name.ensures)
 
 pub declr-init-requires : goal.declr-init-requires
-declr-init-requires t c = (omega (arith, c.decreases), ((declrs.kids-again (sim-split sim-skip (sim-each ((sims c.args.d).full (c.args.p + 1)))) c.requires c.arity_at-n.ensures (sym c.next.ensures.0 ∙ c.in-At.is) c.tail-r.ensures c.set_pat_mode.ensures).0, (declrs.kids-again (sim-split sim-skip (sim-each ((sims c.args.d).full (c.args.p + 1)))) c.requires c.arity_at-n.ensures (sym c.next.ensures.0 ∙ c.in-At.is) c.tail-r.ensures c.set_pat_mode.ensures).1, (declrs.headed-no c.set_pat_mode.new.w c.arity_at-n.result (c.args.i + 1) c.nameless.result c.nameless.ensures c.if-nameless.false).1))
-
-pub declr-coded-requires : goal.declr-coded-requires
-declr-coded-requires t c = codes.low-did (sim-declr (sims c.args.d) c.args.p) c.init.result c.requires (declrs.declr-then (walks_f c.args.d) c.requires c.arity_at-n.ensures c.tail-r.ensures (sym c.next.ensures.0 ∙ c.in-At.is) c.set_pat_mode.ensures (declrs.end-inlining (walks_f c.args.d) c.args.p (sim-name (sims c.args.d) c.args.p) (declrs.kids-again (sim-split sim-skip (sim-each ((sims c.args.d).full (c.args.p + 1)))) c.requires c.arity_at-n.ensures (sym c.next.ensures.0 ∙ c.in-At.is) c.tail-r.ensures c.set_pat_mode.ensures).0 (declrs.kids-again (sim-split sim-skip (sim-each ((sims c.args.d).full (c.args.p + 1)))) c.requires c.arity_at-n.ensures (sym c.next.ensures.0 ∙ c.in-At.is) c.tail-r.ensures c.set_pat_mode.ensures).1 (tree_at (abs c.set_pat_mode.new.w) (c.args.i + 1)) (rest c.set_pat_mode.new.w).var_decl_kind (declrs.headed-no c.set_pat_mode.new.w c.arity_at-n.result (c.args.i + 1) c.nameless.result c.nameless.ensures c.if-nameless.false).0 (ways.in-inlining c.set_pat_mode.new.w c.if-w-ne0.true) c.init.ensures))
+declr-init-requires t c = (omega (arith, c.decreases), ((declrs.kids-again (sim-split sim-skip (sim-each ((sims c.args.d).full (c.args.p + 1)))) c.requires c.arity_at-n.ensures c.in_ok-tail.ensures c.set_pat_mode.ensures).0, (declrs.kids-again (sim-split sim-skip (sim-each ((sims c.args.d).full (c.args.p + 1)))) c.requires c.arity_at-n.ensures c.in_ok-tail.ensures c.set_pat_mode.ensures).1, (declrs.headed-no c.set_pat_mode.new.w c.arity_at-n.result (c.args.i + 1) c.nameless.result c.nameless.ensures c.if-nameless.false).1))
 
 pub declr-returns-then-w-ne0 : goal.declr-returns-then-w-ne0
-declr-returns-then-w-ne0 t c = ways.did-as (sym c.coded.ensures) (declrs.declr-then (walks_f c.args.d) c.requires c.arity_at-n.ensures c.tail-r.ensures (sym c.next.ensures.0 ∙ c.in-At.is) c.set_pat_mode.ensures (declrs.end-inlining (walks_f c.args.d) c.args.p (sim-name (sims c.args.d) c.args.p) (declrs.kids-again (sim-split sim-skip (sim-each ((sims c.args.d).full (c.args.p + 1)))) c.requires c.arity_at-n.ensures (sym c.next.ensures.0 ∙ c.in-At.is) c.tail-r.ensures c.set_pat_mode.ensures).0 (declrs.kids-again (sim-split sim-skip (sim-each ((sims c.args.d).full (c.args.p + 1)))) c.requires c.arity_at-n.ensures (sym c.next.ensures.0 ∙ c.in-At.is) c.tail-r.ensures c.set_pat_mode.ensures).1 (tree_at (abs c.set_pat_mode.new.w) (c.args.i + 1)) (rest c.set_pat_mode.new.w).var_decl_kind (declrs.headed-no c.set_pat_mode.new.w c.arity_at-n.result (c.args.i + 1) c.nameless.result c.nameless.ensures c.if-nameless.false).0 (ways.in-inlining c.set_pat_mode.new.w c.if-w-ne0.true) c.init.ensures))
+declr-returns-then-w-ne0 t c = declrs.declr-then (walks_f c.args.d) c.requires c.arity_at-n.ensures c.in_ok-tail.ensures c.set_pat_mode.ensures (declrs.end-inlining (walks_f c.args.d) c.args.p (sim-name (sims c.args.d) c.args.p) (declrs.kids-again (sim-split sim-skip (sim-each ((sims c.args.d).full (c.args.p + 1)))) c.requires c.arity_at-n.ensures c.in_ok-tail.ensures c.set_pat_mode.ensures).0 (declrs.kids-again (sim-split sim-skip (sim-each ((sims c.args.d).full (c.args.p + 1)))) c.requires c.arity_at-n.ensures c.in_ok-tail.ensures c.set_pat_mode.ensures).1 (tree_at (abs c.set_pat_mode.new.w) (c.args.i + 1)) (rest c.set_pat_mode.new.w).var_decl_kind (declrs.headed-no c.set_pat_mode.new.w c.arity_at-n.result (c.args.i + 1) c.nameless.result c.nameless.ensures c.if-nameless.false).0 (ways.in-inlining c.set_pat_mode.new.w c.if-w-ne0.true) c.init.ensures)
 
 pub declr-overflow_add-i-3 : goal.declr-overflow_add-i-3
 declr-overflow_add-i-3 t c = omega (arith, c.requires.depth, (heres.at-node c.requires).1)
 
-pub declr-ident_at-x-requires : goal.declr-ident_at-x-requires
-declr-ident_at-x-requires t c = declrs.at_name (heres.here-turn c.set_pat_mode.ensures (heres.here-again (sim-split sim-skip (sim-each ((sims c.args.d).full (c.args.p + 1)))) (heres.here-kids c.requires c.arity_at-n.ensures) (sym c.next.ensures.0 ∙ c.in-At.is) c.tail-r.ensures)) (declrs.headed-no c.set_pat_mode.new.w c.arity_at-n.result (c.args.i + 1) c.nameless.result c.nameless.ensures c.if-nameless.false).1
+pub declr-ident_at-requires : goal.declr-ident_at-requires
+declr-ident_at-requires t c = declrs.at_name (heres.here-turn c.set_pat_mode.ensures (heres.here-again (sim-split sim-skip (sim-each ((sims c.args.d).full (c.args.p + 1)))) (heres.here-kids c.requires c.arity_at-n.ensures) c.in_ok-tail.ensures)) (declrs.headed-no c.set_pat_mode.new.w c.arity_at-n.result (c.args.i + 1) c.nameless.result c.nameless.ensures c.if-nameless.false).1
 
 pub declr-overflow_add-i-4 : goal.declr-overflow_add-i-4
 declr-overflow_add-i-4 t c = omega (arith, c.requires.depth, (heres.at-node c.requires).1)
 
-pub declr-form_at-f-requires : goal.declr-form_at-f-requires
-declr-form_at-f-requires t c = heres.at-node (heres.here-one (λ z. omega (arith, z, (declrs.headed-no c.set_pat_mode.new.w c.arity_at-n.result (c.args.i + 1) c.nameless.result c.nameless.ensures c.if-nameless.false).1.some)) (heres.here-turn c.set_pat_mode.ensures (heres.here-again (sim-split sim-skip (sim-each ((sims c.args.d).full (c.args.p + 1)))) (heres.here-kids c.requires c.arity_at-n.ensures) (sym c.next.ensures.0 ∙ c.in-At.is) c.tail-r.ensures)))
+pub declr-form_at-requires : goal.declr-form_at-requires
+declr-form_at-requires t c = heres.at-node (heres.here-one (λ z. omega (arith, z, (declrs.headed-no c.set_pat_mode.new.w c.arity_at-n.result (c.args.i + 1) c.nameless.result c.nameless.ensures c.if-nameless.false).1.some)) (heres.here-turn c.set_pat_mode.ensures (heres.here-again (sim-split sim-skip (sim-each ((sims c.args.d).full (c.args.p + 1)))) (heres.here-kids c.requires c.arity_at-n.ensures) c.in_ok-tail.ensures)))
 
 pub declr-overflow_add-i-5 : goal.declr-overflow_add-i-5
 declr-overflow_add-i-5 t c = omega (arith, c.requires.depth, (heres.at-node c.requires).1)
 
 pub declr-over-requires : goal.declr-over-requires
-declr-over-requires t c = heres.at-trees (heres.here-turn c.set_pat_mode.ensures (heres.here-again (sim-split sim-skip (sim-each ((sims c.args.d).full (c.args.p + 1)))) (heres.here-kids c.requires c.arity_at-n.ensures) (sym c.next.ensures.0 ∙ c.in-At.is) c.tail-r.ensures))
+declr-over-requires t c = heres.at-trees (heres.here-turn c.set_pat_mode.ensures (heres.here-again (sim-split sim-skip (sim-each ((sims c.args.d).full (c.args.p + 1)))) (heres.here-kids c.requires c.arity_at-n.ensures) c.in_ok-tail.ensures))
 
 pub declr-skip-requires : goal.declr-skip-requires
-declr-skip-requires t c = heres.at-skip (declrs.over-here (walks_f c.args.d) c.args.p (sim-name (sims c.args.d) c.args.p) (declrs.kids-again (sim-split sim-skip (sim-each ((sims c.args.d).full (c.args.p + 1)))) c.requires c.arity_at-n.ensures (sym c.next.ensures.0 ∙ c.in-At.is) c.tail-r.ensures c.set_pat_mode.ensures).0 (declrs.kids-again (sim-split sim-skip (sim-each ((sims c.args.d).full (c.args.p + 1)))) c.requires c.arity_at-n.ensures (sym c.next.ensures.0 ∙ c.in-At.is) c.tail-r.ensures c.set_pat_mode.ensures).1 (tree_at (abs c.set_pat_mode.new.w) (c.args.i + 1)) (rest c.set_pat_mode.new.w).var_decl_kind (declrs.headed-no c.set_pat_mode.new.w c.arity_at-n.result (c.args.i + 1) c.nameless.result c.nameless.ensures c.if-nameless.false).0 (ways.in-analysis c.set_pat_mode.new.w c.if-w-ne0.false) c.form_at-f.result (declrs.name-form (heres.here-turn c.set_pat_mode.ensures (heres.here-again (sim-split sim-skip (sim-each ((sims c.args.d).full (c.args.p + 1)))) (heres.here-kids c.requires c.arity_at-n.ensures) (sym c.next.ensures.0 ∙ c.in-At.is) c.tail-r.ensures)) (declrs.headed-no c.set_pat_mode.new.w c.arity_at-n.result (c.args.i + 1) c.nameless.result c.nameless.ensures c.if-nameless.false).1 c.form_at-f.ensures) c.ident_at-x.result (declrs.name-num (heres.here-turn c.set_pat_mode.ensures (heres.here-again (sim-split sim-skip (sim-each ((sims c.args.d).full (c.args.p + 1)))) (heres.here-kids c.requires c.arity_at-n.ensures) (sym c.next.ensures.0 ∙ c.in-At.is) c.tail-r.ensures)) (declrs.headed-no c.set_pat_mode.new.w c.arity_at-n.result (c.args.i + 1) c.nameless.result c.nameless.ensures c.if-nameless.false).1 c.ident_at-x.ensures) c.over.result c.over.ensures).0
+declr-skip-requires t c = heres.at-skip (declrs.over-here (walks_f c.args.d) c.args.p (sim-name (sims c.args.d) c.args.p) (declrs.kids-again (sim-split sim-skip (sim-each ((sims c.args.d).full (c.args.p + 1)))) c.requires c.arity_at-n.ensures c.in_ok-tail.ensures c.set_pat_mode.ensures).0 (declrs.kids-again (sim-split sim-skip (sim-each ((sims c.args.d).full (c.args.p + 1)))) c.requires c.arity_at-n.ensures c.in_ok-tail.ensures c.set_pat_mode.ensures).1 (tree_at (abs c.set_pat_mode.new.w) (c.args.i + 1)) (rest c.set_pat_mode.new.w).var_decl_kind (declrs.headed-no c.set_pat_mode.new.w c.arity_at-n.result (c.args.i + 1) c.nameless.result c.nameless.ensures c.if-nameless.false).0 (ways.in-analysis c.set_pat_mode.new.w c.if-w-ne0.false) c.form_at.result (declrs.name-form (heres.here-turn c.set_pat_mode.ensures (heres.here-again (sim-split sim-skip (sim-each ((sims c.args.d).full (c.args.p + 1)))) (heres.here-kids c.requires c.arity_at-n.ensures) c.in_ok-tail.ensures)) (declrs.headed-no c.set_pat_mode.new.w c.arity_at-n.result (c.args.i + 1) c.nameless.result c.nameless.ensures c.if-nameless.false).1 c.form_at.ensures) c.ident_at.result (declrs.name-num (heres.here-turn c.set_pat_mode.ensures (heres.here-again (sim-split sim-skip (sim-each ((sims c.args.d).full (c.args.p + 1)))) (heres.here-kids c.requires c.arity_at-n.ensures) c.in_ok-tail.ensures)) (declrs.headed-no c.set_pat_mode.new.w c.arity_at-n.result (c.args.i + 1) c.nameless.result c.nameless.ensures c.if-nameless.false).1 c.ident_at.ensures) c.in_ok-over.ensures).0
 
-pub declr-returns-then-gone : goal.declr-returns-then-gone
-declr-returns-then-gone t c = codes.did_at (codes.low_end (heres.at-skip (declrs.over-here (walks_f c.args.d) c.args.p (sim-name (sims c.args.d) c.args.p) (declrs.kids-again (sim-split sim-skip (sim-each ((sims c.args.d).full (c.args.p + 1)))) c.requires c.arity_at-n.ensures (sym c.next.ensures.0 ∙ c.in-At.is) c.tail-r.ensures c.set_pat_mode.ensures).0 (declrs.kids-again (sim-split sim-skip (sim-each ((sims c.args.d).full (c.args.p + 1)))) c.requires c.arity_at-n.ensures (sym c.next.ensures.0 ∙ c.in-At.is) c.tail-r.ensures c.set_pat_mode.ensures).1 (tree_at (abs c.set_pat_mode.new.w) (c.args.i + 1)) (rest c.set_pat_mode.new.w).var_decl_kind (declrs.headed-no c.set_pat_mode.new.w c.arity_at-n.result (c.args.i + 1) c.nameless.result c.nameless.ensures c.if-nameless.false).0 (ways.in-analysis c.set_pat_mode.new.w c.if-w-ne0.false) c.form_at-f.result (declrs.name-form (heres.here-turn c.set_pat_mode.ensures (heres.here-again (sim-split sim-skip (sim-each ((sims c.args.d).full (c.args.p + 1)))) (heres.here-kids c.requires c.arity_at-n.ensures) (sym c.next.ensures.0 ∙ c.in-At.is) c.tail-r.ensures)) (declrs.headed-no c.set_pat_mode.new.w c.arity_at-n.result (c.args.i + 1) c.nameless.result c.nameless.ensures c.if-nameless.false).1 c.form_at-f.ensures) c.ident_at-x.result (declrs.name-num (heres.here-turn c.set_pat_mode.ensures (heres.here-again (sim-split sim-skip (sim-each ((sims c.args.d).full (c.args.p + 1)))) (heres.here-kids c.requires c.arity_at-n.ensures) (sym c.next.ensures.0 ∙ c.in-At.is) c.tail-r.ensures)) (declrs.headed-no c.set_pat_mode.new.w c.arity_at-n.result (c.args.i + 1) c.nameless.result c.nameless.ensures c.if-nameless.false).1 c.ident_at-x.ensures) c.over.result c.over.ensures).0).0 c.skip.ensures.2) (declrs.declr-then (walks_f c.args.d) c.requires c.arity_at-n.ensures c.tail-r.ensures (sym c.next.ensures.0 ∙ c.in-At.is) c.set_pat_mode.ensures (declrs.over_yes (walks_f c.args.d) c.args.p (sim-name (sims c.args.d) c.args.p) (declrs.kids-again (sim-split sim-skip (sim-each ((sims c.args.d).full (c.args.p + 1)))) c.requires c.arity_at-n.ensures (sym c.next.ensures.0 ∙ c.in-At.is) c.tail-r.ensures c.set_pat_mode.ensures).0 (declrs.kids-again (sim-split sim-skip (sim-each ((sims c.args.d).full (c.args.p + 1)))) c.requires c.arity_at-n.ensures (sym c.next.ensures.0 ∙ c.in-At.is) c.tail-r.ensures c.set_pat_mode.ensures).1 (tree_at (abs c.set_pat_mode.new.w) (c.args.i + 1)) (rest c.set_pat_mode.new.w).var_decl_kind (declrs.headed-no c.set_pat_mode.new.w c.arity_at-n.result (c.args.i + 1) c.nameless.result c.nameless.ensures c.if-nameless.false).0 (ways.in-analysis c.set_pat_mode.new.w c.if-w-ne0.false) c.form_at-f.result (declrs.name-form (heres.here-turn c.set_pat_mode.ensures (heres.here-again (sim-split sim-skip (sim-each ((sims c.args.d).full (c.args.p + 1)))) (heres.here-kids c.requires c.arity_at-n.ensures) (sym c.next.ensures.0 ∙ c.in-At.is) c.tail-r.ensures)) (declrs.headed-no c.set_pat_mode.new.w c.arity_at-n.result (c.args.i + 1) c.nameless.result c.nameless.ensures c.if-nameless.false).1 c.form_at-f.ensures) c.ident_at-x.result (declrs.name-num (heres.here-turn c.set_pat_mode.ensures (heres.here-again (sim-split sim-skip (sim-each ((sims c.args.d).full (c.args.p + 1)))) (heres.here-kids c.requires c.arity_at-n.ensures) (sym c.next.ensures.0 ∙ c.in-At.is) c.tail-r.ensures)) (declrs.headed-no c.set_pat_mode.new.w c.arity_at-n.result (c.args.i + 1) c.nameless.result c.nameless.ensures c.if-nameless.false).1 c.ident_at-x.ensures) c.over.result c.over.ensures c.in-Answer.is c.if-gone.true c.skip.ensures.0))
+pub declr-returns-then-over : goal.declr-returns-then-over
+declr-returns-then-over t c = declrs.declr-then (walks_f c.args.d) c.requires c.arity_at-n.ensures c.in_ok-tail.ensures c.set_pat_mode.ensures (declrs.over_yes (walks_f c.args.d) c.args.p (sim-name (sims c.args.d) c.args.p) (declrs.kids-again (sim-split sim-skip (sim-each ((sims c.args.d).full (c.args.p + 1)))) c.requires c.arity_at-n.ensures c.in_ok-tail.ensures c.set_pat_mode.ensures).0 (declrs.kids-again (sim-split sim-skip (sim-each ((sims c.args.d).full (c.args.p + 1)))) c.requires c.arity_at-n.ensures c.in_ok-tail.ensures c.set_pat_mode.ensures).1 (tree_at (abs c.set_pat_mode.new.w) (c.args.i + 1)) (rest c.set_pat_mode.new.w).var_decl_kind (declrs.headed-no c.set_pat_mode.new.w c.arity_at-n.result (c.args.i + 1) c.nameless.result c.nameless.ensures c.if-nameless.false).0 (ways.in-analysis c.set_pat_mode.new.w c.if-w-ne0.false) c.form_at.result (declrs.name-form (heres.here-turn c.set_pat_mode.ensures (heres.here-again (sim-split sim-skip (sim-each ((sims c.args.d).full (c.args.p + 1)))) (heres.here-kids c.requires c.arity_at-n.ensures) c.in_ok-tail.ensures)) (declrs.headed-no c.set_pat_mode.new.w c.arity_at-n.result (c.args.i + 1) c.nameless.result c.nameless.ensures c.if-nameless.false).1 c.form_at.ensures) c.ident_at.result (declrs.name-num (heres.here-turn c.set_pat_mode.ensures (heres.here-again (sim-split sim-skip (sim-each ((sims c.args.d).full (c.args.p + 1)))) (heres.here-kids c.requires c.arity_at-n.ensures) c.in_ok-tail.ensures)) (declrs.headed-no c.set_pat_mode.new.w c.arity_at-n.result (c.args.i + 1) c.nameless.result c.nameless.ensures c.if-nameless.false).1 c.ident_at.ensures) c.in_ok-over.ensures c.if-over.true c.skip.ensures.0)
 
-pub declr-name-requires-in-Answer : goal.declr-name-requires-in-Answer
-declr-name-requires-in-Answer t c = (omega (arith, c.decreases), declrs.over-here (walks_f c.args.d) c.args.p (sim-name (sims c.args.d) c.args.p) (declrs.kids-again (sim-split sim-skip (sim-each ((sims c.args.d).full (c.args.p + 1)))) c.requires c.arity_at-n.ensures (sym c.next.ensures.0 ∙ c.in-At.is) c.tail-r.ensures c.set_pat_mode.ensures).0 (declrs.kids-again (sim-split sim-skip (sim-each ((sims c.args.d).full (c.args.p + 1)))) c.requires c.arity_at-n.ensures (sym c.next.ensures.0 ∙ c.in-At.is) c.tail-r.ensures c.set_pat_mode.ensures).1 (tree_at (abs c.set_pat_mode.new.w) (c.args.i + 1)) (rest c.set_pat_mode.new.w).var_decl_kind (declrs.headed-no c.set_pat_mode.new.w c.arity_at-n.result (c.args.i + 1) c.nameless.result c.nameless.ensures c.if-nameless.false).0 (ways.in-analysis c.set_pat_mode.new.w c.if-w-ne0.false) c.form_at-f.result (declrs.name-form (heres.here-turn c.set_pat_mode.ensures (heres.here-again (sim-split sim-skip (sim-each ((sims c.args.d).full (c.args.p + 1)))) (heres.here-kids c.requires c.arity_at-n.ensures) (sym c.next.ensures.0 ∙ c.in-At.is) c.tail-r.ensures)) (declrs.headed-no c.set_pat_mode.new.w c.arity_at-n.result (c.args.i + 1) c.nameless.result c.nameless.ensures c.if-nameless.false).1 c.form_at-f.ensures) c.ident_at-x.result (declrs.name-num (heres.here-turn c.set_pat_mode.ensures (heres.here-again (sim-split sim-skip (sim-each ((sims c.args.d).full (c.args.p + 1)))) (heres.here-kids c.requires c.arity_at-n.ensures) (sym c.next.ensures.0 ∙ c.in-At.is) c.tail-r.ensures)) (declrs.headed-no c.set_pat_mode.new.w c.arity_at-n.result (c.args.i + 1) c.nameless.result c.nameless.ensures c.if-nameless.false).1 c.ident_at-x.ensures) c.over.result c.over.ensures)
+pub declr-name-requires-2 : goal.declr-name-requires-2
+declr-name-requires-2 t c = (omega (arith, c.decreases), declrs.over-here (walks_f c.args.d) c.args.p (sim-name (sims c.args.d) c.args.p) (declrs.kids-again (sim-split sim-skip (sim-each ((sims c.args.d).full (c.args.p + 1)))) c.requires c.arity_at-n.ensures c.in_ok-tail.ensures c.set_pat_mode.ensures).0 (declrs.kids-again (sim-split sim-skip (sim-each ((sims c.args.d).full (c.args.p + 1)))) c.requires c.arity_at-n.ensures c.in_ok-tail.ensures c.set_pat_mode.ensures).1 (tree_at (abs c.set_pat_mode.new.w) (c.args.i + 1)) (rest c.set_pat_mode.new.w).var_decl_kind (declrs.headed-no c.set_pat_mode.new.w c.arity_at-n.result (c.args.i + 1) c.nameless.result c.nameless.ensures c.if-nameless.false).0 (ways.in-analysis c.set_pat_mode.new.w c.if-w-ne0.false) c.form_at.result (declrs.name-form (heres.here-turn c.set_pat_mode.ensures (heres.here-again (sim-split sim-skip (sim-each ((sims c.args.d).full (c.args.p + 1)))) (heres.here-kids c.requires c.arity_at-n.ensures) c.in_ok-tail.ensures)) (declrs.headed-no c.set_pat_mode.new.w c.arity_at-n.result (c.args.i + 1) c.nameless.result c.nameless.ensures c.if-nameless.false).1 c.form_at.ensures) c.ident_at.result (declrs.name-num (heres.here-turn c.set_pat_mode.ensures (heres.here-again (sim-split sim-skip (sim-each ((sims c.args.d).full (c.args.p + 1)))) (heres.here-kids c.requires c.arity_at-n.ensures) c.in_ok-tail.ensures)) (declrs.headed-no c.set_pat_mode.new.w c.arity_at-n.result (c.args.i + 1) c.nameless.result c.nameless.ensures c.if-nameless.false).1 c.ident_at.ensures) c.in_ok-over.ensures)
 
-pub declr-returns-in-Stopped : goal.declr-returns-in-Stopped
-declr-returns-in-Stopped t c = ways.did-as (sym c.refused.ensures) (declrs.declr-then (walks_f c.args.d) c.requires c.arity_at-n.ensures c.tail-r.ensures (sym c.next.ensures.0 ∙ c.in-At.is) c.set_pat_mode.ensures (declrs.over-stop (walks_f c.args.d) c.args.p (sim-name (sims c.args.d) c.args.p) (declrs.kids-again (sim-split sim-skip (sim-each ((sims c.args.d).full (c.args.p + 1)))) c.requires c.arity_at-n.ensures (sym c.next.ensures.0 ∙ c.in-At.is) c.tail-r.ensures c.set_pat_mode.ensures).0 (declrs.kids-again (sim-split sim-skip (sim-each ((sims c.args.d).full (c.args.p + 1)))) c.requires c.arity_at-n.ensures (sym c.next.ensures.0 ∙ c.in-At.is) c.tail-r.ensures c.set_pat_mode.ensures).1 (tree_at (abs c.set_pat_mode.new.w) (c.args.i + 1)) (rest c.set_pat_mode.new.w).var_decl_kind (declrs.headed-no c.set_pat_mode.new.w c.arity_at-n.result (c.args.i + 1) c.nameless.result c.nameless.ensures c.if-nameless.false).0 (ways.in-analysis c.set_pat_mode.new.w c.if-w-ne0.false) c.form_at-f.result (declrs.name-form (heres.here-turn c.set_pat_mode.ensures (heres.here-again (sim-split sim-skip (sim-each ((sims c.args.d).full (c.args.p + 1)))) (heres.here-kids c.requires c.arity_at-n.ensures) (sym c.next.ensures.0 ∙ c.in-At.is) c.tail-r.ensures)) (declrs.headed-no c.set_pat_mode.new.w c.arity_at-n.result (c.args.i + 1) c.nameless.result c.nameless.ensures c.if-nameless.false).1 c.form_at-f.ensures) c.ident_at-x.result (declrs.name-num (heres.here-turn c.set_pat_mode.ensures (heres.here-again (sim-split sim-skip (sim-each ((sims c.args.d).full (c.args.p + 1)))) (heres.here-kids c.requires c.arity_at-n.ensures) (sym c.next.ensures.0 ∙ c.in-At.is) c.tail-r.ensures)) (declrs.headed-no c.set_pat_mode.new.w c.arity_at-n.result (c.args.i + 1) c.nameless.result c.nameless.ensures c.if-nameless.false).1 c.ident_at-x.ensures) c.over.result c.over.ensures c.in-Stopped.m c.in-Stopped.is))
+pub declr-returns : goal.declr-returns
+declr-returns t c = declrs.declr-then (walks_f c.args.d) c.requires c.arity_at-n.ensures c.in_ok-tail.ensures c.set_pat_mode.ensures (declrs.over_no (walks_f c.args.d) c.args.p (sim-name (sims c.args.d) c.args.p) (declrs.kids-again (sim-split sim-skip (sim-each ((sims c.args.d).full (c.args.p + 1)))) c.requires c.arity_at-n.ensures c.in_ok-tail.ensures c.set_pat_mode.ensures).0 (declrs.kids-again (sim-split sim-skip (sim-each ((sims c.args.d).full (c.args.p + 1)))) c.requires c.arity_at-n.ensures c.in_ok-tail.ensures c.set_pat_mode.ensures).1 (tree_at (abs c.set_pat_mode.new.w) (c.args.i + 1)) (rest c.set_pat_mode.new.w).var_decl_kind (declrs.headed-no c.set_pat_mode.new.w c.arity_at-n.result (c.args.i + 1) c.nameless.result c.nameless.ensures c.if-nameless.false).0 (ways.in-analysis c.set_pat_mode.new.w c.if-w-ne0.false) c.form_at.result (declrs.name-form (heres.here-turn c.set_pat_mode.ensures (heres.here-again (sim-split sim-skip (sim-each ((sims c.args.d).full (c.args.p + 1)))) (heres.here-kids c.requires c.arity_at-n.ensures) c.in_ok-tail.ensures)) (declrs.headed-no c.set_pat_mode.new.w c.arity_at-n.result (c.args.i + 1) c.nameless.result c.nameless.ensures c.if-nameless.false).1 c.form_at.ensures) c.ident_at.result (declrs.name-num (heres.here-turn c.set_pat_mode.ensures (heres.here-again (sim-split sim-skip (sim-each ((sims c.args.d).full (c.args.p + 1)))) (heres.here-kids c.requires c.arity_at-n.ensures) c.in_ok-tail.ensures)) (declrs.headed-no c.set_pat_mode.new.w c.arity_at-n.result (c.args.i + 1) c.nameless.result c.nameless.ensures c.if-nameless.false).1 c.ident_at.ensures) c.in_ok-over.ensures c.if-over.false c.name-2.ensures)
 
-pub declr-returns-else-gone : goal.declr-returns-else-gone
-declr-returns-else-gone t c = declrs.declr-then (walks_f c.args.d) c.requires c.arity_at-n.ensures c.tail-r.ensures (sym c.next.ensures.0 ∙ c.in-At.is) c.set_pat_mode.ensures (declrs.over_no (walks_f c.args.d) c.args.p (sim-name (sims c.args.d) c.args.p) (declrs.kids-again (sim-split sim-skip (sim-each ((sims c.args.d).full (c.args.p + 1)))) c.requires c.arity_at-n.ensures (sym c.next.ensures.0 ∙ c.in-At.is) c.tail-r.ensures c.set_pat_mode.ensures).0 (declrs.kids-again (sim-split sim-skip (sim-each ((sims c.args.d).full (c.args.p + 1)))) c.requires c.arity_at-n.ensures (sym c.next.ensures.0 ∙ c.in-At.is) c.tail-r.ensures c.set_pat_mode.ensures).1 (tree_at (abs c.set_pat_mode.new.w) (c.args.i + 1)) (rest c.set_pat_mode.new.w).var_decl_kind (declrs.headed-no c.set_pat_mode.new.w c.arity_at-n.result (c.args.i + 1) c.nameless.result c.nameless.ensures c.if-nameless.false).0 (ways.in-analysis c.set_pat_mode.new.w c.if-w-ne0.false) c.form_at-f.result (declrs.name-form (heres.here-turn c.set_pat_mode.ensures (heres.here-again (sim-split sim-skip (sim-each ((sims c.args.d).full (c.args.p + 1)))) (heres.here-kids c.requires c.arity_at-n.ensures) (sym c.next.ensures.0 ∙ c.in-At.is) c.tail-r.ensures)) (declrs.headed-no c.set_pat_mode.new.w c.arity_at-n.result (c.args.i + 1) c.nameless.result c.nameless.ensures c.if-nameless.false).1 c.form_at-f.ensures) c.ident_at-x.result (declrs.name-num (heres.here-turn c.set_pat_mode.ensures (heres.here-again (sim-split sim-skip (sim-each ((sims c.args.d).full (c.args.p + 1)))) (heres.here-kids c.requires c.arity_at-n.ensures) (sym c.next.ensures.0 ∙ c.in-At.is) c.tail-r.ensures)) (declrs.headed-no c.set_pat_mode.new.w c.arity_at-n.result (c.args.i + 1) c.nameless.result c.nameless.ensures c.if-nameless.false).1 c.ident_at-x.ensures) c.over.result c.over.ensures c.in-Answer.is c.if-gone.false c.name-in-Answer.ensures)
+pub declr-returns-in_err-over : goal.declr-returns-in_err-over
+declr-returns-in_err-over t c =
+    let q = err_from_is_err_and c.from_residual.result c.from_residual.ensures.1 in
+    rw (q.1, q.2) (declrs.declr-then (walks_f c.args.d) c.requires c.arity_at-n.ensures c.in_ok-tail.ensures c.set_pat_mode.ensures (declrs.over-stop (walks_f c.args.d) c.args.p (sim-name (sims c.args.d) c.args.p) (declrs.kids-again (sim-split sim-skip (sim-each ((sims c.args.d).full (c.args.p + 1)))) c.requires c.arity_at-n.ensures c.in_ok-tail.ensures c.set_pat_mode.ensures).0 (declrs.kids-again (sim-split sim-skip (sim-each ((sims c.args.d).full (c.args.p + 1)))) c.requires c.arity_at-n.ensures c.in_ok-tail.ensures c.set_pat_mode.ensures).1 (tree_at (abs c.set_pat_mode.new.w) (c.args.i + 1)) (rest c.set_pat_mode.new.w).var_decl_kind (declrs.headed-no c.set_pat_mode.new.w c.arity_at-n.result (c.args.i + 1) c.nameless.result c.nameless.ensures c.if-nameless.false).0 (ways.in-analysis c.set_pat_mode.new.w c.if-w-ne0.false) c.form_at.result (declrs.name-form (heres.here-turn c.set_pat_mode.ensures (heres.here-again (sim-split sim-skip (sim-each ((sims c.args.d).full (c.args.p + 1)))) (heres.here-kids c.requires c.arity_at-n.ensures) c.in_ok-tail.ensures)) (declrs.headed-no c.set_pat_mode.new.w c.arity_at-n.result (c.args.i + 1) c.nameless.result c.nameless.ensures c.if-nameless.false).1 c.form_at.ensures) c.ident_at.result (declrs.name-num (heres.here-turn c.set_pat_mode.ensures (heres.here-again (sim-split sim-skip (sim-each ((sims c.args.d).full (c.args.p + 1)))) (heres.here-kids c.requires c.arity_at-n.ensures) c.in_ok-tail.ensures)) (declrs.headed-no c.set_pat_mode.new.w c.arity_at-n.result (c.args.i + 1) c.nameless.result c.nameless.ensures c.if-nameless.false).1 c.ident_at.ensures) c.in_err-over.ensures))

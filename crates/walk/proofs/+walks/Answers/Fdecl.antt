@@ -3,43 +3,45 @@ use Prim.Native.Nat.{◌+◌}
 use mathlib.Core.Path.{refl, sym}
 use mathlib.Core.Bool.{true}
 use native.Mathlib.Omega.{arith}
+use Rattle.std.proofs.lemmas.Result.{err_from_is_err_and}
 use Rattle.def_tree.specs.Combine.{skip, split_f}
 use Rattle.def_tree.proofs.Sims.{sim-skip}
 use Rattle.def_pass.specs.Tree.{kids, head_t}
 use Rattle.def_pass.specs.Walk.{declare_name}
 use Rattle.laws_flat.specs.WalkF.{walks_f, visit_mut_function_f, visit_mut_fn_decl_f}
-use Rattle.walk_laws.proofs.Codes as codes
 use Rattle.walk_laws.proofs.Laws as laws
 use Rattle.walk_laws.proofs.Heres as heres
 use Rattle.walk_laws.proofs.Ways as ways
 use Rattle.walk.proofs.+walks.Goals as goal
 
-pub fdecl-declare_name-e-requires : goal.fdecl-declare_name-e-requires
-fdecl-declare_name-e-requires t c = heres.at-skip c.requires
+pub fdecl-declare_name-requires : goal.fdecl-declare_name-requires
+fdecl-declare_name-requires t c = heres.at-skip c.requires
 
-pub fdecl-returns-then-e-ne0 : goal.fdecl-returns-then-e-ne0
+pub fdecl-returns-in_err-declare_name : goal.fdecl-returns-in_err-declare_name
 unfolding visit_mut_fn_decl_f
-fdecl-returns-then-e-ne0 t c = ways.did-as (sym c.refused.ensures) (laws.act-stop _ c.if-e-ne0.true c.declare_name-e.ensures)
+fdecl-returns-in_err-declare_name t c =
+    let q = err_from_is_err_and c.from_residual.result c.from_residual.ensures.1 in
+    rw (q.1, q.2) (laws.act-stop _ c.in_err-declare_name.ensures)
 
 pub fdecl-arity_at-n-requires : goal.fdecl-arity_at-n-requires
-fdecl-arity_at-n-requires t c = heres.at-node (heres.here-tree (λ t. declare_name (head_t (kids t))) c.args.i c.if-e-ne0.false c.declare_name-e.ensures c.requires)
+fdecl-arity_at-n-requires t c = heres.at-node (heres.here-tree (λ t. declare_name (head_t (kids t))) c.args.i c.in_ok-declare_name.ensures c.requires)
 
 pub fdecl-overflow_add-result : goal.fdecl-overflow_add-result
 fdecl-overflow_add-result t c = omega (arith, c.requires.depth, (heres.at-node c.requires).1)
 
 pub fdecl-returns-then-n-eq0 : goal.fdecl-returns-then-n-eq0
 unfolding visit_mut_fn_decl_f
-fdecl-returns-then-n-eq0 t c = codes.did_at (codes.low-next c.requires) (laws.act-then _ c.if-e-ne0.false c.declare_name-e.ensures (ways.on-kids (λ q. split_f skip (visit_mut_function_f (walks_f c.args.d) c.args.p true)) (heres.here-tree (λ t. declare_name (head_t (kids t))) c.args.i c.if-e-ne0.false c.declare_name-e.ensures c.requires) c.arity_at-n.ensures (ways.split-none skip (visit_mut_function_f (walks_f c.args.d) c.args.p true) c.arity_at-n.result (c.args.i + 1) c.if-n-eq0.true (heres.here-tree (λ t. declare_name (head_t (kids t))) c.args.i c.if-e-ne0.false c.declare_name-e.ensures c.requires).planted)))
+fdecl-returns-then-n-eq0 t c = laws.act-then _ c.in_ok-declare_name.ensures (ways.on-kids (λ q. split_f skip (visit_mut_function_f (walks_f c.args.d) c.args.p true)) (heres.here-tree (λ t. declare_name (head_t (kids t))) c.args.i c.in_ok-declare_name.ensures c.requires) c.arity_at-n.ensures (ways.split-none skip (visit_mut_function_f (walks_f c.args.d) c.args.p true) c.arity_at-n.result (c.args.i + 1) c.if-n-eq0.true (heres.here-tree (λ t. declare_name (head_t (kids t))) c.args.i c.in_ok-declare_name.ensures c.requires).planted))
 
 pub fdecl-overflow_add-i : goal.fdecl-overflow_add-i
 fdecl-overflow_add-i t c = omega (arith, c.requires.depth, (heres.at-node c.requires).1)
 
 pub fdecl-skip-j-requires : goal.fdecl-skip-j-requires
-fdecl-skip-j-requires t c = heres.at-skip (heres.here-one c.if-n-eq0.false (heres.here-kids (heres.here-tree (λ t. declare_name (head_t (kids t))) c.args.i c.if-e-ne0.false c.declare_name-e.ensures c.requires) c.arity_at-n.ensures))
+fdecl-skip-j-requires t c = heres.at-skip (heres.here-one c.if-n-eq0.false (heres.here-kids (heres.here-tree (λ t. declare_name (head_t (kids t))) c.args.i c.in_ok-declare_name.ensures c.requires) c.arity_at-n.ensures))
 
 pub fdecl-func-requires : goal.fdecl-func-requires
-fdecl-func-requires t c = (omega (arith, c.decreases), (heres.here-next sim-skip (heres.here-kids (heres.here-tree (λ t. declare_name (head_t (kids t))) c.args.i c.if-e-ne0.false c.declare_name-e.ensures c.requires) c.arity_at-n.ensures) refl c.if-n-eq0.false (ways.did-skip (c.args.i + 1) (heres.here-tree (λ t. declare_name (head_t (kids t))) c.args.i c.if-e-ne0.false c.declare_name-e.ensures c.requires).planted c.skip-j.ensures.0), omega arith))
+fdecl-func-requires t c = (omega (arith, c.decreases), (heres.here-next sim-skip (heres.here-kids (heres.here-tree (λ t. declare_name (head_t (kids t))) c.args.i c.in_ok-declare_name.ensures c.requires) c.arity_at-n.ensures) c.if-n-eq0.false (ways.did-skip (c.args.i + 1) (heres.here-tree (λ t. declare_name (head_t (kids t))) c.args.i c.in_ok-declare_name.ensures c.requires).planted c.skip-j.ensures.0)))
 
 pub fdecl-returns : goal.fdecl-returns
 unfolding visit_mut_fn_decl_f
-fdecl-returns t c = laws.act-then _ c.if-e-ne0.false c.declare_name-e.ensures (ways.on-kids (λ q. split_f skip (visit_mut_function_f (walks_f c.args.d) c.args.p true)) (heres.here-tree (λ t. declare_name (head_t (kids t))) c.args.i c.if-e-ne0.false c.declare_name-e.ensures c.requires) c.arity_at-n.ensures (ways.split-then skip (visit_mut_function_f (walks_f c.args.d) c.args.p true) c.arity_at-n.result (c.args.i + 1) c.if-n-eq0.false refl (ways.did-skip (c.args.i + 1) (heres.here-tree (λ t. declare_name (head_t (kids t))) c.args.i c.if-e-ne0.false c.declare_name-e.ensures c.requires).planted c.skip-j.ensures.0) c.func.ensures))
+fdecl-returns t c = laws.act-then _ c.in_ok-declare_name.ensures (ways.on-kids (λ q. split_f skip (visit_mut_function_f (walks_f c.args.d) c.args.p true)) (heres.here-tree (λ t. declare_name (head_t (kids t))) c.args.i c.in_ok-declare_name.ensures c.requires) c.arity_at-n.ensures (ways.split-then skip (visit_mut_function_f (walks_f c.args.d) c.args.p true) c.arity_at-n.result (c.args.i + 1) c.if-n-eq0.false (ways.did-skip (c.args.i + 1) (heres.here-tree (λ t. declare_name (head_t (kids t))) c.args.i c.in_ok-declare_name.ensures c.requires).planted c.skip-j.ensures.0) c.func.ensures))

@@ -2,16 +2,16 @@
 use Prim.Native.Nat.{◌-◌}
 use mathlib.Core.Path.{refl, sym, ◌∙◌}
 use native.Mathlib.Omega.{arith}
+use Rattle.std.proofs.lemmas.Result.{err_from_is_err_and}
 use Rattle.laws_flat.specs.WalkF.{walks_f}
 use Rattle.laws_flat.proofs.Sim.{sims, sim-own}
-use Rattle.walk_laws.proofs.Codes as codes
 use Rattle.walk_laws.proofs.Shorts as shorts
 use Rattle.walk_laws.proofs.Heres as heres
 use Rattle.walk_laws.proofs.Ways as ways
 use Rattle.walk.proofs.+walks.Goals as goal
 
 pub full-returns-then-l-eq0 : goal.full-returns-then-l-eq0
-full-returns-then-l-eq0 t c = ways.did-as (sym c.refused.ensures) (ways.full-none c.args.p c.args.i c.args.l c.requires.planted c.if-l-eq0.true)
+full-returns-then-l-eq0 t c = ways.full-none c.args.p c.args.i c.args.l c.requires.planted c.if-l-eq0.true
 
 pub full-bare-requires : goal.full-bare-requires
 full-bare-requires t c = heres.here-flat c.requires
@@ -29,22 +29,24 @@ pub full-overflow_add-result : goal.full-overflow_add-result
 full-overflow_add-result t c = omega (arith, c.requires.depth, (heres.at-node c.requires).1)
 
 pub full-returns-then-bare : goal.full-returns-then-bare
-full-returns-then-bare t c = codes.did_at (codes.low-next c.requires) (shorts.bare-other (heres.here-up c.if-l-eq0.false c.requires) c.if-l-eq0.false (sym c.bare.ensures ∙ c.if-bare.true) c.kind_at.ensures c.if-kind_at-eq21.false)
+full-returns-then-bare t c = shorts.bare-other (heres.here-up c.if-l-eq0.false c.requires) c.if-l-eq0.false (sym c.bare.ensures ∙ c.if-bare.true) c.kind_at.ensures c.if-kind_at-eq21.false
 
-pub full-own-r-requires : goal.full-own-r-requires
-full-own-r-requires t c = (omega (arith, c.decreases, c.if-l-eq0.false), heres.here-up c.if-l-eq0.false c.requires)
+pub full-own-requires : goal.full-own-requires
+full-own-requires t c = (omega (arith, c.decreases, c.if-l-eq0.false), heres.here-up c.if-l-eq0.false c.requires)
 
-pub full-returns-in_default : goal.full-returns-in_default
-full-returns-in_default t c = ways.full-stop c.args.p c.args.i c.args.l c.if-l-eq0.false (sym c.next.ensures.0 ∙ c.in_default.is) c.own-r.ensures
+pub full-returns-in_err-j : goal.full-returns-in_err-j
+full-returns-in_err-j t c =
+    let q = err_from_is_err_and c.from_residual.result c.from_residual.ensures.1 in
+    rw (q.1, q.2) (ways.full-stop c.args.p c.args.i c.args.l c.if-l-eq0.false c.in_err-j.ensures)
 
 pub full-settled-requires : goal.full-settled-requires
-full-settled-requires t c = heres.here-flat (heres.here-still (sim-own (sims (c.args.l - 1)) c.args.p) (heres.here-up c.if-l-eq0.false c.requires) (sym c.next.ensures.0 ∙ c.in-At.is) refl c.own-r.ensures)
+full-settled-requires t c = heres.here-flat (heres.here-still (sim-own (sims (c.args.l - 1)) c.args.p) (heres.here-up c.if-l-eq0.false c.requires) refl c.in_ok-j.ensures)
 
 pub full-returns-then-settled : goal.full-returns-then-settled
-full-returns-then-settled t c = codes.did-got c.next.ensures.1 c.in-At.is (ways.full-then c.args.p c.args.i c.args.l c.if-l-eq0.false (sym c.next.ensures.0 ∙ c.in-At.is) c.own-r.ensures (shorts.settled-after (walks_f (c.args.l - 1)) (heres.here-still (sim-own (sims (c.args.l - 1)) c.args.p) (heres.here-up c.if-l-eq0.false c.requires) (sym c.next.ensures.0 ∙ c.in-At.is) refl c.own-r.ensures) (sym c.settled.ensures ∙ c.if-settled.true) (heres.walk_end (sim-own (sims (c.args.l - 1)) c.args.p) (heres.here-up c.if-l-eq0.false c.requires) (sym c.next.ensures.0 ∙ c.in-At.is) c.own-r.ensures)))
+full-returns-then-settled t c = ways.full-then c.args.p c.args.i c.args.l c.if-l-eq0.false c.in_ok-j.ensures (shorts.settled-after (walks_f (c.args.l - 1)) (heres.here-still (sim-own (sims (c.args.l - 1)) c.args.p) (heres.here-up c.if-l-eq0.false c.requires) refl c.in_ok-j.ensures) (sym c.settled.ensures ∙ c.if-settled.true) (heres.walk_end (sim-own (sims (c.args.l - 1)) c.args.p) (heres.here-up c.if-l-eq0.false c.requires) c.in_ok-j.ensures))
 
 pub full-after-requires : goal.full-after-requires
-full-after-requires t c = (omega (arith, c.decreases, c.if-l-eq0.false), (heres.here-still (sim-own (sims (c.args.l - 1)) c.args.p) (heres.here-up c.if-l-eq0.false c.requires) (sym c.next.ensures.0 ∙ c.in-At.is) refl c.own-r.ensures, heres.walk_end (sim-own (sims (c.args.l - 1)) c.args.p) (heres.here-up c.if-l-eq0.false c.requires) (sym c.next.ensures.0 ∙ c.in-At.is) c.own-r.ensures))
+full-after-requires t c = (omega (arith, c.decreases, c.if-l-eq0.false), (heres.here-still (sim-own (sims (c.args.l - 1)) c.args.p) (heres.here-up c.if-l-eq0.false c.requires) refl c.in_ok-j.ensures, heres.walk_end (sim-own (sims (c.args.l - 1)) c.args.p) (heres.here-up c.if-l-eq0.false c.requires) c.in_ok-j.ensures))
 
 pub full-returns : goal.full-returns
-full-returns t c = ways.full-then c.args.p c.args.i c.args.l c.if-l-eq0.false (sym c.next.ensures.0 ∙ c.in-At.is) c.own-r.ensures c.after.ensures
+full-returns t c = ways.full-then c.args.p c.args.i c.args.l c.if-l-eq0.false c.in_ok-j.ensures c.after.ensures

@@ -1,7 +1,14 @@
 -- The goals of init. Assumes nothing.
 use Prim.Native.Nat.{suc, ◌+◌, ◌-◌}
-use mathlib.Core.Path.{refl, sym, ◌∙◌}
+use mathlib.Core.Path.{◌≡◌, refl, sym, ap, ◌∙◌}
+use Rattle.def_pass.specs.Scope.{is_const}
 use native.Mathlib.Omega.{arith}
+use mathlib.Core.Bool.{true, false}
+use Rattle.words_scopes.specs.Kinds.{type_of}
+use Rattle.words_scopes.specs.declared.kinds.VarDeclKind.TheVariants.{Var, Let, Const}
+use Rattle.words_scopes.specs.declared.kinds.VarType.{VarType}
+use Rattle.words_scopes.specs.declared.kinds.VarType.TheVariants.{Param, Declared}
+use Rattle.std.proofs.lemmas.Result.{err_from_is_err_and}
 use Rattle.def_tree.specs.Combine.{tree_at}
 use Rattle.def_tree.proofs.Sims.{sim-skip}
 use Rattle.words_state.specs.State.{abs, rest}
@@ -12,23 +19,33 @@ use Rattle.walk_laws.proofs.Ways as ways
 use Rattle.walk_laws.proofs.Declrs as declrs
 use Rattle.walk.proofs.+walks.Goals as goal
 
+-- is a declaration of `const`, by the kind that was read
+const-yes : (k : VarType) → k ≡ Declared Const → is_const (type_of k) ≡ true
+const-yes k e = rw e refl
+
+const-no : (k : VarType) → (k ≡ Declared Const → ⊥) → is_const (type_of k) ≡ false
+const-no Param h = refl
+const-no (Declared Var) h = refl
+const-no (Declared Let) h = refl
+const-no (Declared Const) h = absurd (h refl)
+
 pub init-name-requires : goal.init-name-requires
 init-name-requires t c = (omega (arith, c.decreases), (c.requires.0, c.requires.1))
 
-pub init-returns-then-kind-ge3 : goal.init-returns-then-kind-ge3
-init-returns-then-kind-ge3 t c = ways.did-as (sym c.next.ensures.0) (declrs.end-const (walks_f c.args.d) c.args.p (sim-name (sims c.args.d) c.args.p) c.requires.0 c.requires.1 (tree_at (abs c.args.w.now) (c.args.i + 1)) (rest c.args.w.now).var_decl_kind (declrs.kind-const c.args.w.now c.if-kind-ge3.true) c.name.ensures)
+pub init-returns-then-kind : goal.init-returns-then-kind
+init-returns-then-kind t c = declrs.end-const (walks_f c.args.d) c.args.p (sim-name (sims c.args.d) c.args.p) c.requires.0 c.requires.1 (tree_at (abs c.args.w.now) (c.args.i + 1)) (rest c.args.w.now).var_decl_kind (ap is_const (sym c.var_decl_kind-kind.ensures) ∙ const-yes c.var_decl_kind-kind.result ?) c.name.ensures
 
 pub init-overflow_add-i : goal.init-overflow_add-i
 init-overflow_add-i t c = omega (arith, c.requires.0.depth, (heres.at-node c.requires.0).1)
 
-pub init-ident_at-x-requires : goal.init-ident_at-x-requires
-init-ident_at-x-requires t c = declrs.at_name (heres.here-kids c.requires.0 c.requires.1) c.requires.2
+pub init-ident_at-requires : goal.init-ident_at-requires
+init-ident_at-requires t c = declrs.at_name (heres.here-kids c.requires.0 c.requires.1) c.requires.2
 
 pub init-overflow_add-i-2 : goal.init-overflow_add-i-2
 init-overflow_add-i-2 t c = omega (arith, c.requires.0.depth, (heres.at-node c.requires.0).1)
 
-pub init-form_at-f-requires : goal.init-form_at-f-requires
-init-form_at-f-requires t c = heres.at-node (heres.here-one (λ z. omega (arith, z, c.requires.2.some)) (heres.here-kids c.requires.0 c.requires.1))
+pub init-form_at-requires : goal.init-form_at-requires
+init-form_at-requires t c = heres.at-node (heres.here-one (λ z. omega (arith, z, c.requires.2.some)) (heres.here-kids c.requires.0 c.requires.1))
 
 pub init-overflow_add-i-3 : goal.init-overflow_add-i-3
 init-overflow_add-i-3 t c = omega (arith, c.requires.0.depth, (heres.at-node c.requires.0).1)
@@ -37,34 +54,36 @@ pub init-skip-j-requires : goal.init-skip-j-requires
 init-skip-j-requires t c = declrs.at_bound (heres.here-kids c.requires.0 c.requires.1) c.requires.2
 
 pub init-stays-requires : goal.init-stays-requires
-init-stays-requires t c = heres.at-trees (heres.here-next sim-skip (heres.here-kids c.requires.0 c.requires.1) refl (λ z. omega (arith, z, c.requires.2.some)) (ways.did-skip (c.args.i + 1) c.requires.0.planted c.skip-j.ensures.0))
+init-stays-requires t c = heres.at-trees (heres.here-next sim-skip (heres.here-kids c.requires.0 c.requires.1) (λ z. omega (arith, z, c.requires.2.some)) (ways.did-skip (c.args.i + 1) c.requires.0.planted c.skip-j.ensures.0))
 
 pub init-skip-requires : goal.init-skip-requires
 init-skip-requires t c = heres.at-skip c.requires.0
 
 pub init-returns-then-stays : goal.init-returns-then-stays
-init-returns-then-stays t c = declrs.init-stays (walks_f c.args.d) c.args.p ((sims c.args.d).full (suc c.args.p)) c.requires.0 c.requires.1 c.requires.2 c.skip-j.ensures.0 (rest c.args.w.now).var_decl_kind (declrs.kind-other c.args.w.now (omega (arith, c.if-kind-ge3.false))) c.form_at-f.result c.form_at-f.ensures c.ident_at-x.result c.ident_at-x.ensures c.stays.ensures c.if-stays.true c.skip.ensures.0
+init-returns-then-stays t c = declrs.init-stays (walks_f c.args.d) c.args.p ((sims c.args.d).full (suc c.args.p)) c.requires.0 c.requires.1 c.requires.2 c.skip-j.ensures.0 (rest c.args.w.now).var_decl_kind (ap is_const (sym c.var_decl_kind-kind.ensures) ∙ const-no c.var_decl_kind-kind.result ?) c.form_at.result c.form_at.ensures c.ident_at.result c.ident_at.ensures c.stays.ensures c.if-stays.true c.skip.ensures.0
 
-pub init-declr_end-requires : goal.init-declr_end-requires
-init-declr_end-requires t c = (c.requires.0.planted, declrs.spot-none (walks_f c.args.d) c.args.p ((sims c.args.d).full (suc c.args.p)) c.requires.0 c.requires.1 c.requires.2 c.skip-j.ensures.0 c.if-n-eq1.true)
+pub init-declr_after-requires : goal.init-declr_after-requires
+init-declr_after-requires t c = (c.requires.0.planted, declrs.spot-none (walks_f c.args.d) c.args.p ((sims c.args.d).full (suc c.args.p)) c.requires.0 c.requires.1 c.requires.2 c.skip-j.ensures.0 c.if-n-eq1.true)
 
 pub init-returns-then-n-eq1 : goal.init-returns-then-n-eq1
-init-returns-then-n-eq1 t c = declrs.init-none (walks_f c.args.d) c.args.p ((sims c.args.d).full (suc c.args.p)) c.requires.0 c.requires.1 c.requires.2 c.skip-j.ensures.0 (rest c.args.w.now).var_decl_kind (declrs.kind-other c.args.w.now (omega (arith, c.if-kind-ge3.false))) c.form_at-f.result c.form_at-f.ensures c.ident_at-x.result c.ident_at-x.ensures c.stays.ensures c.if-stays.false c.if-n-eq1.true (declrs.after-kind c.args.w.now c.args.i c.form_at-f.result c.ident_at-x.result 0 c.skip-j.result c.skip-j.result c.declr_end.ensures)
+init-returns-then-n-eq1 t c = declrs.init-none (walks_f c.args.d) c.args.p ((sims c.args.d).full (suc c.args.p)) c.requires.0 c.requires.1 c.requires.2 c.skip-j.ensures.0 (rest c.args.w.now).var_decl_kind (ap is_const (sym c.var_decl_kind-kind.ensures) ∙ const-no c.var_decl_kind-kind.result ?) c.form_at.result c.form_at.ensures c.ident_at.result c.ident_at.ensures c.stays.ensures c.if-stays.false c.if-n-eq1.true (declrs.after-kind c.args.i c.form_at.result c.ident_at.result 0 c.skip-j.result c.skip-j.result c.var_decl_kind-kind.ensures c.declr_after.ensures)
 
 pub init-overflow_add-p : goal.init-overflow_add-p
 init-overflow_add-p t c = omega (arith, c.requires.0.depth, (heres.at-node c.requires.0).1)
 
 pub init-full-requires : goal.init-full-requires
-init-full-requires t c = (omega (arith, c.decreases), (heres.here-one (λ z. omega (arith, z, c.if-n-eq1.false, c.requires.2.some)) (heres.here-next sim-skip (heres.here-kids c.requires.0 c.requires.1) refl (λ z. omega (arith, z, c.requires.2.some)) (ways.did-skip (c.args.i + 1) c.requires.0.planted c.skip-j.ensures.0))))
+init-full-requires t c = (omega (arith, c.decreases), (heres.here-one (λ z. omega (arith, z, c.if-n-eq1.false, c.requires.2.some)) (heres.here-next sim-skip (heres.here-kids c.requires.0 c.requires.1) (λ z. omega (arith, z, c.requires.2.some)) (ways.did-skip (c.args.i + 1) c.requires.0.planted c.skip-j.ensures.0))))
 
-pub init-returns-in_default : goal.init-returns-in_default
-init-returns-in_default t c = ways.did-as (sym c.next-r.ensures.0) (declrs.init-stop (walks_f c.args.d) c.args.p ((sims c.args.d).full (suc c.args.p)) c.requires.0 c.requires.1 c.requires.2 c.skip-j.ensures.0 (rest c.args.w.now).var_decl_kind (declrs.kind-other c.args.w.now (omega (arith, c.if-kind-ge3.false))) c.form_at-f.result c.form_at-f.ensures c.ident_at-x.result c.ident_at-x.ensures c.stays.ensures c.if-stays.false c.if-n-eq1.false (sym c.next-r.ensures.0 ∙ c.in_default.is) c.full.ensures)
+pub init-returns-in_err-full : goal.init-returns-in_err-full
+init-returns-in_err-full t c =
+    let q = err_from_is_err_and c.from_residual.result c.from_residual.ensures.1 in
+    rw (q.1, q.2) (declrs.init-stop (walks_f c.args.d) c.args.p ((sims c.args.d).full (suc c.args.p)) c.requires.0 c.requires.1 c.requires.2 c.skip-j.ensures.0 (rest c.args.w.now).var_decl_kind (ap is_const (sym c.var_decl_kind-kind.ensures) ∙ const-no c.var_decl_kind-kind.result ?) c.form_at.result c.form_at.ensures c.ident_at.result c.ident_at.ensures c.stays.ensures c.if-stays.false c.if-n-eq1.false c.in_err-full.ensures)
 
 pub init-skip-end-requires : goal.init-skip-end-requires
-init-skip-end-requires t c = heres.here-below c.args.i (omega (arith, c.skip-j.ensures.1)) (heres.here-still ((sims c.args.d).full (c.args.p + 1)) (heres.here-one (λ z. omega (arith, z, c.if-n-eq1.false, c.requires.2.some)) (heres.here-next sim-skip (heres.here-kids c.requires.0 c.requires.1) refl (λ z. omega (arith, z, c.requires.2.some)) (ways.did-skip (c.args.i + 1) c.requires.0.planted c.skip-j.ensures.0))) (sym c.next-r.ensures.0 ∙ c.in-At.is) refl c.full.ensures)
+init-skip-end-requires t c = heres.here-below c.args.i (omega (arith, c.skip-j.ensures.1)) (heres.here-still ((sims c.args.d).full (c.args.p + 1)) (heres.here-one (λ z. omega (arith, z, c.if-n-eq1.false, c.requires.2.some)) (heres.here-next sim-skip (heres.here-kids c.requires.0 c.requires.1) (λ z. omega (arith, z, c.requires.2.some)) (ways.did-skip (c.args.i + 1) c.requires.0.planted c.skip-j.ensures.0))) refl c.in_ok-full.ensures)
 
-pub init-declr_end-requires-2 : goal.init-declr_end-requires-2
-init-declr_end-requires-2 t c = (c.full.ensures.ok.planted, declrs.spot (walks_f c.args.d) c.args.p ((sims c.args.d).full (suc c.args.p)) c.requires.0 c.requires.1 c.requires.2 c.skip-j.ensures.0 (declrs.walked (walks_f c.args.d) c.args.p ((sims c.args.d).full (suc c.args.p)) c.requires.0 c.requires.1 c.requires.2 c.skip-j.ensures.0 c.if-n-eq1.false (sym c.next-r.ensures.0 ∙ c.in-At.is) c.full.ensures c.skip-end.ensures.0) (λ z. c.skip-end.ensures.0))
+pub init-declr_after-requires-2 : goal.init-declr_after-requires-2
+init-declr_after-requires-2 t c = (c.in_ok-full.ensures.ok.planted, declrs.spot (walks_f c.args.d) c.args.p ((sims c.args.d).full (suc c.args.p)) c.requires.0 c.requires.1 c.requires.2 c.skip-j.ensures.0 (declrs.walked (walks_f c.args.d) c.args.p ((sims c.args.d).full (suc c.args.p)) c.requires.0 c.requires.1 c.requires.2 c.skip-j.ensures.0 c.if-n-eq1.false c.in_ok-full.ensures c.skip-end.ensures.0) (λ z. c.skip-end.ensures.0))
 
 pub init-returns : goal.init-returns
-init-returns t c = declrs.init-then (walks_f c.args.d) c.args.p ((sims c.args.d).full (suc c.args.p)) c.requires.0 c.requires.1 c.requires.2 c.skip-j.ensures.0 (rest c.args.w.now).var_decl_kind (declrs.kind-other c.args.w.now (omega (arith, c.if-kind-ge3.false))) c.form_at-f.result c.form_at-f.ensures c.ident_at-x.result c.ident_at-x.ensures c.stays.ensures c.if-stays.false (declrs.walked (walks_f c.args.d) c.args.p ((sims c.args.d).full (suc c.args.p)) c.requires.0 c.requires.1 c.requires.2 c.skip-j.ensures.0 c.if-n-eq1.false (sym c.next-r.ensures.0 ∙ c.in-At.is) c.full.ensures c.skip-end.ensures.0) (declrs.after-kind c.args.w.now c.args.i c.form_at-f.result c.ident_at-x.result (c.args.n - 1) c.skip-j.result c.skip-end.result c.declr_end-2.ensures)
+init-returns t c = declrs.init-then (walks_f c.args.d) c.args.p ((sims c.args.d).full (suc c.args.p)) c.requires.0 c.requires.1 c.requires.2 c.skip-j.ensures.0 (rest c.args.w.now).var_decl_kind (ap is_const (sym c.var_decl_kind-kind.ensures) ∙ const-no c.var_decl_kind-kind.result ?) c.form_at.result c.form_at.ensures c.ident_at.result c.ident_at.ensures c.stays.ensures c.if-stays.false (declrs.walked (walks_f c.args.d) c.args.p ((sims c.args.d).full (suc c.args.p)) c.requires.0 c.requires.1 c.requires.2 c.skip-j.ensures.0 c.if-n-eq1.false c.in_ok-full.ensures c.skip-end.ensures.0) (declrs.after-kind c.args.i c.form_at.result c.ident_at.result (c.args.n - 1) c.skip-j.result c.skip-end.result c.var_decl_kind-kind.ensures c.declr_after-2.ensures)

@@ -2,10 +2,10 @@
 use Prim.Native.Nat.{◌+◌}
 use mathlib.Core.Path.{sym, ◌∙◌}
 use native.Mathlib.Omega.{arith}
+use Rattle.std.proofs.lemmas.Result.{err_from_is_err_and}
 use Rattle.def_tree.specs.Combine.{split_f}
 use Rattle.laws_flat.specs.WalkF.{walks_f, visit_mut_stmts_f, script_f}
 use Rattle.laws_flat.proofs.Sim.{sims}
-use Rattle.walk_laws.proofs.Codes as codes
 use Rattle.walk_laws.proofs.Heres as heres
 use Rattle.walk_laws.proofs.Ways as ways
 use Rattle.walk.proofs.+walks.Goals as goal
@@ -27,7 +27,7 @@ pub items-overflow_add-result : goal.items-overflow_add-result
 items-overflow_add-result t c = omega (arith, c.requires.depth, (heres.at-node c.requires).1)
 
 pub items-returns-then-n-eq0 : goal.items-returns-then-n-eq0
-items-returns-then-n-eq0 t c = codes.did_at (codes.low-next c.requires) (ways.iff-yes _ _ (ways.form-yes c.requires c.form_at-f.ensures c.if-f-ne1.false) (ways.on-kids (λ q. split_f ((walks_f c.args.d).full q) (visit_mut_stmts_f (walks_f c.args.d) q)) c.requires c.arity_at-n.ensures (ways.split-none ((walks_f c.args.d).full (c.args.p + 1)) (visit_mut_stmts_f (walks_f c.args.d) (c.args.p + 1)) c.arity_at-n.result (c.args.i + 1) c.if-n-eq0.true c.requires.planted)))
+items-returns-then-n-eq0 t c = ways.iff-yes _ _ (ways.form-yes c.requires c.form_at-f.ensures c.if-f-ne1.false) (ways.on-kids (λ q. split_f ((walks_f c.args.d).full q) (visit_mut_stmts_f (walks_f c.args.d) q)) c.requires c.arity_at-n.ensures (ways.split-none ((walks_f c.args.d).full (c.args.p + 1)) (visit_mut_stmts_f (walks_f c.args.d) (c.args.p + 1)) c.arity_at-n.result (c.args.i + 1) c.if-n-eq0.true c.requires.planted))
 
 pub items-overflow_add-p : goal.items-overflow_add-p
 items-overflow_add-p t c = omega (arith, c.requires.depth, (heres.at-node c.requires).1)
@@ -35,17 +35,19 @@ items-overflow_add-p t c = omega (arith, c.requires.depth, (heres.at-node c.requ
 pub items-overflow_add-i : goal.items-overflow_add-i
 items-overflow_add-i t c = omega (arith, c.requires.depth, (heres.at-node c.requires).1)
 
-pub items-full-r-requires : goal.items-full-r-requires
-items-full-r-requires t c = (omega (arith, c.decreases), heres.here-one c.if-n-eq0.false (heres.here-kids c.requires c.arity_at-n.ensures))
+pub items-full-requires : goal.items-full-requires
+items-full-requires t c = (omega (arith, c.decreases), heres.here-one c.if-n-eq0.false (heres.here-kids c.requires c.arity_at-n.ensures))
 
-pub items-returns-in_default : goal.items-returns-in_default
-items-returns-in_default t c = ways.iff-yes _ _ (ways.form-yes c.requires c.form_at-f.ensures c.if-f-ne1.false) (ways.on-kids (λ q. split_f ((walks_f c.args.d).full q) (visit_mut_stmts_f (walks_f c.args.d) q)) c.requires c.arity_at-n.ensures (ways.split-stop ((walks_f c.args.d).full (c.args.p + 1)) (visit_mut_stmts_f (walks_f c.args.d) (c.args.p + 1)) c.arity_at-n.result (c.args.i + 1) c.if-n-eq0.false (sym c.next.ensures.0 ∙ c.in_default.is) c.full-r.ensures))
+pub items-returns-in_err-j : goal.items-returns-in_err-j
+items-returns-in_err-j t c =
+    let q = err_from_is_err_and c.from_residual.result c.from_residual.ensures.1 in
+    rw (q.1, q.2) (ways.iff-yes _ _ (ways.form-yes c.requires c.form_at-f.ensures c.if-f-ne1.false) (ways.on-kids (λ q. split_f ((walks_f c.args.d).full q) (visit_mut_stmts_f (walks_f c.args.d) q)) c.requires c.arity_at-n.ensures (ways.split-stop ((walks_f c.args.d).full (c.args.p + 1)) (visit_mut_stmts_f (walks_f c.args.d) (c.args.p + 1)) c.arity_at-n.result (c.args.i + 1) c.if-n-eq0.false c.in_err-j.ensures)))
 
 pub items-overflow_add-p-2 : goal.items-overflow_add-p-2
 items-overflow_add-p-2 t c = omega (arith, c.requires.depth, (heres.at-node c.requires).1)
 
 pub items-stmts-requires : goal.items-stmts-requires
-items-stmts-requires t c = (omega (arith, c.decreases), heres.here-next ((sims c.args.d).full (c.args.p + 1)) (heres.here-kids c.requires c.arity_at-n.ensures) (sym c.next.ensures.0 ∙ c.in-At.is) c.if-n-eq0.false c.full-r.ensures)
+items-stmts-requires t c = (omega (arith, c.decreases), heres.here-next ((sims c.args.d).full (c.args.p + 1)) (heres.here-kids c.requires c.arity_at-n.ensures) c.if-n-eq0.false c.in_ok-j.ensures)
 
 pub items-returns : goal.items-returns
-items-returns t c = ways.iff-yes _ _ (ways.form-yes c.requires c.form_at-f.ensures c.if-f-ne1.false) (ways.on-kids (λ q. split_f ((walks_f c.args.d).full q) (visit_mut_stmts_f (walks_f c.args.d) q)) c.requires c.arity_at-n.ensures (ways.split-then ((walks_f c.args.d).full (c.args.p + 1)) (visit_mut_stmts_f (walks_f c.args.d) (c.args.p + 1)) c.arity_at-n.result (c.args.i + 1) c.if-n-eq0.false (sym c.next.ensures.0 ∙ c.in-At.is) c.full-r.ensures c.stmts.ensures))
+items-returns t c = ways.iff-yes _ _ (ways.form-yes c.requires c.form_at-f.ensures c.if-f-ne1.false) (ways.on-kids (λ q. split_f ((walks_f c.args.d).full q) (visit_mut_stmts_f (walks_f c.args.d) q)) c.requires c.arity_at-n.ensures (ways.split-then ((walks_f c.args.d).full (c.args.p + 1)) (visit_mut_stmts_f (walks_f c.args.d) (c.args.p + 1)) c.arity_at-n.result (c.args.i + 1) c.if-n-eq0.false c.in_ok-j.ensures c.stmts.ensures))

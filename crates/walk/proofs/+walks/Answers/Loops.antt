@@ -2,26 +2,28 @@
 use Prim.Native.Nat.{◌-◌}
 use mathlib.Core.Path.{sym, ◌∙◌}
 use native.Mathlib.Omega.{arith}
+use Rattle.std.proofs.lemmas.Result.{err_from_is_err_and}
 use Rattle.def_tree.proofs.Sims.{sim-each}
 use Rattle.def_pass.specs.Scope.{loop as loop_kind}
 use Rattle.laws_flat.specs.WalkF.{walks_f, visit_with_child_f}
 use Rattle.laws_flat.proofs.Sim.{sims}
-use Rattle.walk_laws.proofs.Codes as codes
 use Rattle.walk_laws.proofs.Heres as heres
 use Rattle.walk_laws.proofs.Ways as ways
 use Rattle.walk.proofs.+walks.Goals as goal
 
 pub loops-returns-then-n-eq0 : goal.loops-returns-then-n-eq0
-loops-returns-then-n-eq0 t c = codes.did_at (codes.low-here c.requires) (ways.but-none ((walks_f c.args.d).full c.args.p) (visit_with_child_f (walks_f c.args.d) c.args.p loop_kind) c.args.n c.args.i c.if-n-eq0.true c.requires.planted)
+loops-returns-then-n-eq0 t c = ways.but-none ((walks_f c.args.d).full c.args.p) (visit_with_child_f (walks_f c.args.d) c.args.p loop_kind) c.args.n c.args.i c.if-n-eq0.true c.requires.planted
 
-pub loops-many-r-requires : goal.loops-many-r-requires
-loops-many-r-requires t c = (omega (arith, c.decreases), heres.here-less c.requires)
+pub loops-many-requires : goal.loops-many-requires
+loops-many-requires t c = (omega (arith, c.decreases), heres.here-less c.requires)
 
-pub loops-returns-in_default : goal.loops-returns-in_default
-loops-returns-in_default t c = ways.but-stop ((walks_f c.args.d).full c.args.p) (visit_with_child_f (walks_f c.args.d) c.args.p loop_kind) c.args.n c.args.i c.if-n-eq0.false (sym c.next.ensures.0 ∙ c.in_default.is) c.many-r.ensures
+pub loops-returns-in_err-j : goal.loops-returns-in_err-j
+loops-returns-in_err-j t c =
+    let q = err_from_is_err_and c.from_residual.result c.from_residual.ensures.1 in
+    rw (q.1, q.2) (ways.but-stop ((walks_f c.args.d).full c.args.p) (visit_with_child_f (walks_f c.args.d) c.args.p loop_kind) c.args.n c.args.i c.if-n-eq0.false c.in_err-j.ensures)
 
 pub loops-arm-requires : goal.loops-arm-requires
-loops-arm-requires t c = (omega (arith, c.decreases), heres.here-behind (sim-each ((sims c.args.d).full c.args.p)) c.requires (sym c.next.ensures.0 ∙ c.in-At.is) (c.args.n - 1) (omega (arith, c.if-n-eq0.false)) c.many-r.ensures)
+loops-arm-requires t c = (omega (arith, c.decreases), heres.here-behind (sim-each ((sims c.args.d).full c.args.p)) c.requires (c.args.n - 1) (omega (arith, c.if-n-eq0.false)) c.in_ok-j.ensures)
 
 pub loops-returns : goal.loops-returns
-loops-returns t c = ways.but-then ((walks_f c.args.d).full c.args.p) (visit_with_child_f (walks_f c.args.d) c.args.p loop_kind) c.args.n c.args.i c.if-n-eq0.false (sym c.next.ensures.0 ∙ c.in-At.is) c.many-r.ensures c.arm.ensures
+loops-returns t c = ways.but-then ((walks_f c.args.d).full c.args.p) (visit_with_child_f (walks_f c.args.d) c.args.p loop_kind) c.args.n c.args.i c.if-n-eq0.false c.in_ok-j.ensures c.arm.ensures

@@ -2,10 +2,10 @@
 use Prim.Native.Nat.{suc, ◌+◌}
 use mathlib.Core.Path.{refl, sym, ◌∙◌}
 use native.Mathlib.Omega.{arith}
+use Rattle.std.proofs.lemmas.Result.{err_from_is_err_and}
 use Rattle.def_tree.specs.Combine.{skips}
 use Rattle.laws_flat.specs.WalkF.{walks_f}
 use Rattle.laws_flat.proofs.Sim.{sims}
-use Rattle.walk_laws.proofs.Codes as codes
 use Rattle.walk_laws.proofs.Heres as heres
 use Rattle.walk_laws.proofs.Ways as ways
 use Rattle.walk_laws.proofs.Declrs as declrs
@@ -15,7 +15,7 @@ pub name-overflow_add-result : goal.name-overflow_add-result
 name-overflow_add-result t c = omega (arith, c.requires.0.depth, (heres.at-node c.requires.0).1)
 
 pub name-returns-then-n-eq0 : goal.name-returns-then-n-eq0
-name-returns-then-n-eq0 t c = codes.did_at (codes.low-next c.requires.0) (ways.split-none ((walks_f c.args.d).full (suc c.args.p)) skips c.args.n (c.args.i + 1) c.if-n-eq0.true c.requires.0.planted)
+name-returns-then-n-eq0 t c = ways.split-none ((walks_f c.args.d).full (suc c.args.p)) skips c.args.n (c.args.i + 1) c.if-n-eq0.true c.requires.0.planted
 
 pub name-overflow_add-p : goal.name-overflow_add-p
 name-overflow_add-p t c = omega (arith, c.requires.0.depth, (heres.at-node c.requires.0).1)
@@ -23,14 +23,16 @@ name-overflow_add-p t c = omega (arith, c.requires.0.depth, (heres.at-node c.req
 pub name-overflow_add-i : goal.name-overflow_add-i
 name-overflow_add-i t c = omega (arith, c.requires.0.depth, (heres.at-node c.requires.0).1)
 
-pub name-full-r-requires : goal.name-full-r-requires
-name-full-r-requires t c = (omega (arith, c.decreases), (heres.here-one c.if-n-eq0.false (heres.here-kids c.requires.0 c.requires.1)))
+pub name-full-requires : goal.name-full-requires
+name-full-requires t c = (omega (arith, c.decreases), (heres.here-one c.if-n-eq0.false (heres.here-kids c.requires.0 c.requires.1)))
 
-pub name-returns-in_default : goal.name-returns-in_default
-name-returns-in_default t c = declrs.name-stop (walks_f c.args.d) ((sims c.args.d).full (suc c.args.p)) c.requires.0 c.requires.1 c.if-n-eq0.false (sym c.next.ensures.0 ∙ c.in_default.is) c.full-r.ensures
+pub name-returns-in_err-full : goal.name-returns-in_err-full
+name-returns-in_err-full t c =
+    let q = err_from_is_err_and c.from_residual.result c.from_residual.ensures.1 in
+    rw (q.1, q.2) (declrs.name-stop (walks_f c.args.d) ((sims c.args.d).full (suc c.args.p)) c.requires.0 c.requires.1 c.if-n-eq0.false c.in_err-full.ensures)
 
 pub name-skip-requires : goal.name-skip-requires
-name-skip-requires t c = heres.here-below c.args.i (omega arith) (heres.here-still ((sims c.args.d).full (c.args.p + 1)) (heres.here-one c.if-n-eq0.false (heres.here-kids c.requires.0 c.requires.1)) (sym c.next.ensures.0 ∙ c.in-At.is) refl c.full-r.ensures)
+name-skip-requires t c = heres.here-below c.args.i (omega arith) (heres.here-still ((sims c.args.d).full (c.args.p + 1)) (heres.here-one c.if-n-eq0.false (heres.here-kids c.requires.0 c.requires.1)) refl c.in_ok-full.ensures)
 
 pub name-returns : goal.name-returns
-name-returns t c = codes.did_at (codes.low_end (heres.here-below c.args.i (omega arith) (heres.here-still ((sims c.args.d).full (c.args.p + 1)) (heres.here-one c.if-n-eq0.false (heres.here-kids c.requires.0 c.requires.1)) (sym c.next.ensures.0 ∙ c.in-At.is) refl c.full-r.ensures)).0 c.skip.ensures.2) (declrs.name-then (walks_f c.args.d) ((sims c.args.d).full (suc c.args.p)) c.requires.0 c.requires.1 c.if-n-eq0.false (sym c.next.ensures.0 ∙ c.in-At.is) c.full-r.ensures c.skip.ensures.0)
+name-returns t c = declrs.name-then (walks_f c.args.d) ((sims c.args.d).full (suc c.args.p)) c.requires.0 c.requires.1 c.if-n-eq0.false c.in_ok-full.ensures c.skip.ensures.0

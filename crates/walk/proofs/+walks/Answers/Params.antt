@@ -2,28 +2,30 @@
 use Prim.Native.Nat.{◌-◌}
 use mathlib.Core.Path.{sym, ◌∙◌}
 use native.Mathlib.Omega.{arith}
+use Rattle.std.proofs.lemmas.Result.{err_from_is_err_and}
 use Rattle.def_tree.proofs.Sims.{sim-each}
 use Rattle.laws_flat.specs.WalkF.{walks_f}
 use Rattle.laws_flat.proofs.Sim.{sims}
-use Rattle.walk_laws.proofs.Codes as codes
 use Rattle.walk_laws.proofs.Heres as heres
 use Rattle.walk_laws.proofs.Ways as ways
 use Rattle.walk.proofs.+walks.Goals as goal
 
 pub params-returns-then-n-eq0 : goal.params-returns-then-n-eq0
-params-returns-then-n-eq0 t c = codes.did_at (codes.low-here c.requires) (ways.but-none ((walks_f c.args.d).full c.args.p) ((walks_f c.args.d).inner c.args.p) c.args.n c.args.i c.if-n-eq0.true c.requires.planted)
+params-returns-then-n-eq0 t c = ways.but-none ((walks_f c.args.d).full c.args.p) ((walks_f c.args.d).inner c.args.p) c.args.n c.args.i c.if-n-eq0.true c.requires.planted
 
-pub params-many-r-requires : goal.params-many-r-requires
-params-many-r-requires t c = (omega (arith, c.decreases), heres.here-less c.requires)
+pub params-many-requires : goal.params-many-requires
+params-many-requires t c = (omega (arith, c.decreases), heres.here-less c.requires)
 
-pub params-returns-in_default : goal.params-returns-in_default
-params-returns-in_default t c = ways.but-stop ((walks_f c.args.d).full c.args.p) ((walks_f c.args.d).inner c.args.p) c.args.n c.args.i c.if-n-eq0.false (sym c.next.ensures.0 ∙ c.in_default.is) c.many-r.ensures
+pub params-returns-in_err-j : goal.params-returns-in_err-j
+params-returns-in_err-j t c =
+    let q = err_from_is_err_and c.from_residual.result c.from_residual.ensures.1 in
+    rw (q.1, q.2) (ways.but-stop ((walks_f c.args.d).full c.args.p) ((walks_f c.args.d).inner c.args.p) c.args.n c.args.i c.if-n-eq0.false c.in_err-j.ensures)
 
 pub params-returns-then-d-eq0 : goal.params-returns-then-d-eq0
-params-returns-then-d-eq0 t c = ways.did-as (sym c.refused.ensures) (ways.but-then ((walks_f c.args.d).full c.args.p) ((walks_f c.args.d).inner c.args.p) c.args.n c.args.i c.if-n-eq0.false (sym c.next.ensures.0 ∙ c.in-At.is) c.many-r.ensures (ways.inner-none c.args.p c.in-At.j c.args.d c.many-r.ensures.ok.planted c.if-d-eq0.true))
+params-returns-then-d-eq0 t c = ways.but-then ((walks_f c.args.d).full c.args.p) ((walks_f c.args.d).inner c.args.p) c.args.n c.args.i c.if-n-eq0.false c.in_ok-j.ensures (ways.inner-none c.args.p c.in_ok-j.j c.args.d c.in_ok-j.ensures.ok.planted c.if-d-eq0.true)
 
 pub params-body-requires : goal.params-body-requires
-params-body-requires t c = (omega (arith, c.decreases, c.if-d-eq0.false), heres.here-up c.if-d-eq0.false (heres.here-behind (sim-each ((sims c.args.d).full c.args.p)) c.requires (sym c.next.ensures.0 ∙ c.in-At.is) (c.args.n - 1) (omega (arith, c.if-n-eq0.false)) c.many-r.ensures))
+params-body-requires t c = (omega (arith, c.decreases, c.if-d-eq0.false), heres.here-up c.if-d-eq0.false (heres.here-behind (sim-each ((sims c.args.d).full c.args.p)) c.requires (c.args.n - 1) (omega (arith, c.if-n-eq0.false)) c.in_ok-j.ensures))
 
 pub params-returns : goal.params-returns
-params-returns t c = ways.but-then ((walks_f c.args.d).full c.args.p) ((walks_f c.args.d).inner c.args.p) c.args.n c.args.i c.if-n-eq0.false (sym c.next.ensures.0 ∙ c.in-At.is) c.many-r.ensures (ways.inner_of c.args.p c.in-At.j c.args.d c.if-d-eq0.false c.body.ensures)
+params-returns t c = ways.but-then ((walks_f c.args.d).full c.args.p) ((walks_f c.args.d).inner c.args.p) c.args.n c.args.i c.if-n-eq0.false c.in_ok-j.ensures (ways.inner_of c.args.p c.in_ok-j.j c.args.d c.if-d-eq0.false c.body.ensures)

@@ -3,6 +3,7 @@ use Prim.Native.Nat.{suc}
 use mathlib.Core.Path.{sym}
 use mathlib.Core.Bool.{true}
 use native.Mathlib.Omega.{arith}
+use Rattle.std.proofs.lemmas.Result.{err_from_is_err_and}
 use Rattle.def_tree.specs.Combine.{each_but_f, on_kids_f}
 use Rattle.def_pass.specs.Tree.{kids}
 use Rattle.def_pass.specs.Scope.{loop as loop_kind}
@@ -13,15 +14,17 @@ use Rattle.walk_laws.proofs.Heres as heres
 use Rattle.walk_laws.proofs.Ways as ways
 use Rattle.walk.proofs.+walks.Goals as goal
 
-pub whiles-write_kids_but_last-e-requires : goal.whiles-write_kids_but_last-e-requires
-whiles-write_kids_but_last-e-requires t c = heres.at-skip c.requires
+pub whiles-write_kids_but_last-requires : goal.whiles-write_kids_but_last-requires
+whiles-write_kids_but_last-requires t c = heres.at-skip c.requires
 
-pub whiles-returns-then-e-ne0 : goal.whiles-returns-then-e-ne0
+pub whiles-returns-in_err-write_kids_but_last : goal.whiles-returns-in_err-write_kids_but_last
 unfolding visit_mut_while_stmt_f
-whiles-returns-then-e-ne0 t c = ways.did-as (sym c.refused.ensures) (laws.act-stop (λ x. on_kids_f (each_but_f ((walks_f c.args.d).full (suc c.args.p)) (visit_with_child_f (walks_f c.args.d) (suc c.args.p) loop_kind)) c.args.i) c.if-e-ne0.true c.write_kids_but_last-e.ensures)
+whiles-returns-in_err-write_kids_but_last t c =
+    let q = err_from_is_err_and c.from_residual.result c.from_residual.ensures.1 in
+    rw (q.1, q.2) (laws.act-stop (λ x. on_kids_f (each_but_f ((walks_f c.args.d).full (suc c.args.p)) (visit_with_child_f (walks_f c.args.d) (suc c.args.p) loop_kind)) c.args.i) c.in_err-write_kids_but_last.ensures)
 
 pub whiles-arity_at-n-requires : goal.whiles-arity_at-n-requires
-whiles-arity_at-n-requires t c = heres.at-node (heres.here-tree (λ t. write_forest true (but_last (kids t))) c.args.i c.if-e-ne0.false c.write_kids_but_last-e.ensures c.requires)
+whiles-arity_at-n-requires t c = heres.at-node (heres.here-tree (λ t. write_forest true (but_last (kids t))) c.args.i c.in_ok-write_kids_but_last.ensures c.requires)
 
 pub whiles-overflow_add-p : goal.whiles-overflow_add-p
 whiles-overflow_add-p t c = omega (arith, c.requires.depth, (heres.at-node c.requires).1)
@@ -30,8 +33,8 @@ pub whiles-overflow_add-i : goal.whiles-overflow_add-i
 whiles-overflow_add-i t c = omega (arith, c.requires.depth, (heres.at-node c.requires).1)
 
 pub whiles-loops-requires : goal.whiles-loops-requires
-whiles-loops-requires t c = (omega (arith, c.decreases), heres.here-kids (heres.here-tree (λ t. write_forest true (but_last (kids t))) c.args.i c.if-e-ne0.false c.write_kids_but_last-e.ensures c.requires) c.arity_at-n.ensures)
+whiles-loops-requires t c = (omega (arith, c.decreases), heres.here-kids (heres.here-tree (λ t. write_forest true (but_last (kids t))) c.args.i c.in_ok-write_kids_but_last.ensures c.requires) c.arity_at-n.ensures)
 
 pub whiles-returns : goal.whiles-returns
 unfolding visit_mut_while_stmt_f
-whiles-returns t c = laws.act-then (λ x. on_kids_f (each_but_f ((walks_f c.args.d).full (suc c.args.p)) (visit_with_child_f (walks_f c.args.d) (suc c.args.p) loop_kind)) c.args.i) c.if-e-ne0.false c.write_kids_but_last-e.ensures (ways.on-kids (λ q. each_but_f ((walks_f c.args.d).full q) (visit_with_child_f (walks_f c.args.d) q loop_kind)) (heres.here-tree (λ t. write_forest true (but_last (kids t))) c.args.i c.if-e-ne0.false c.write_kids_but_last-e.ensures c.requires) c.arity_at-n.ensures c.loops.ensures)
+whiles-returns t c = laws.act-then (λ x. on_kids_f (each_but_f ((walks_f c.args.d).full (suc c.args.p)) (visit_with_child_f (walks_f c.args.d) (suc c.args.p) loop_kind)) c.args.i) c.in_ok-write_kids_but_last.ensures (ways.on-kids (λ q. each_but_f ((walks_f c.args.d).full q) (visit_with_child_f (walks_f c.args.d) q loop_kind)) (heres.here-tree (λ t. write_forest true (but_last (kids t))) c.args.i c.in_ok-write_kids_but_last.ensures c.requires) c.arity_at-n.ensures c.loops.ensures)
