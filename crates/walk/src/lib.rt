@@ -227,7 +227,8 @@ fn declr(w: &mut [u32], p: usize, d: usize, i: usize) -> Result<usize, Refusal>
         form: form_at(w, i + 1),
         ident: ident_at(w, i + 1),
     };
-    if over(w, bound, n, i + 1)? {
+    let gone = over(w, bound, n, i + 1)?;
+    if gone {
         return Ok(skip(w, i));
     }
     name(w, p, d, n, i)

@@ -1,6 +1,7 @@
 -- A declarator's walks: its children, of which the last may be taken out. Assumes nothing.
 use Rattle.std.proofs.Common.{Result, Ok, Err}
 use Rattle.refusal.specs.declared.Refusal.{Refusal}
+use Rattle.refusal.specs.Number.{number}
 use mathlib.Core.Path.{◌≡◌, refl, sym, ap, ap₂, ◌∙◌, subst}
 use mathlib.Core.Bool.{Bool, true, false}
 use mathlib.Core.List.{List}
@@ -112,7 +113,7 @@ assoc : {S A B C : Type 0} (r : Res S A) (f : A → M S B) (g : B → M S C) →
 assoc (stop n) f g = refl
 assoc (done s a) f g = refl
 
-module _ (v : WalksF) {w u : List ℕ} {n q p d : ℕ} (h : Here w 1 q p d) (ar : n ≡ (node_of w q).arity) where
+module _ (v : WalksF) {w : List ℕ} {n q p d : ℕ} (h : Here w 1 q p d) (ar : n ≡ (node_of w q).arity) where
   -- what follows it
   abbrev behind : ℕ → Flat St → Res (Flat St) ℕ
   behind m st = declr_end_f v p q (head_bind (forest_at st m (q + 1))) st.rest.inlining st.rest.var_decl_kind m (q + 1) st
@@ -127,10 +128,10 @@ module _ (v : WalksF) {w u : List ℕ} {n q p d : ℕ} (h : Here w 1 q p d) (ar 
       did-to (sym (assoc (split_f skip (many (v.full (suc p))) (node_at (abs w) q).arity (q + 1) (abs w)) (λ j st. declr_to_f v p (head_bind (forest_at (record { nodes = st.nodes; rest = set_pat_mode declaring st.rest }) (node_at (abs w) q).arity (q + 1))) st.rest.inlining st.rest.var_decl_kind (node_at (abs w) q).arity (q + 1) (record { nodes = st.nodes; rest = set_pat_mode declaring st.rest })) (fin q)))
       (did-to (ap₂ {C = Res (Flat St) ℕ} (λ k m. and_then (split_f skip (many (v.full k)) m (q + 1) (abs w)) (turned m)) (add-one p) n') z)
 
-  pub declr-stop : {e : Refusal} → Did w u (Err e) (split_f skip (many (v.full (p + 1))) n (q + 1) (abs w)) → Did w u (Err e) (visit_mut_var_declarator_f v p q (abs w))
+  pub declr-stop : {u : List ℕ} {e : Refusal} → Did w u (Err e) (split_f skip (many (v.full (p + 1))) n (q + 1) (abs w)) → Did w u (Err e) (visit_mut_var_declarator_f v p q (abs w))
   declr-stop x = as-walks (did-stop (turned n) x)
 
-  pub declr-then : {t y : List ℕ} {b : Result ℕ Refusal} {j : ℕ} → Did w u (Ok j) (split_f skip (many (v.full (p + 1))) n (q + 1) (abs w)) → Turns u t (set_pat_mode declaring (rest u)) → Did t y b (behind n (abs t)) → Did w y b (visit_mut_var_declarator_f v p q (abs w))
+  pub declr-then : {u t y : List ℕ} {b : Result ℕ Refusal} {j : ℕ} → Did w u (Ok j) (split_f skip (many (v.full (p + 1))) n (q + 1) (abs w)) → Turns u t (set_pat_mode declaring (rest u)) → Did t y b (behind n (abs t)) → Did w y b (visit_mut_var_declarator_f v p q (abs w))
   declr-then x s z = as-walks (did_then (turned n) x (modify-then (set_pat_mode declaring) (λ st. behind n st) s z))
 
 -- the end of a declarator, by what was found
@@ -150,7 +151,7 @@ module _ {fn : Forest → M St Forest} (v : WalksF) (p : ℕ) (sim : SimF fn (na
   end-inlining {u} {a} t k e i x = did-to (ap₂ {C = Res (Flat St) ℕ} (λ o b. declr_end_f v p q o b k n (q + 1) (abs w)) (sym e) (sym i)) x
 
   -- in Analysis
-  module _ {o : Option Tree} {b : Bool} (t : Tree) (k : VarType) (e : o ≡ some t) (i : b ≡ false) (f : ℕ) (g : f ≡ form t) (x : ℕ) (y : x ≡ num t) {u : List ℕ} where
+  module _ {o : Option Tree} {b : Bool} (t : Tree) (k : VarType) (e : o ≡ some t) (i : b ≡ false) (f : ℕ) (g : f ≡ form t) (x : ℕ) (y : x ≡ num t) where
     abbrev rests : Bool → F (ℕ × ℕ)
     rests over = iff over (same skips n (q + 1)) (same (name_last_f v p) n (q + 1))
 
@@ -158,45 +159,43 @@ module _ {fn : Forest → M St Forest} (v : WalksF) (p : ℕ) (sim : SimF fn (na
     looked z = and_then (and_then (carry (λ s a. record { nodes = tree w; rest = s }) (λ a. a) z) rests) (fin q)
 
     -- what was looked at
-    abbrev Looked : Result Bool Refusal → Type 0
-    Looked r = Moves w u (over_m (named f x) (forest_from (tree w) n (q + 1)) (rest w)) (done_of r (rest u))
+    module _ {u : List ℕ} where
+      over-is : (r : Result Bool Refusal) → Moves w u (over_m (named f x) (forest_from (tree w) n (q + 1)) (rest w)) (done_of r (rest u)) → declr_end_f v p q o b k n (q + 1) (abs w) ≡ looked (done_of r (rest u))
+      unfolding declr_to_f
+      over-is r m =
+          ap₂ {C = Res (Flat St) ℕ} (λ o b. declr_end_f v p q o b k n (q + 1) (abs w)) e i
+          ∙ ap (λ (ts : Forest). looked (over_m t ts (rest w))) (forest-at-is (abs w) n (q + 1))
+          ∙ ap (λ (f : St → Res St Bool). looked (f (rest w))) (over-name t (forest_from (tree w) n (q + 1)))
+          ∙ ap (λ (z : ℕ). looked (over_m (named z (num t)) (forest_from (tree w) n (q + 1)) (rest w))) (sym g)
+          ∙ ap (λ (z : ℕ). looked (over_m (named f z) (forest_from (tree w) n (q + 1)) (rest w))) (sym y)
+          ∙ ap looked m.is
 
-    over-is : {r : Result Bool Refusal} → Looked r → declr_end_f v p q o b k n (q + 1) (abs w) ≡ looked (done_of r (rest u))
-    unfolding declr_to_f
-    over-is m =
-        ap₂ {C = Res (Flat St) ℕ} (λ o b. declr_end_f v p q o b k n (q + 1) (abs w)) e i
-        ∙ ap (λ (ts : Forest). looked (over_m t ts (rest w))) (forest-at-is (abs w) n (q + 1))
-        ∙ ap (λ (f : St → Res St Bool). looked (f (rest w))) (over-name t (forest_from (tree w) n (q + 1)))
-        ∙ ap (λ (z : ℕ). looked (over_m (named z (num t)) (forest_from (tree w) n (q + 1)) (rest w))) (sym g)
-        ∙ ap (λ (z : ℕ). looked (over_m (named f z) (forest_from (tree w) n (q + 1)) (rest w))) (sym y)
-        ∙ ap looked m.is
+      pub over-stop : {z : Refusal} → Moves w u (over_m (named f x) (forest_from (tree w) n (q + 1)) (rest w)) (stop (number z)) → Did w u (Err z) (declr_end_f v p q o b k n (q + 1) (abs w))
+      over-stop {z} m = record { ok = m.ok; is = over-is (Err z) m }
 
-    pub over-stop : {z : Refusal} → Looked (Err z) → Did w u (Err z) (declr_end_f v p q o b k n (q + 1) (abs w))
-    over-stop m = record { ok = m.ok; is = over-is m }
+      module _ {c : Bool} (m : Moves w u (over_m (named f x) (forest_from (tree w) n (q + 1)) (rest w)) (done (rest u) c)) where
+        -- the same nodes
+        seen : Here u 1 q p d
+        seen = record { planted = m.ok.planted; room = subst (λ (xs : List Core). Room xs 1 q) (sym m.nodes) h.room; depth = h.depth }
 
-    module _ {c : Bool} (m : Looked (Ok c)) where
-      -- the same nodes
-      seen : Here u 1 q p d
-      seen = record { planted = m.ok.planted; room = subst (λ (xs : List Core). Room xs 1 q) (sym m.nodes) h.room; depth = h.depth }
+        pub over-here : Here u 1 q p d × (n ≡ (node_of u q).arity)
+        over-here = (seen, ar ∙ ap (λ c. c.arity) (sym (tree-at w q (here-node h)) ∙ ap (λ (xs : List Core). get_or xs q no_core) (sym m.nodes) ∙ tree-at u q (here-node seen)))
 
-      pub over-here : Here u 1 q p d × (n ≡ (node_of u q).arity)
-      over-here = (seen, ar ∙ ap (λ c. c.arity) (sym (tree-at w q (here-node h)) ∙ ap (λ (xs : List Core). get_or xs q no_core) (sym m.nodes) ∙ tree-at u q (here-node seen)))
+        looks : and_then (rests c (abs u)) (fin q) ≡ declr_end_f v p q o b k n (q + 1) (abs w)
+        looks = sym (over-is (Ok c) m ∙ ap (λ (xs : List Core). and_then (rests c (record { nodes = xs; rest = rest u })) (fin q)) (sym m.nodes))
 
-      looks : and_then (rests c (abs u)) (fin q) ≡ declr_end_f v p q o b k n (q + 1) (abs w)
-      looks = sym (over-is m ∙ ap (λ (xs : List Core). and_then (rests c (record { nodes = xs; rest = rest u })) (fin q)) (sym m.nodes))
+        pub over_yes : {z : ℕ} → c ≡ true → z ≡ q + count (tree_from (tree u) q) → Did w u (Ok z) (declr_end_f v p q o b k n (q + 1) (abs w))
+        over_yes {z} l j =
+            let stays : Did u u (Ok (q + 1 + counts (forest_at (abs u) n (q + 1)))) (skips n (q + 1) (abs u)) = record { ok = ok-self m.ok.planted; is = refl } in
+            let end = j ∙ sym (kids-end sim-skips over-here.0 over-here.1 stays) in
+            let all = same_end sim-skips over-here.0 over-here.1 stays in
+            let whole : Did w u (Ok (q + 1 + counts (forest_at (abs u) n (q + 1)))) (and_then (same skips n (q + 1) (abs u)) (fin q)) = record { ok = m.ok; is = all.is } in
+            did-to looks (subst (λ (c : Bool). Did w u (Ok z) (and_then (rests c (abs u)) (fin q))) (sym l) (did-at (sym end) whole))
 
-      pub over_yes : {z : ℕ} → c ≡ true → z ≡ q + count (tree_from (tree u) q) → Did w u (Ok z) (declr_end_f v p q o b k n (q + 1) (abs w))
-      over_yes {z} l j =
-          let stays : Did u u (Ok (q + 1 + counts (forest_at (abs u) n (q + 1)))) (skips n (q + 1) (abs u)) = record { ok = ok-self m.ok.planted; is = refl } in
-          let end = j ∙ sym (kids-end sim-skips over-here.0 over-here.1 stays) in
-          let all = same_end sim-skips over-here.0 over-here.1 stays in
-          let whole : Did w u (Ok (q + 1 + counts (forest_at (abs u) n (q + 1)))) (and_then (same skips n (q + 1) (abs u)) (fin q)) = record { ok = m.ok; is = all.is } in
-          did-to looks (subst (λ (c : Bool). Did w u (Ok z) (and_then (rests c (abs u)) (fin q))) (sym l) (did-at (sym end) whole))
-
-      pub over_no : {s : List ℕ} {a : Result ℕ Refusal} → c ≡ false → Did u s a (name_last_f v p n (q + 1) (abs u)) → Did w s a (declr_end_f v p q o b k n (q + 1) (abs w))
-      over_no {s} {a} l z =
-          let all = same_end sim over-here.0 over-here.1 z in
-          did-to looks (subst (λ (c : Bool). Did w s a (and_then (rests c (abs u)) (fin q))) (sym l) (record { ok = ok-then m.ok all.ok; is = all.is }))
+        pub over_no : {s : List ℕ} {a : Result ℕ Refusal} → c ≡ false → Did u s a (name_last_f v p n (q + 1) (abs u)) → Did w s a (declr_end_f v p q o b k n (q + 1) (abs w))
+        over_no {s} {a} l z =
+            let all = same_end sim over-here.0 over-here.1 z in
+            did-to looks (subst (λ (c : Bool). Did w s a (and_then (rests c (abs u)) (fin q))) (sym l) (record { ok = ok-then m.ok all.ok; is = all.is }))
 
 -- with a name, in Inlining, and no constant
 abbrev fin1 : ℕ → ℕ × ℕ → F ℕ
@@ -347,8 +346,8 @@ module _ {w : List ℕ} {n i p d : ℕ} (h : Here w n i p d) (bd : Bound w n i) 
   pub at_bound : Planted w × (i < get_or w 0 0)
   at_bound = (h.planted, bound-in)
 
-  pub at_name : Good w × (i < get_or w 0 0) × (((node_of w i).kind ≡ 20) ⊎ ((node_of w i).kind ≡ 21))
-  at_name = (h.planted.good, bound-in, inl bd.kind)
+  pub at_name : (Good w × (i < get_or w 0 0)) × (((node_of w i).kind ≡ 20) ⊎ ((node_of w i).kind ≡ 21))
+  at_name = ((h.planted.good, bound-in), inl bd.kind)
 
   pub name-form : {f : ℕ} → f ≡ (node_of w i).form → f ≡ form (tree_at (abs w) i)
   name-form e = e ∙ sym (form-at (abs w) i (omega (arith, bound-in, tree-length w)) ∙ ap (λ c. c.form) (tree-at w i bound-in))

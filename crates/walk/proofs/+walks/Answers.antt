@@ -417,8 +417,8 @@ declr-over-requires = of_declr.declr-over-requires
 pub declr-skip-requires : goal.declr-skip-requires
 declr-skip-requires = of_declr.declr-skip-requires
 
-pub declr-returns-then-over : goal.declr-returns-then-over
-declr-returns-then-over = of_declr.declr-returns-then-over
+pub declr-returns-then-gone : goal.declr-returns-then-gone
+declr-returns-then-gone = of_declr.declr-returns-then-gone
 
 pub declr-name-requires-2 : goal.declr-name-requires-2
 declr-name-requires-2 = of_declr.declr-name-requires-2
@@ -426,8 +426,8 @@ declr-name-requires-2 = of_declr.declr-name-requires-2
 pub declr-returns : goal.declr-returns
 declr-returns = of_declr.declr-returns
 
-pub declr-returns-in_err-over : goal.declr-returns-in_err-over
-declr-returns-in_err-over = of_declr.declr-returns-in_err-over
+pub declr-returns-in_err-gone : goal.declr-returns-in_err-gone
+declr-returns-in_err-gone = of_declr.declr-returns-in_err-gone
 
 pub fdecl-declare_name-requires : goal.fdecl-declare_name-requires
 fdecl-declare_name-requires = of_fdecl.fdecl-declare_name-requires
@@ -657,8 +657,8 @@ ident-inline_undefined-requires = of_ident.ident-inline_undefined-requires
 pub ident-inline_value-requires : goal.ident-inline_value-requires
 ident-inline_value-requires = of_ident.ident-inline_value-requires
 
-pub ident-returns-in_err-inline_value : goal.ident-returns-in_err-inline_value
-ident-returns-in_err-inline_value = of_ident.ident-returns-in_err-inline_value
+pub ident-returns-in_err-inline_value-in-Value : goal.ident-returns-in_err-inline_value-in-Value
+ident-returns-in_err-inline_value-in-Value = of_ident.ident-returns-in_err-inline_value-in-Value
 
 pub ident-logic-requires : goal.ident-logic-requires
 ident-logic-requires = of_ident.ident-logic-requires
@@ -669,8 +669,8 @@ ident-returns-in-Nothing = of_ident.ident-returns-in-Nothing
 pub ident-returns-in-Void : goal.ident-returns-in-Void
 ident-returns-in-Void = of_ident.ident-returns-in-Void
 
-pub ident-returns-in-Value : goal.ident-returns-in-Value
-ident-returns-in-Value = of_ident.ident-returns-in-Value
+pub ident-returns-in_ok-inline_value-in-Value : goal.ident-returns-in_ok-inline_value-in-Value
+ident-returns-in_ok-inline_value-in-Value = of_ident.ident-returns-in_ok-inline_value-in-Value
 
 pub ifs-arity_at-n-requires : goal.ifs-arity_at-n-requires
 ifs-arity_at-n-requires = of_ifs.ifs-arity_at-n-requires
@@ -705,8 +705,8 @@ ifs-returns = of_ifs.ifs-returns
 pub init-name-requires : goal.init-name-requires
 init-name-requires = of_init.init-name-requires
 
-pub init-returns-then-kind : goal.init-returns-then-kind
-init-returns-then-kind = of_init.init-returns-then-kind
+pub init-returns-then-eq : goal.init-returns-then-eq
+init-returns-then-eq = of_init.init-returns-then-eq
 
 pub init-overflow_add-i : goal.init-overflow_add-i
 init-overflow_add-i = of_init.init-overflow_add-i
@@ -1059,14 +1059,11 @@ parts-kind_at-requires = of_parts.parts-kind_at-requires
 pub parts-skip-at-requires : goal.parts-skip-at-requires
 parts-skip-at-requires = of_parts.parts-skip-at-requires
 
-pub parts-loop-k-preserved-then-kind-ne17 : goal.parts-loop-k-preserved-then-kind-ne17
-parts-loop-k-preserved-then-kind-ne17 = of_parts.parts-loop-k-preserved-then-kind-ne17
-
 pub parts-full-requires : goal.parts-full-requires
 parts-full-requires = of_parts.parts-full-requires
 
-pub parts-returns-in_err-full : goal.parts-returns-in_err-full
-parts-returns-in_err-full = of_parts.parts-returns-in_err-full
+pub parts-returns-in_err-at : goal.parts-returns-in_err-at
+parts-returns-in_err-at = of_parts.parts-returns-in_err-at
 
 pub parts-loop-k-preserved : goal.parts-loop-k-preserved
 parts-loop-k-preserved = of_parts.parts-loop-k-preserved
@@ -1080,14 +1077,14 @@ stmts-many-requires = of_stmts.stmts-many-requires
 pub stmts-returns-then-w-eq0 : goal.stmts-returns-then-w-eq0
 stmts-returns-then-w-eq0 = of_stmts.stmts-returns-then-w-eq0
 
-pub stmts-many-requires : goal.stmts-many-requires
-stmts-many-requires = of_stmts.stmts-many-requires
+pub stmts-many-requires-2 : goal.stmts-many-requires-2
+stmts-many-requires-2 = of_stmts.stmts-many-requires-2
 
 pub stmts-returns-in_err-many : goal.stmts-returns-in_err-many
 stmts-returns-in_err-many = of_stmts.stmts-returns-in_err-many
 
-pub stmts-many-requires-2 : goal.stmts-many-requires-2
-stmts-many-requires-2 = of_stmts.stmts-many-requires-2
+pub stmts-many-requires-3 : goal.stmts-many-requires-3
+stmts-many-requires-3 = of_stmts.stmts-many-requires-3
 
 pub stmts-returns : goal.stmts-returns
 stmts-returns = of_stmts.stmts-returns

@@ -1,5 +1,5 @@
 -- The measure of each walk, the depth that is left and where in one node's walk it stands, and what each loop has done of its list.
-use Rattle.std.proofs.Common.{◌+◌, ◌*◌, ◌≡◌, Ok, length}
+use Rattle.std.proofs.Common.{◌+◌, ◌*◌, Ok}
 use Rattle.def_tree.specs.Combine.{many}
 use Rattle.words_scopes.specs.Kinds.{kind_of}
 use Rattle.words_state.specs.State.{abs}
@@ -119,16 +119,16 @@ abbrev pub decreases-whiles : goal.decreases-whiles
 decreases-whiles l = 8 * l.d + 3
 
 abbrev pub invariant-arms-loop-k : goal.invariant-arms-loop-k
-invariant-arms-loop-k l = (length l.w ≡ length l.initial.w) × Did l.initial.w l.w (Ok l.at) (many (visit_with_child_f (walks_f l.d) l.p (kind_of l.kind)) l._k l.i (abs l.initial.w))
+invariant-arms-loop-k l = Did l.initial.w l.w (Ok l.at) (many (visit_with_child_f (walks_f l.d) l.p (kind_of l.kind)) l._k l.i (abs l.initial.w))
 
 abbrev pub invariant-binds-loop-k : goal.invariant-binds-loop-k
-invariant-binds-loop-k l = (length l.w ≡ length l.initial.w) × Did l.initial.w l.w (Ok l.at) (many (catch_param_f (walks_f l.d) l.p) l._k l.i (abs l.initial.w))
+invariant-binds-loop-k l = Did l.initial.w l.w (Ok l.at) (many (catch_param_f (walks_f l.d) l.p) l._k l.i (abs l.initial.w))
 
 abbrev pub invariant-conds-loop-k : goal.invariant-conds-loop-k
-invariant-conds-loop-k l = (length l.w ≡ length l.initial.w) × Did l.initial.w l.w (Ok l.at) (many (λ r. in_cond_f ((walks_f l.d).bare l.p r)) l._k l.i (abs l.initial.w))
+invariant-conds-loop-k l = Did l.initial.w l.w (Ok l.at) (many (λ r. in_cond_f ((walks_f l.d).bare l.p r)) l._k l.i (abs l.initial.w))
 
 abbrev pub invariant-many-loop-k : goal.invariant-many-loop-k
-invariant-many-loop-k l = (length l.w ≡ length l.initial.w) × Did l.initial.w l.w (Ok l.at) (many ((walks_f l.d).full l.p) l._k l.i (abs l.initial.w))
+invariant-many-loop-k l = Did l.initial.w l.w (Ok l.at) (many ((walks_f l.d).full l.p) l._k l.i (abs l.initial.w))
 
 abbrev pub invariant-parts-loop-k : goal.invariant-parts-loop-k
-invariant-parts-loop-k l = (length l.w ≡ length l.initial.w) × Did l.initial.w l.w (Ok l.at) (many (clause_f (walks_f l.d) l.p) l._k l.i (abs l.initial.w))
+invariant-parts-loop-k l = Did l.initial.w l.w (Ok l.at) (many (clause_f (walks_f l.d) l.p) l._k l.i (abs l.initial.w))

@@ -25,7 +25,7 @@ arm-own-requires t c = (omega (arith, c.decreases, c.if-d-eq0.false), heres.here
 pub arm-returns-in_err-j : goal.arm-returns-in_err-j
 unfolding visit_with_child_f
 arm-returns-in_err-j t c =
-    let q = err_from_is_err_and c.from_residual.result c.from_residual.ensures.1 in
+    let q = err_from_is_err_and c.from_residual-in_err-j.result c.from_residual-in_err-j.ensures.1 in
     rw (q.1, q.2) (ways.scope-stop (kind_of c.args.kind) ((walks_f c.args.d).bare c.args.p c.args.i) c.in_ok-enter.ensures (ways.bare_of_lem c.args.p c.args.i c.args.d c.if-d-eq0.false c.in_err-j.ensures))
 
 pub arm-returns : goal.arm-returns

@@ -11,27 +11,27 @@ use Rattle.walk_laws.proofs.Ways as ways
 use Rattle.walk.proofs.+walks.Goals as goal
 
 pub binds-loop-k-init : goal.binds-loop-k-init
-binds-loop-k-init t c = (refl, laws.many-none (catch_param_f (walks_f c.args.d) c.args.p) c.args.i c.requires.planted)
+binds-loop-k-init t c = laws.many-none (catch_param_f (walks_f c.args.d) c.args.p) c.args.i c.requires.planted
 
 pub binds-kind_at-kind-requires : goal.binds-kind_at-kind-requires
-binds-kind_at-kind-requires t c = heres.at-node (heres.here-behind (sim-each (sim-catch_param (sims c.args.d) c.args.p)) c.requires c.loop-k._k c.loop-k-test.true c.loop-k.invariant.1)
+binds-kind_at-kind-requires t c = heres.at-node (heres.here-behind (sim-each (sim-catch_param (sims c.args.d) c.args.p)) c.requires c.loop-k._k c.loop-k-test.true c.loop-k.invariant)
 
 pub binds-num_at-x-requires : goal.binds-num_at-x-requires
-binds-num_at-x-requires t c = heres.at-node (heres.here-behind (sim-each (sim-catch_param (sims c.args.d) c.args.p)) c.requires c.loop-k._k c.loop-k-test.true c.loop-k.invariant.1)
+binds-num_at-x-requires t c = heres.at-node (heres.here-behind (sim-each (sim-catch_param (sims c.args.d) c.args.p)) c.requires c.loop-k._k c.loop-k-test.true c.loop-k.invariant)
 
 pub binds-full-requires : goal.binds-full-requires
-binds-full-requires t c = (omega (arith, c.decreases), (heres.here-behind (sim-each (sim-catch_param (sims c.args.d) c.args.p)) c.requires c.loop-k._k c.loop-k-test.true c.loop-k.invariant.1))
+binds-full-requires t c = (omega (arith, c.decreases), (heres.here-behind (sim-each (sim-catch_param (sims c.args.d) c.args.p)) c.requires c.loop-k._k c.loop-k-test.true c.loop-k.invariant))
 
 pub binds-returns-in_err-at : goal.binds-returns-in_err-at
 binds-returns-in_err-at t c =
     let q = err_from_is_err_and c.from_residual.result c.from_residual.ensures.1 in
-    rw (q.1, q.2) (ways.many-stop (catch_param_f (walks_f c.args.d) c.args.p) c.args.i c.loop-k._k c.args.n c.loop-k.invariant.1 c.loop-k-test.true (ways.bound-stop (walks_f c.args.d) c.args.p c.loop-k.at c.in_err-at.ensures))
+    rw (q.1, q.2) (ways.many-stop (catch_param_f (walks_f c.args.d) c.args.p) c.args.i c.loop-k._k c.args.n c.loop-k.invariant c.loop-k-test.true (ways.bound-stop (walks_f c.args.d) c.args.p c.loop-k.at c.in_err-at.ensures))
 
 pub binds-mark_caught-requires : goal.binds-mark_caught-requires
-binds-mark_caught-requires t c = heres.name-low (heres.here-behind (sim-each (sim-catch_param (sims c.args.d) c.args.p)) c.requires c.loop-k._k c.loop-k-test.true c.loop-k.invariant.1) c.kind_at-kind.ensures c.num_at-x.ensures c.in_ok-at.ensures.ok.planted
+binds-mark_caught-requires t c = heres.name-low (heres.here-behind (sim-each (sim-catch_param (sims c.args.d) c.args.p)) c.requires c.loop-k._k c.loop-k-test.true c.loop-k.invariant) c.kind_at-kind.ensures c.num_at-x.ensures c.in_ok-at.ensures.ok.planted
 
 pub binds-loop-k-preserved : goal.binds-loop-k-preserved
-binds-loop-k-preserved t c = (c.mark_caught.auto.w ∙ c.full.auto.w ∙ c.loop-k.invariant.0, ways.many-next (catch_param_f (walks_f c.args.d) c.args.p) c.args.i c.loop-k._k c.args.n c.loop-k.invariant.1 (ways.bound-then (walks_f c.args.d) (heres.here-behind (sim-each (sim-catch_param (sims c.args.d) c.args.p)) c.requires c.loop-k._k c.loop-k-test.true c.loop-k.invariant.1) c.kind_at-kind.ensures c.num_at-x.ensures c.in_ok-at.ensures c.mark_caught.ensures))
+binds-loop-k-preserved t c = ways.many-next (catch_param_f (walks_f c.args.d) c.args.p) c.args.i c.loop-k._k c.args.n c.loop-k.invariant (ways.bound-then (walks_f c.args.d) (heres.here-behind (sim-each (sim-catch_param (sims c.args.d) c.args.p)) c.requires c.loop-k._k c.loop-k-test.true c.loop-k.invariant) c.kind_at-kind.ensures c.num_at-x.ensures c.in_ok-at.ensures c.mark_caught.ensures)
 
 pub binds-returns : goal.binds-returns
-binds-returns t c = ways.many-end (catch_param_f (walks_f c.args.d) c.args.p) c.args.i c.loop-k._k c.args.n c.loop-k.invariant.1 c.loop-k.auto._k-end c.loop-k-test.false
+binds-returns t c = ways.many-end (catch_param_f (walks_f c.args.d) c.args.p) c.args.i c.loop-k._k c.args.n c.loop-k.invariant c.loop-k.auto._k-end c.loop-k-test.false

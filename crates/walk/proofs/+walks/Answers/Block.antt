@@ -21,7 +21,7 @@ block-body-requires t c = (omega (arith, c.decreases), (heres.here-rest (opening
 pub block-returns-in_err-j : goal.block-returns-in_err-j
 unfolding visit_mut_block_stmt_f script_f
 block-returns-in_err-j t c =
-    let q = err_from_is_err_and c.from_residual.result c.from_residual.ensures.1 in
+    let q = err_from_is_err_and c.from_residual-in_err-j.result c.from_residual-in_err-j.ensures.1 in
     rw (q.1, q.2) (ways.scope-stop block_kind (script_f (walks_f c.args.d) c.args.p c.args.i) c.in_ok-enter.ensures c.in_err-j.ensures)
 
 pub block-returns : goal.block-returns

@@ -53,7 +53,7 @@ call-write_args-requires t c = heres.at-trees (heres.here-tree (λ c s. when (no
 pub call-returns-in_err-write_args : goal.call-returns-in_err-write_args
 unfolding visit_mut_call_expr_f
 call-returns-in_err-write_args t c =
-    let q = err_from_is_err_and c.from_residual.result c.from_residual.ensures.1 in
+    let q = err_from_is_err_and c.from_residual-in_err-write_args.result c.from_residual-in_err-write_args.ensures.1 in
     rw (q.1, q.2) (laws.did-stop _ (ways.on-kids (λ q. split_f (λ i₁. ((walks_f c.args.d).full q i₁) >>= λ j. act (λ c s. when (not s.inlining) (mark (mark_this_sensitive (ident_of (some c)))) s) i₁ >> ret j) (λ n i₁. act_f (λ ts. when c.args.called (write_forest false ts)) n i₁ >> many ((walks_f c.args.d).full q) n i₁)) c.requires c.arity_at-n.ensures (ways.split-then (λ i₁. ((walks_f c.args.d).full (c.args.p + 1) i₁) >>= λ j. act (λ c s. when (not s.inlining) (mark (mark_this_sensitive (ident_of (some c)))) s) i₁ >> ret j) (λ n i₁. act_f (λ ts. when c.args.called (write_forest false ts)) n i₁ >> many ((walks_f c.args.d).full (c.args.p + 1)) n i₁) c.arity_at-n.result (c.args.i + 1) c.if-n-eq0.false (laws.did_then _ c.in_ok-j.ensures (ways.act-end c.in_ok-j.j c.mark_callee.ensures)) (laws.act-stop _ c.in_err-write_args.ensures))))
 
 pub call-overflow_add-p-2 : goal.call-overflow_add-p-2
@@ -65,7 +65,7 @@ call-many-requires t c = (omega (arith, c.decreases), heres.here-trees (λ ts. w
 pub call-returns-in_err-end : goal.call-returns-in_err-end
 unfolding visit_mut_call_expr_f
 call-returns-in_err-end t c =
-    let q = err_from_is_err_and c.from_residual.result c.from_residual.ensures.1 in
+    let q = err_from_is_err_and c.from_residual-in_err-end.result c.from_residual-in_err-end.ensures.1 in
     rw (q.1, q.2) (laws.did-stop _ (ways.on-kids (λ q. split_f (λ i₁. ((walks_f c.args.d).full q i₁) >>= λ j. act (λ c s. when (not s.inlining) (mark (mark_this_sensitive (ident_of (some c)))) s) i₁ >> ret j) (λ n i₁. act_f (λ ts. when c.args.called (write_forest false ts)) n i₁ >> many ((walks_f c.args.d).full q) n i₁)) c.requires c.arity_at-n.ensures (ways.split-then (λ i₁. ((walks_f c.args.d).full (c.args.p + 1) i₁) >>= λ j. act (λ c s. when (not s.inlining) (mark (mark_this_sensitive (ident_of (some c)))) s) i₁ >> ret j) (λ n i₁. act_f (λ ts. when c.args.called (write_forest false ts)) n i₁ >> many ((walks_f c.args.d).full (c.args.p + 1)) n i₁) c.arity_at-n.result (c.args.i + 1) c.if-n-eq0.false (laws.did_then _ c.in_ok-j.ensures (ways.act-end c.in_ok-j.j c.mark_callee.ensures)) (laws.act-then _ c.in_ok-write_args.ensures c.in_err-end.ensures))))
 
 pub call-returns : goal.call-returns

@@ -22,7 +22,7 @@ case-items-requires t c = (omega (arith, c.decreases), (heres.here-rest (opening
 pub case-returns-in_err-j : goal.case-returns-in_err-j
 unfolding visit_mut_switch_case_f
 case-returns-in_err-j t c =
-    let q = err_from_is_err_and c.from_residual.result c.from_residual.ensures.1 in
+    let q = err_from_is_err_and c.from_residual-in_err-j.result c.from_residual-in_err-j.ensures.1 in
     rw (q.1, q.2) (ways.scope-stop block_kind (items_f (walks_f c.args.d) c.args.p c.args.i) c.in_ok-enter.ensures c.in_err-j.ensures)
 
 pub case-returns : goal.case-returns

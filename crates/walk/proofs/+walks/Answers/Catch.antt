@@ -42,7 +42,7 @@ catch-binds-requires t c = (omega (arith, c.decreases), heres.here-less (heres.h
 pub catch-returns-in_err-j : goal.catch-returns-in_err-j
 unfolding visit_mut_catch_clause_f
 catch-returns-in_err-j t c =
-    let q = err_from_is_err_and c.from_residual.result c.from_residual.ensures.1 in
+    let q = err_from_is_err_and c.from_residual-in_err-j.result c.from_residual-in_err-j.ensures.1 in
     rw (q.1, q.2) (ways.scope-stop block_kind (caught_f (walks_f c.args.d) c.args.p c.args.i) c.in_ok-enter.ensures (ways.modify-then (set_pat_mode as_catch) (on_kids_f (each_but_f (catch_param_f (walks_f c.args.d) (suc c.args.p)) ((walks_f c.args.d).full (suc c.args.p))) c.args.i) c.set_pat_mode.ensures (ways.on-kids (λ q. each_but_f (catch_param_f (walks_f c.args.d) q) ((walks_f c.args.d).full q)) (heres.here-turn c.set_pat_mode.ensures (heres.here-rest (opening block_kind) c.in_ok-enter.ensures c.requires)) c.arity_at-n.ensures (ways.but-stop (catch_param_f (walks_f c.args.d) (c.args.p + 1)) ((walks_f c.args.d).full (c.args.p + 1)) c.arity_at-n.result (c.args.i + 1) c.if-n-eq0.false c.in_err-j.ensures))))
 
 pub catch-overflow_add-p-2 : goal.catch-overflow_add-p-2
@@ -54,7 +54,7 @@ catch-full-requires t c = (omega (arith, c.decreases), heres.here-behind (sim-ea
 pub catch-returns-in_err-end : goal.catch-returns-in_err-end
 unfolding visit_mut_catch_clause_f
 catch-returns-in_err-end t c =
-    let q = err_from_is_err_and c.from_residual.result c.from_residual.ensures.1 in
+    let q = err_from_is_err_and c.from_residual-in_err-end.result c.from_residual-in_err-end.ensures.1 in
     rw (q.1, q.2) (ways.scope-stop block_kind (caught_f (walks_f c.args.d) c.args.p c.args.i) c.in_ok-enter.ensures (ways.modify-then (set_pat_mode as_catch) (on_kids_f (each_but_f (catch_param_f (walks_f c.args.d) (suc c.args.p)) ((walks_f c.args.d).full (suc c.args.p))) c.args.i) c.set_pat_mode.ensures (ways.on-kids (λ q. each_but_f (catch_param_f (walks_f c.args.d) q) ((walks_f c.args.d).full q)) (heres.here-turn c.set_pat_mode.ensures (heres.here-rest (opening block_kind) c.in_ok-enter.ensures c.requires)) c.arity_at-n.ensures (ways.but-then (catch_param_f (walks_f c.args.d) (c.args.p + 1)) ((walks_f c.args.d).full (c.args.p + 1)) c.arity_at-n.result (c.args.i + 1) c.if-n-eq0.false c.in_ok-j.ensures c.in_err-end.ensures))))
 
 pub catch-returns : goal.catch-returns

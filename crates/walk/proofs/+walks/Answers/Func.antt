@@ -25,7 +25,7 @@ func-params-requires t c = (omega (arith, c.decreases), heres.here-turn c.set_pa
 pub func-returns-in_err-j : goal.func-returns-in_err-j
 unfolding visit_mut_function_f
 func-returns-in_err-j t c =
-    let q = err_from_is_err_and c.from_residual.result c.from_residual.ensures.1 in
+    let q = err_from_is_err_and c.from_residual-in_err-j.result c.from_residual-in_err-j.ensures.1 in
     rw (q.1, q.2) (ways.scope-stop (fn_kind c.args.named) (λ st. and_then (on_rest (modify (set_pat_mode as_param)) st) (λ y. each_but_f ((walks_f c.args.d).full (suc c.args.p)) ((walks_f c.args.d).inner (suc c.args.p)) c.args.n c.args.i)) c.in_ok-enter.ensures (ways.func-in (walks_f c.args.d) c.args.p c.args.n c.args.i c.set_pat_mode.ensures c.in_err-j.ensures))
 
 pub func-returns : goal.func-returns

@@ -51,13 +51,13 @@ ident-inline_undefined-requires t c = heres.at-skip c.requires.0
 pub ident-inline_value-requires : goal.ident-inline_value-requires
 ident-inline_value-requires t c = (c.requires.0.planted, heres.here-node c.requires.0, c.requires.1, c.in-Value.ensures.1)
 
-pub ident-returns-in_err-inline_value : goal.ident-returns-in_err-inline_value
-ident-returns-in_err-inline_value t c =
-    let q = err_from_is_err_and c.from_residual.result c.from_residual.ensures.1 in
-    rw (q.1, q.2) (idents.no-const-inlining (walks_f c.args.d) c.args.p c.args.i (idents.const-none c.args.w.now c.args.i c.in_default.ensures.0) c.if-w-eq0.false (idents.found-value (walks_f c.args.d) c.args.p c.args.i (value_by c.args.w.now c.in-Value.b) c.in-Value.ensures.0 (λ b. ways.value-stop (walks_f c.args.d) c.args.p c.args.i b (value_by c.args.w.now c.in-Value.b) c.in_err-inline_value.ensures)))
+pub ident-returns-in_err-inline_value-in-Value : goal.ident-returns-in_err-inline_value-in-Value
+ident-returns-in_err-inline_value-in-Value t c =
+    let q = err_from_is_err_and c.from_residual-in_err-inline_value-in-Value.result c.from_residual-in_err-inline_value-in-Value.ensures.1 in
+    rw (q.1, q.2) (idents.no-const-inlining (walks_f c.args.d) c.args.p c.args.i (idents.const-none c.args.w.now c.args.i c.in_default.ensures.0) c.if-w-eq0.false (idents.found-value (walks_f c.args.d) c.args.p c.args.i (value_by c.args.w.now c.in-Value.b) c.in-Value.ensures.0 (λ b. ways.value-stop (walks_f c.args.d) c.args.p c.args.i b (value_by c.args.w.now c.in-Value.b) c.in_err-inline_value-in-Value.ensures)))
 
 pub ident-logic-requires : goal.ident-logic-requires
-ident-logic-requires t c = (omega (arith, c.decreases), idents.here-value c.args.p (value_by c.args.w.now c.in-Value.b) c.requires.0 c.in_ok-inline_value.ensures)
+ident-logic-requires t c = (omega (arith, c.decreases), idents.here-value c.args.p (value_by c.args.w.now c.in-Value.b) c.requires.0 c.in_ok-inline_value-in-Value.ensures)
 
 pub ident-returns-in-Nothing : goal.ident-returns-in-Nothing
 ident-returns-in-Nothing t c = idents.no-const-inlining (walks_f c.args.d) c.args.p c.args.i (idents.const-none c.args.w.now c.args.i c.in_default.ensures.0) c.if-w-eq0.false (idents.found_nothing (walks_f c.args.d) c.args.p c.args.i c.in-Nothing.ensures (ways.did-skip c.args.i c.requires.0.planted c.skip-in-Nothing.ensures.0))
@@ -65,5 +65,5 @@ ident-returns-in-Nothing t c = idents.no-const-inlining (walks_f c.args.d) c.arg
 pub ident-returns-in-Void : goal.ident-returns-in-Void
 ident-returns-in-Void t c = idents.no-const-inlining (walks_f c.args.d) c.args.p c.args.i (idents.const-none c.args.w.now c.args.i c.in_default.ensures.0) c.if-w-eq0.false (idents.found-void (walks_f c.args.d) c.args.p c.args.i c.in-Void.ensures c.inline_undefined.ensures)
 
-pub ident-returns-in-Value : goal.ident-returns-in-Value
-ident-returns-in-Value t c = idents.no-const-inlining (walks_f c.args.d) c.args.p c.args.i (idents.const-none c.args.w.now c.args.i c.in_default.ensures.0) c.if-w-eq0.false (idents.found-value (walks_f c.args.d) c.args.p c.args.i (value_by c.args.w.now c.in-Value.b) c.in-Value.ensures.0 (λ b. ways.value-then (walks_f c.args.d) c.args.p c.args.i b (value_by c.args.w.now c.in-Value.b) c.in_ok-inline_value.ensures c.logic.ensures))
+pub ident-returns-in_ok-inline_value-in-Value : goal.ident-returns-in_ok-inline_value-in-Value
+ident-returns-in_ok-inline_value-in-Value t c = idents.no-const-inlining (walks_f c.args.d) c.args.p c.args.i (idents.const-none c.args.w.now c.args.i c.in_default.ensures.0) c.if-w-eq0.false (idents.found-value (walks_f c.args.d) c.args.p c.args.i (value_by c.args.w.now c.in-Value.b) c.in-Value.ensures.0 (λ b. ways.value-then (walks_f c.args.d) c.args.p c.args.i b (value_by c.args.w.now c.in-Value.b) c.in_ok-inline_value-in-Value.ensures c.logic.ensures))

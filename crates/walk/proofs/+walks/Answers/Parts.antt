@@ -10,30 +10,32 @@ use Rattle.walk_laws.specs.Did.{clause_f}
 use Rattle.walk_laws.proofs.Laws as laws
 use Rattle.walk_laws.proofs.Heres as heres
 use Rattle.walk_laws.proofs.Ways as ways
+use Rattle.walk.proofs.+walks.Goals.{parts-then-kind_at-eq17+in_ok-at, parts-else-kind_at-eq17}
 use Rattle.walk.proofs.+walks.Goals as goal
 
 pub parts-loop-k-init : goal.parts-loop-k-init
-parts-loop-k-init t c = (refl, laws.many-none (clause_f (walks_f c.args.d) c.args.p) c.args.i c.requires.planted)
+parts-loop-k-init t c = laws.many-none (clause_f (walks_f c.args.d) c.args.p) c.args.i c.requires.planted
 
 pub parts-kind_at-requires : goal.parts-kind_at-requires
-parts-kind_at-requires t c = heres.at-node (heres.here-behind (sim-each (sim-node (λ s c. eqb c.kind 17) (λ b. sim-if b ((sims c.args.d).full c.args.p) sim-skip))) c.requires c.loop-k._k c.loop-k-test.true c.loop-k.invariant.1)
+parts-kind_at-requires t c = heres.at-node (heres.here-behind (sim-each (sim-node (λ s c. eqb c.kind 17) (λ b. sim-if b ((sims c.args.d).full c.args.p) sim-skip))) c.requires c.loop-k._k c.loop-k-test.true c.loop-k.invariant)
 
 pub parts-skip-at-requires : goal.parts-skip-at-requires
-parts-skip-at-requires t c = heres.at-skip (heres.here-behind (sim-each (sim-node (λ s c. eqb c.kind 17) (λ b. sim-if b ((sims c.args.d).full c.args.p) sim-skip))) c.requires c.loop-k._k c.loop-k-test.true c.loop-k.invariant.1)
-
-pub parts-loop-k-preserved-then-kind-ne17 : goal.parts-loop-k-preserved-then-kind-ne17
-parts-loop-k-preserved-then-kind-ne17 t c = (c.loop-k.invariant.0, ways.many-next (clause_f (walks_f c.args.d) c.args.p) c.args.i c.loop-k._k c.args.n c.loop-k.invariant.1 (ways.iff-no _ _ (ways.kind-no (heres.here-behind (sim-each (sim-node (λ s c. eqb c.kind 17) (λ b. sim-if b ((sims c.args.d).full c.args.p) sim-skip))) c.requires c.loop-k._k c.loop-k-test.true c.loop-k.invariant.1) 17 c.kind_at.ensures c.if-kind_at-eq17.false) (ways.did-skip c.loop-k.at (heres.here-behind (sim-each (sim-node (λ s c. eqb c.kind 17) (λ b. sim-if b ((sims c.args.d).full c.args.p) sim-skip))) c.requires c.loop-k._k c.loop-k-test.true c.loop-k.invariant.1).planted c.skip-at.ensures.0)))
+parts-skip-at-requires t c = heres.at-skip (heres.here-behind (sim-each (sim-node (λ s c. eqb c.kind 17) (λ b. sim-if b ((sims c.args.d).full c.args.p) sim-skip))) c.requires c.loop-k._k c.loop-k-test.true c.loop-k.invariant)
 
 pub parts-full-requires : goal.parts-full-requires
-parts-full-requires t c = (omega (arith, c.decreases), (heres.here-behind (sim-each (sim-node (λ s c. eqb c.kind 17) (λ b. sim-if b ((sims c.args.d).full c.args.p) sim-skip))) c.requires c.loop-k._k c.loop-k-test.true c.loop-k.invariant.1))
+parts-full-requires t c = (omega (arith, c.decreases), (heres.here-behind (sim-each (sim-node (λ s c. eqb c.kind 17) (λ b. sim-if b ((sims c.args.d).full c.args.p) sim-skip))) c.requires c.loop-k._k c.loop-k-test.true c.loop-k.invariant))
 
-pub parts-returns-in_err-full : goal.parts-returns-in_err-full
-parts-returns-in_err-full t c =
+pub parts-returns-in_err-at : goal.parts-returns-in_err-at
+parts-returns-in_err-at t c =
     let q = err_from_is_err_and c.from_residual.result c.from_residual.ensures.1 in
-    rw (q.1, q.2) (ways.many-stop (clause_f (walks_f c.args.d) c.args.p) c.args.i c.loop-k._k c.args.n c.loop-k.invariant.1 c.loop-k-test.true (ways.iff-yes _ _ (ways.kind-yes (heres.here-behind (sim-each (sim-node (λ s c. eqb c.kind 17) (λ b. sim-if b ((sims c.args.d).full c.args.p) sim-skip))) c.requires c.loop-k._k c.loop-k-test.true c.loop-k.invariant.1) c.kind_at.ensures c.if-kind_at-eq17.true) c.in_err-full.ensures))
+    rw (q.1, q.2) (ways.many-stop (clause_f (walks_f c.args.d) c.args.p) c.args.i c.loop-k._k c.args.n c.loop-k.invariant c.loop-k-test.true (ways.iff-yes _ _ (ways.kind-yes (heres.here-behind (sim-each (sim-node (λ s c. eqb c.kind 17) (λ b. sim-if b ((sims c.args.d).full c.args.p) sim-skip))) c.requires c.loop-k._k c.loop-k-test.true c.loop-k.invariant) c.kind_at.ensures c.if-kind_at-eq17.true) c.in_err-at.ensures))
 
 pub parts-loop-k-preserved : goal.parts-loop-k-preserved
-parts-loop-k-preserved t c = (c.full.auto.w ∙ c.loop-k.invariant.0, ways.many-next (clause_f (walks_f c.args.d) c.args.p) c.args.i c.loop-k._k c.args.n c.loop-k.invariant.1 (ways.iff-yes _ _ (ways.kind-yes (heres.here-behind (sim-each (sim-node (λ s c. eqb c.kind 17) (λ b. sim-if b ((sims c.args.d).full c.args.p) sim-skip))) c.requires c.loop-k._k c.loop-k-test.true c.loop-k.invariant.1) c.kind_at.ensures c.if-kind_at-eq17.true) c.in_ok-full.ensures))
+parts-loop-k-preserved t c =
+    let here = heres.here-behind (sim-each (sim-node (λ s c. eqb c.kind 17) (λ b. sim-if b ((sims c.args.d).full c.args.p) sim-skip))) c.requires c.loop-k._k c.loop-k-test.true c.loop-k.invariant in
+    elim c.if-kind_at-eq17.branch [
+      parts-then-kind_at-eq17+in_ok-at b ↦ rw (b.w-is, b.at-is) (ways.many-next (clause_f (walks_f c.args.d) c.args.p) c.args.i c.loop-k._k c.args.n c.loop-k.invariant (ways.iff-yes _ _ (ways.kind-yes here c.kind_at.ensures b.if-kind_at-eq17.true) b.in_ok-at.ensures))
+    | parts-else-kind_at-eq17 b ↦ rw (b.w-is, b.at-is) (ways.many-next (clause_f (walks_f c.args.d) c.args.p) c.args.i c.loop-k._k c.args.n c.loop-k.invariant (ways.iff-no _ _ (ways.kind-no here 17 c.kind_at.ensures b.if-kind_at-eq17.false) (ways.did-skip c.loop-k.at here.planted b.skip-at.ensures.0))) ]
 
 pub parts-returns : goal.parts-returns
-parts-returns t c = ways.many-end (clause_f (walks_f c.args.d) c.args.p) c.args.i c.loop-k._k c.args.n c.loop-k.invariant.1 c.loop-k.auto._k-end c.loop-k-test.false
+parts-returns t c = ways.many-end (clause_f (walks_f c.args.d) c.args.p) c.args.i c.loop-k._k c.args.n c.loop-k.invariant c.loop-k.auto._k-end c.loop-k-test.false
