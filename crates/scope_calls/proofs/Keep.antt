@@ -1,5 +1,5 @@
 -- What every call keeps, and where a sequence begins. Assumes nothing.
-use Rattle.std.proofs.Common.{◌≡◌, ℕ, zero, suc, ◌+◌, ◌<◌, ◌≤◌, Bool, List, [], ◌∷◌, ◌++◌, length, get_or, sym, refl, ap, ◌∙◌, ⊎_elim, arith}
+use Rattle.std.proofs.Common.{◌≡◌, Result, Ok, Err, ℕ, zero, suc, ◌+◌, ◌<◌, ◌≤◌, Bool, List, [], ◌∷◌, ◌++◌, length, get_or, sym, refl, ap, ◌∙◌, ⊎_elim, arith}
 use Rattle.def_tree.specs.Tree.{Core, core, no_core}
 use Rattle.def_pass.specs.Scope.{Stack}
 use Rattle.words.specs.Tab.{tab, sum, below_or_not}
@@ -10,8 +10,7 @@ use Rattle.words_scopes.specs.State.{Good, Becomes, Names, heads, heads_at}
 use Rattle.words_scopes.proofs.Index.{beside_none}
 use Rattle.words_nodes.specs.Nodes.{Planted, Apart}
 use Rattle.scope_values.specs.Steps as records
-use Rattle.scope_values.specs.declared.Step as rstep
-use Rattle.scope_values.specs.declared.Step.TheVariants as rcase
+use Rattle.refusal.specs.declared.Refusal.{Refusal}
 use Rattle.scope_calls.specs.Begun.{Begun}
 
 pub keep : {w u : List ℕ} → Planted w → Good u → tree u ≡ tree w → Planted u
@@ -21,9 +20,9 @@ pub became : {w u : List ℕ} {st : Stack} → Planted w → Becomes w u st → 
 became r b = keep r b.good b.tree
 
 -- a step keeps it, whether it is refused or not
-pub limited : (n : ℕ) (t : Bool) (w u : List ℕ) (st : Stack) (s : rstep.Step) → Planted w → records.Limited n t w u st s → Planted u
-limited n t w u st rcase.Done r l = became r l.0
-limited n t w u st (rcase.Refused m) r l = keep r l.2.good l.2.tree
+pub limited : (n : Refusal) (t : Bool) (w u : List ℕ) (st : Stack) (s : Result Unit Refusal) → Planted w → records.Limited n t w u st s → Planted u
+limited n t w u st (Ok _) r l = became r l.0
+limited n t w u st (Err _) r l = keep r l.2.good l.2.tree
 
 -- no scope and no node
 pub cleared : {w u : List ℕ} → 16384 ≤ length w → Cleared w u → Begun u []

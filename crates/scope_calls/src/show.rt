@@ -12,12 +12,11 @@ use scope_find::{bound_here, in_loop};
 use scope_values::{live, recorded_nodes, stops_at};
 use std::fmt;
 use std::io;
-use std::num::wrapping_add_u32;
 use words::layout;
 use words_scopes::find_by_walk;
 
 // A word of the line, with a space before it.
-fn put<D: fmt::Display>(rt: &impl Print, d: D) -> io::Result<()> {
+fn put<D: fmt::Display + Drop>(rt: &impl Print, d: D) -> io::Result<()> {
     print!(rt; " {d}")
 }
 
@@ -28,11 +27,11 @@ fn put_bool(rt: &impl Print, b: bool) -> io::Result<()> {
 
 // A number from 0 on: 1 more, 0 for none.
 fn put_place(rt: &impl Print, k: Option<usize>) -> io::Result<()> {
-    put(rt, k.map_or(0, |k| k + 1))
+    put(rt, k.map_or(0, |k| k.wrapping_add(1)))
 }
 
 // A number: 1 and the number, 0 for none.
-fn put_some<D: fmt::Display>(rt: &impl Print, n: Option<D>) -> io::Result<()> {
+fn put_some<D: fmt::Display + Drop>(rt: &impl Print, n: Option<D>) -> io::Result<()> {
     match n {
         None => put(rt, 0),
         Some(n) => {
@@ -68,7 +67,7 @@ fn of_node(w: &[u32], base: u32, k: u32, f: u32) -> u32 {
 fn show_value(rt: &impl Print, w: &[u32], base: u32, at: u32, n: u32) -> io::Result<()> {
     put(rt, n)?;
     for j in 0..n {
-        let k = wrapping_add_u32(at, j);
+        let k = at.wrapping_add(j);
         put(rt, of_node(w, base, k, 0) % 64)?;
         put(rt, of_node(w, base, k, 1))?;
     }
@@ -86,7 +85,7 @@ fn show_binding(rt: &impl Print, w: &[u32], k: u32, at: u32) -> io::Result<u32> 
     }
     let n = of_binding(w, k, 8);
     show_value(rt, w, layout::VALUES as u32, at, n)?;
-    Ok(wrapping_add_u32(at, n))
+    Ok(at.wrapping_add(n))
 }
 
 fn show_bindings(rt: &impl Print, w: &[u32], a: u32, e: u32, at: u32) -> io::Result<u32> {
@@ -104,7 +103,7 @@ fn show_consts(rt: &impl Print, w: &[u32], a: u32, e: u32, at: u32) -> io::Resul
         put(rt, of_const(w, k, 0))?;
         let n = of_const(w, k, 1);
         show_value(rt, w, layout::CONSTANT_VALUES as u32, p, n)?;
-        p = wrapping_add_u32(p, n);
+        p = p.wrapping_add(n);
     }
     Ok(p)
 }
@@ -112,7 +111,7 @@ fn show_consts(rt: &impl Print, w: &[u32], a: u32, e: u32, at: u32) -> io::Resul
 // Which of the first four identifiers are unresolved in scope k.
 fn show_unresolved(rt: &impl Print, w: &[u32], k: u32) -> io::Result<()> {
     put(rt, 'u')?;
-    for x in 0..4 {
+    for x in 0..4u32 {
         put_bool(
             rt,
             word(w, layout::UNRESOLVED + k as usize * 8) >> x & 1 != 0,
@@ -123,7 +122,7 @@ fn show_unresolved(rt: &impl Print, w: &[u32], k: u32) -> io::Result<()> {
 
 // Where the records of scope k end; f is the field with their beginning.
 fn end_of(w: &[u32], k: u32, f: u32, count: u32) -> u32 {
-    let next = wrapping_add_u32(k, 1);
+    let next = k.wrapping_add(1);
     if next < word(w, 2) {
         return of_scope(w, next, f);
     }
