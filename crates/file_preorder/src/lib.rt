@@ -53,77 +53,73 @@ fn node_ok(x: Raw, c: Class, t: usize) -> bool
     allows(c, k, n) && fields_ok(x, t) && form_ok(row, f) && count_ok(row, n)
 }
 
-// The children of the node at index `at`, which fills a place of class c with `left` levels.
-#[cycle(children_declarator_node)]
-fn children(
-    file: &[u8],
-    n: usize,
-    t: usize,
-    at: usize,
-    c: Class,
-    left: usize,
-) -> Result<Child, Refusal>
-    requires { Fitting file.now n t at (place c left) }
-    ensures { Filled t (nodes_of file.now n) (place c left) at result }
-{
-    let x = raw_at(file, 32 + 16 * at);
-    let row = row_of(x.kind, x.form);
-    let count = x.arity;
-    let mut next = at + 1;
-    for i in 0..count {
-        let class = child(row, count, i);
-        let answer = node(file, n, t, next, class, left - 1)?;
-        next = answer.behind();
-    }
-    if x.kind == 20 {
-        Ok(Child::Binding(next))
-    } else {
-        Ok(Child::Other(next))
-    }
+// A script of a file: its nodes, and how many texts they may name.
+#[derive(Clone, Copy, Debug, PartialEq, Eq)]
+struct Nodes<'a> {
+    file: &'a [u8],
+    count: usize,
+    texts: usize,
 }
 
-// 6 declarator b [e]: a first child that is no binding is refused.
-#[cycle(children_declarator_node)]
-fn declarator(
-    file: &[u8],
-    n: usize,
-    t: usize,
-    at: usize,
-    c: Class,
-    left: usize,
-) -> Result<Child, Refusal>
-    requires { Fitting file.now n t at (place c left) × ((get_or (nodes_of file.now n) at zero_node).kind ≡ 6) }
-    ensures { Filled t (nodes_of file.now n) (place c left) at result }
-{
-    let x = raw_at(file, 32 + 16 * at);
-    let name = node(file, n, t, at + 1, Class::Binding, left - 1)?;
-    let Child::Binding(next) = name else {
-        return Err(Refusal::Nodes);
-    };
-    if x.arity == 1 {
-        return Ok(Child::Other(next));
+impl Nodes<'_> {
+    // The children of the node at index `at`, which fills a place of class c with `left` levels.
+    #[cycle(children_declarator_node)]
+    fn children(self, at: usize, c: Class, left: usize) -> Result<Child, Refusal>
+        requires { Fitting self.file.now self.count self.texts at (place c left) }
+        ensures { Filled self.entry.texts (nodes_of self.entry.file.now self.entry.count) (place c left) at result }
+    {
+        let x = raw_at(self.file, 32 + 16 * at);
+        let row = row_of(x.kind, x.form);
+        let count = x.arity;
+        let mut next = at + 1;
+        for i in 0..count {
+            let class = child(row, count, i);
+            let answer = self.node(next, class, left - 1)?;
+            next = answer.behind();
+        }
+        if x.kind == 20 {
+            Ok(Child::Binding(next))
+        } else {
+            Ok(Child::Other(next))
+        }
     }
-    let init = node(file, n, t, next, Class::Expression, left - 1)?;
-    Ok(Child::Other(init.behind()))
-}
 
-// The node at index `at` and all below it, at a place of class c with `left` levels.
-#[cycle(children_declarator_node)]
-fn node(file: &[u8], n: usize, t: usize, at: usize, c: Class, left: usize) -> Result<Child, Refusal>
-    requires { Room file.now n × (left ≤ 200) }
-    ensures { Filled t (nodes_of file.now n) (place c left) at result }
-{
-    if n <= at || left == 0 {
-        return Err(Refusal::Nodes);
+    // 6 declarator b [e]: a first child that is no binding is refused.
+    #[cycle(children_declarator_node)]
+    fn declarator(self, at: usize, c: Class, left: usize) -> Result<Child, Refusal>
+        requires { Fitting self.file.now self.count self.texts at (place c left) × ((get_or (nodes_of self.file.now self.count) at zero_node).kind ≡ 6) }
+        ensures { Filled self.entry.texts (nodes_of self.entry.file.now self.entry.count) (place c left) at result }
+    {
+        let x = raw_at(self.file, 32 + 16 * at);
+        let name = self.node(at + 1, Class::Binding, left - 1)?;
+        let Child::Binding(next) = name else {
+            return Err(Refusal::Nodes);
+        };
+        if x.arity == 1 {
+            return Ok(Child::Other(next));
+        }
+        let init = self.node(next, Class::Expression, left - 1)?;
+        Ok(Child::Other(init.behind()))
     }
-    let x = raw_at(file, 32 + 16 * at);
-    if !node_ok(x, c, t) {
-        return Err(Refusal::Nodes);
-    }
-    if x.kind == 6 {
-        declarator(file, n, t, at, c, left)
-    } else {
-        children(file, n, t, at, c, left)
+
+    // The node at index `at` and all below it, at a place of class c with `left` levels.
+    #[cycle(children_declarator_node)]
+    fn node(self, at: usize, c: Class, left: usize) -> Result<Child, Refusal>
+        requires { Room self.file.now self.count × (left ≤ 200) }
+        ensures { Filled self.entry.texts (nodes_of self.entry.file.now self.entry.count) (place c left) at result }
+    {
+        if self.count <= at || left == 0 {
+            return Err(Refusal::Nodes);
+        }
+        let x = raw_at(self.file, 32 + 16 * at);
+        if !node_ok(x, c, self.texts) {
+            return Err(Refusal::Nodes);
+        }
+        if x.kind == 6 {
+            self.declarator(at, c, left)
+        } else {
+            self.children(at, c, left)
+        }
     }
 }
 
@@ -132,5 +128,12 @@ pub fn nodes_ok(file: &[u8], n: usize, t: usize) -> bool
     requires { Room file.now n }
     ensures { result ≡ fills t (root_place ∷ []) (nodes_of file.now n) }
 {
-    node(file, n, t, 0, Class::Root, 200).is_ok_and(|root| root.behind() == n)
+    let nodes = Nodes {
+        file,
+        count: n,
+        texts: t,
+    };
+    nodes
+        .node(0, Class::Root, 200)
+        .is_ok_and(|root| root.behind() == n)
 }

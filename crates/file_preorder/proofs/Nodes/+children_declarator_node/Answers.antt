@@ -7,8 +7,8 @@ use Rattle.file_preorder.specs.Child.{place, nodes_of}
 use Rattle.file_preorder.specs.declared.Child.TheVariants.{Binding, Other}
 use Rattle.file_fields.proofs.Raws.{nodes-length, node-raw}
 use Rattle.file_preorder.proofs.Fill.{upto-more, fitting-read, fitting-left, fitting-none, fitting-all, fitting-refused, unfit, child-at, fill-shut, fill_none, deep-not, deep-ok, ok-allows, declr-unnamed, declr-no_other, declr-alone, declr-init, declr-bad, rest-same}
-use Rattle.file_preorder.proofs.+children_declarator_node.Goals as goal
-use Rattle.file_preorder.proofs.+children_declarator_node.Goals.{node-then-n-at-via-then-n-at, node-then-n-at-via-else-n-at+then-left-eq0}
+use Rattle.file_preorder.proofs.Nodes.+children_declarator_node.Goals as goal
+use Rattle.file_preorder.proofs.Nodes.+children_declarator_node.Goals.{node-then-self-at-via-then-self-at, node-then-self-at-via-else-self-at+then-left-eq0}
 
 pub children-loop-i-init : goal.children-loop-i-init
 children-loop-i-init t c = fitting-none c.requires
@@ -87,39 +87,39 @@ declarator-returns t c =
     let many = ap (λ (x : Raw). x.arity) (fitting-read c.requires.0 c.raw_at-x.ensures) in
     declr-init c.requires.0 c.requires.1 c.in_ok-name.ensures c.in-Binding.is (λ o. c.if-x-eq1.false (many ∙ o)) c.in_ok-init.ensures c.behind.ensures
 
-pub node-returns-then-n-at : goal.node-returns-then-n-at
-node-returns-then-n-at t c =
+pub node-returns-then-self-at : goal.node-returns-then-self-at
+node-returns-then-self-at t c =
     let a = c.args in
-    let xs = nodes_of a.file.now a.n in
-    let len = nodes-length a.n (drop 32 a.file.now) in
+    let xs = nodes_of a.self.file.now a.self.count in
+    let len = nodes-length a.self.count (drop 32 a.self.file.now) in
     unfit
-    (λ ps. elim c.then-n-at.branch [
-      | node-then-n-at-via-then-n-at w ↦ fill_none a.t xs a.at (place a.c a.left) ps (omega (arith, w.if-n-at.true))
-      | node-then-n-at-via-else-n-at+then-left-eq0 w ↦ fill-shut a.t xs a.at (place a.c a.left) ps (omega (arith, w.if-n-at.false)) (deep-not a.t (place a.c a.left) (get_or xs a.at zero_node) w.if-left-eq0.true)
+    (λ ps. elim c.then-self-at.branch [
+      | node-then-self-at-via-then-self-at w ↦ fill_none a.self.texts xs a.at (place a.c a.left) ps (omega (arith, w.if-self-at.true))
+      | node-then-self-at-via-else-self-at+then-left-eq0 w ↦ fill-shut a.self.texts xs a.at (place a.c a.left) ps (omega (arith, w.if-self-at.false)) (deep-not a.self.texts (place a.c a.left) (get_or xs a.at zero_node) w.if-left-eq0.true)
     ])
 
 pub node-returns-then-not-node_ok : goal.node-returns-then-not-node_ok
 node-returns-then-not-node_ok t c =
     let a = c.args in
     let p = place a.c a.left in
-    let xs = nodes_of a.file.now a.n in
-    let len = nodes-length a.n (drop 32 a.file.now) in
-    let same = c.raw_at-x.ensures ∙ sym (node-raw a.n a.at a.file.now (omega (arith, c.if-n-at.false))) in
-    unfit (λ ps. fill-shut a.t xs a.at p ps (omega (arith, c.if-n-at.false)) (deep-ok a.t p (get_or xs a.at zero_node) (omega (arith, c.if-left-eq0.false)) ∙ rest-same a.t a.c same ∙ sym c.node_ok.ensures ∙ c.if-not-node_ok.true))
+    let xs = nodes_of a.self.file.now a.self.count in
+    let len = nodes-length a.self.count (drop 32 a.self.file.now) in
+    let same = c.raw_at-x.ensures ∙ sym (node-raw a.self.count a.at a.self.file.now (omega (arith, c.if-self-at.false))) in
+    unfit (λ ps. fill-shut a.self.texts xs a.at p ps (omega (arith, c.if-self-at.false)) (deep-ok a.self.texts p (get_or xs a.at zero_node) (omega (arith, c.if-left-eq0.false)) ∙ rest-same a.self.texts a.c same ∙ sym c.node_ok.ensures ∙ c.if-not-node_ok.true))
 
 pub node-declarator-requires : goal.node-declarator-requires
 node-declarator-requires t c =
     let a = c.args in
     let p = place a.c a.left in
-    let low = c.if-n-at.false in
-    let same = c.raw_at-x.ensures ∙ sym (node-raw a.n a.at a.file.now (omega (arith, low))) in (
+    let low = c.if-self-at.false in
+    let same = c.raw_at-x.ensures ∙ sym (node-raw a.self.count a.at a.self.file.now (omega (arith, low))) in (
       omega (arith, c.decreases),
       (
         record {
           room = c.requires.0;
           shallow = c.requires.1;
           less = omega (arith, low);
-          fits = deep-ok a.t p (get_or (nodes_of a.file.now a.n) a.at zero_node) (omega (arith, c.if-left-eq0.false)) ∙ rest-same a.t a.c same ∙ sym c.node_ok.ensures ∙ c.if-not-node_ok.false;
+          fits = deep-ok a.self.texts p (get_or (nodes_of a.self.file.now a.self.count) a.at zero_node) (omega (arith, c.if-left-eq0.false)) ∙ rest-same a.self.texts a.c same ∙ sym c.node_ok.ensures ∙ c.if-not-node_ok.false;
         },
         ap (λ (x : Raw). x.kind) (sym same) ∙ c.if-x-eq6.true,
       ),
@@ -129,13 +129,13 @@ pub node-children-requires : goal.node-children-requires
 node-children-requires t c =
     let a = c.args in
     let p = place a.c a.left in
-    let low = c.if-n-at.false in
-    let same = c.raw_at-x.ensures ∙ sym (node-raw a.n a.at a.file.now (omega (arith, low))) in (
+    let low = c.if-self-at.false in
+    let same = c.raw_at-x.ensures ∙ sym (node-raw a.self.count a.at a.self.file.now (omega (arith, low))) in (
       omega (arith, c.decreases),
       record {
         room = c.requires.0;
         shallow = c.requires.1;
         less = omega (arith, low);
-        fits = deep-ok a.t p (get_or (nodes_of a.file.now a.n) a.at zero_node) (omega (arith, c.if-left-eq0.false)) ∙ rest-same a.t a.c same ∙ sym c.node_ok.ensures ∙ c.if-not-node_ok.false;
+        fits = deep-ok a.self.texts p (get_or (nodes_of a.self.file.now a.self.count) a.at zero_node) (omega (arith, c.if-left-eq0.false)) ∙ rest-same a.self.texts a.c same ∙ sym c.node_ok.ensures ∙ c.if-not-node_ok.false;
       },
     )

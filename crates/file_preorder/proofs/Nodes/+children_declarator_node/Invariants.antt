@@ -3,7 +3,7 @@ use Rattle.std.proofs.Common.{◌+◌, ◌*◌, ◌-◌, get_or}
 use Rattle.def_file.specs.Script.{zero_node}
 use Rattle.file_preorder.specs.Child.{nodes_of}
 use Rattle.file_preorder.proofs.Fill.{Upto}
-use Rattle.file_preorder.proofs.+children_declarator_node.Given as goal
+use Rattle.file_preorder.proofs.Nodes.+children_declarator_node.Given as goal
 
 abbrev pub decreases-children : goal.decreases-children
 decreases-children l = 2 * l.left
@@ -16,4 +16,4 @@ decreases-node l = 2 * l.left + 1
 
 -- the first i children are read
 abbrev pub invariant-children-loop-i : goal.invariant-children-loop-i
-invariant-children-loop-i l = Upto l.t (nodes_of l.file l.n) (l.left - 1) (get_or (nodes_of l.file l.n) l.at zero_node) l.at l.i l.next
+invariant-children-loop-i l = Upto l.self.texts (nodes_of l.self.file.now l.self.count) (l.left - 1) (get_or (nodes_of l.self.file.now l.self.count) l.at zero_node) l.at l.i l.next
