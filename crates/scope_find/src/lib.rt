@@ -364,10 +364,7 @@ fn object_prevented(w: &[u32], i: usize) -> bool
     requires { HasNode w.now i }
     ensures { result ≡ mark_of_id (ident_of (head_t (kids (node_tree w.now i)))) (stack w.now) }
 {
-    if arity_at(w, i) == 0
-        || w[layout::NODE_COUNT] as usize <= i + 1
-        || kind_at(w, i + 1) != 21
-    {
+    if arity_at(w, i) == 0 || w[layout::NODE_COUNT] as usize <= i + 1 || kind_at(w, i + 1) != 21 {
         return false;
     }
     ident_prevented(w, ident_at(w, i + 1))

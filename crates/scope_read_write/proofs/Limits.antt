@@ -7,6 +7,7 @@ use native.Mathlib.Omega.{arith}
 use borrow.Author.Tests.{lt-ltb}
 use lib.ListN.{get_or, length-append}
 use lib.Dec.{ltb}
+use Rattle.def_tree.specs.Base.{pick}
 use Rattle.def_tree.specs.Combine.{done, stop}
 use Rattle.def_pass.specs.Scope.{VarInfo, Scope, Stack, append, recorded_nodes, live}
 use Rattle.def_pass.specs.Walk.{St, set_stack, grow}
@@ -48,6 +49,13 @@ becomes-then f a b = record {
   others = record { low = λ j l h. b.others.low j l h ∙ a.others.low j l h; high = λ j l h. b.others.high j l h ∙ a.others.high j l h };
   rest = b.rest ∙ a.rest;
 }
+
+-- a step where a test says so
+pub step-yes : {w u v : List ℕ} {s : Stack} {p : Bool} (t : Stack) → p ≡ true → v ≡ u → Becomes w u s → Becomes w v (pick p s t)
+step-yes t e q b = rw (e, q) b
+
+pub step-no : {w v : List ℕ} {p : Bool} (s : Stack) → Good w → p ≡ false → v ≡ w → Becomes w v (pick p s (stack w))
+step-no {w} s g e q = rw (e, q) (becomes-self w g)
 
 pub still : {w w' : List ℕ} {st : Stack} → Becomes w w' st → Still w w'
 still b = record { good = b.good; tree = b.tree; others = b.others; rest = b.rest }

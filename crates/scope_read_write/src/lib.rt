@@ -50,7 +50,14 @@ fn write_free(w: &mut [u32], x: u8, force: bool) -> Result<(), Refusal>
     if 256 <= w[layout::BINDING_COUNT] + w[layout::CONSTANT_COUNT] {
         return Err(Refusal::Room);
     }
-    push(w, x, VarType::Declared(VarDeclKind::Var), None, force, false);
+    push(
+        w,
+        x,
+        VarType::Declared(VarDeclKind::Var),
+        None,
+        force,
+        false,
+    );
     Ok(())
 }
 

@@ -38,9 +38,11 @@ outside-p-requires c =
 pub loop-k-preserved : goal.loop-k-preserved
 loop-k-preserved c =
     let w = c.args.w.now in
-    let k = c.loop-k.k in
-    (c.loop-k.invariant.0 ∙ ap (held c.args.x) (out.turn w k c.requires.0 (omega arith) (omega (arith, c.requires.1)))
-    ∙ facts.held_next c.args.x (scope_at w (k - 1)) (below w (k - 1)) (facts.unresolved-at w (k - 1) c.args.x (omega arith) ∙ sym c.flag_at.ensures ∙ c.if-flag_at.false) (ap is_hoisted_prevented c.found_from.ensures.is ∙ sym c.hoisted_prevented.ensures ∙ c.if-hoisted_prevented.false), c.outside-p.ensures)
+    let k = c.loop-k.k in (
+      c.loop-k.invariant.0 ∙ ap (held c.args.x) (out.turn w k c.requires.0 (omega arith) (omega (arith, c.requires.1)))
+          ∙ facts.held_next c.args.x (scope_at w (k - 1)) (below w (k - 1)) (facts.unresolved-at w (k - 1) c.args.x (omega arith) ∙ sym c.flag_at.ensures ∙ c.if-flag_at.false) (ap is_hoisted_prevented c.found_from.ensures.is ∙ sym c.hoisted_prevented.ensures ∙ c.if-hoisted_prevented.false),
+      c.outside-p.ensures,
+    )
 
 pub returns : goal.returns
 returns c = sym (c.loop-k.invariant.0 ∙ ap (held c.args.x) (out.below_end c.args.w.now c.loop-k.k (omega arith)))

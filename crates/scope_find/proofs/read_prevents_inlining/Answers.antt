@@ -21,6 +21,6 @@ returns c =
     let w = c.args.w.now in
     c.write_prevents_inline.ensures ∙ sym (elim c.match-find_binding.branch [
       | in-Some+else-not-is_var+else-hoisted v ↦ facts.reads-var c.args.x (stack w) (bind_at w v.in-Some.k) (facts.found_at w c.args.x (suc v.in-Some.k) v.in-Some.ensures.place)
-        (ap is_var (sym v.var_type.ensures) ∙ sym v.is_var.ensures ∙ v.if-not-is_var.false) (sym v.hoisted.ensures ∙ v.if-hoisted.false)
+          (ap is_var (sym v.var_type.ensures) ∙ sym v.is_var.ensures ∙ v.if-not-is_var.false) (sym v.hoisted.ensures ∙ v.if-hoisted.false)
       | in_default v ↦ facts.reads-free c.args.x (stack w) (facts.found_at w c.args.x 0 v.in_default.ensures.place)
     ])

@@ -20,8 +20,8 @@ returns-then-is_some c =
     elim c.if-d-le1.branch [
       | then-d-le1 v ↦ (c.bound_outwards.ensures, c.if-is_some.true ∙ sym (facts.root-current x w c.requires v.if-d-le1.true))
       | else-d-le1 v ↦
-        let n : has_in x s.bindings ≡ true = out.has-it v.found_in.result v.found_in.ensures v.is_some.ensures ∙ sym v.value-is ∙ c.if-is_some.true in
-        (c.bound_outwards.ensures, c.if-is_some.true ∙ sym (facts.inner-current x w c.requires v.if-d-le1.false ∙ rw n (facts.or-true (is_some (const_in x s.constants)))))
+          let n : has_in x s.bindings ≡ true = out.has-it v.found_in.result v.found_in.ensures v.is_some.ensures ∙ sym v.value-is ∙ c.if-is_some.true in
+          (c.bound_outwards.ensures, c.if-is_some.true ∙ sym (facts.inner-current x w c.requires v.if-d-le1.false ∙ rw n (facts.or-true (is_some (const_in x s.constants)))))
     ]
 
 pub returns-else-is_some : goal.returns-else-is_some
@@ -32,6 +32,6 @@ returns-else-is_some c =
     elim c.if-d-le1.branch [
       | then-d-le1 v ↦ let n : true ≡ false = sym (le-leb (get_or w 2 0) 1 v.if-d-le1.true) ∙ sym v.value-is ∙ c.if-is_some.false in cc
       | else-d-le1 v ↦
-        let n : has_in x s.bindings ≡ false = out.has-it v.found_in.result v.found_in.ensures v.is_some.ensures ∙ sym v.value-is ∙ c.if-is_some.false in
-        (c.bound_outwards.ensures, c.const_in.ensures ∙ sym (facts.inner-current x w c.requires v.if-d-le1.false ∙ rw n (facts.or-false (is_some (const_in x s.constants)))))
+          let n : has_in x s.bindings ≡ false = out.has-it v.found_in.result v.found_in.ensures v.is_some.ensures ∙ sym v.value-is ∙ c.if-is_some.false in
+          (c.bound_outwards.ensures, c.const_in.ensures ∙ sym (facts.inner-current x w c.requires v.if-d-le1.false ∙ rw n (facts.or-false (is_some (const_in x s.constants)))))
     ]

@@ -35,9 +35,11 @@ loop-k-preserved c =
     let w = c.args.w.now in
     let k = c.loop-k.k in
     let q : k ≡ suc (k - 1) = omega arith in
-    let n = out.has-it c.found_in.result c.found_in.ensures c.is_some.ensures ∙ c.if-is_some.false in
-    (c.loop-k.invariant.0 ∙ ap (write_prevents_inline c.args.x) (out.turn w k c.requires (omega arith) (omega arith))
-    ∙ out.writes-on c.args.x (scope_at w (k - 1)) (below w (k - 1)) n (ap is_block (out.kind-here w (k - 1) ∙ ap scope_kind_of c.if-w-k-ne2.false)), c.loop-k.invariant.1 ∙ ap (place_below w c.args.x) q ∙ places.outer-none w c.requires (k - 1) (omega arith) c.args.x n)
+    let n = out.has-it c.found_in.result c.found_in.ensures c.is_some.ensures ∙ c.if-is_some.false in (
+      c.loop-k.invariant.0 ∙ ap (write_prevents_inline c.args.x) (out.turn w k c.requires (omega arith) (omega arith))
+          ∙ out.writes-on c.args.x (scope_at w (k - 1)) (below w (k - 1)) n (ap is_block (out.kind-here w (k - 1) ∙ ap scope_kind_of c.if-w-k-ne2.false)),
+      c.loop-k.invariant.1 ∙ ap (place_below w c.args.x) q ∙ places.outer-none w c.requires (k - 1) (omega arith) c.args.x n,
+    )
 
 pub returns : goal.returns
 returns c = sym (c.loop-k.invariant.0 ∙ ap (write_prevents_inline c.args.x) (out.below_end c.args.w.now c.loop-k.k (omega arith)))

@@ -14,13 +14,14 @@ returns c =
     let x = c.args.x in
     let u = c.if-read_prevents_inlining.w in
     let v = c.if-args.w in
+    let p = c.read_prevents_inlining.ensures in
     let marked : Becomes w u (pick (read_prevents_inlining x (stack w)) (prevent_inline x (stack w)) (stack w)) = elim c.if-read_prevents_inlining.branch [
-      | then-read_prevents_inlining t ↦ rw (sym c.read_prevents_inlining.ensures ∙ t.if-read_prevents_inlining.true, t.w-is) t.prevent_inline.ensures
-      | else-read_prevents_inlining t ↦ rw (sym c.read_prevents_inlining.ensures ∙ t.if-read_prevents_inlining.false, t.w-is) (limits.becomes-self w c.requires)
+      | then-read_prevents_inlining t ↦ limits.step-yes (stack w) (sym p ∙ t.if-read_prevents_inlining.true) t.w-is t.prevent_inline.ensures
+      | else-read_prevents_inlining t ↦ limits.step-no (prevent_inline x (stack w)) c.requires (sym p ∙ t.if-read_prevents_inlining.false) t.w-is
     ] in
     let params : Becomes u v (pick c.args.args (prevent_inline_of_params (stack u)) (stack u)) = elim c.if-args.branch [
-      | then-args t ↦ rw (t.if-args.true, t.w-is) t.prevent_inline_of_params.ensures
-      | else-args t ↦ rw (t.if-args.false, t.w-is) (limits.becomes-self u marked.good)
+      | then-args t ↦ limits.step-yes (stack u) t.if-args.true t.w-is t.prevent_inline_of_params.ensures
+      | else-args t ↦ limits.step-no (prevent_inline_of_params (stack u)) marked.good t.if-args.false t.w-is
     ] in
     limits.becomes-then (λ (st : Stack). pick (is_some (find_binding x st)) (change x read_once st) (add_unresolved x st))
     (limits.becomes-then (λ (st : Stack). pick c.args.args (prevent_inline_of_params st) st) marked params) c.count_read.ensures

@@ -18,13 +18,13 @@ returns-then-s c =
     let e : (scope_for true x (stack w)).0 ≡ true = sym c.scope_for-s.ensures.0 ∙ c.if-s.true in
     let marks : c.if-far.write_bound ≡ ((not here || force) && not m) = elim c.if-not-s.branch [
       | then-not-s u ↦ elim c.if-far.branch [
-          | then-far v ↦ rw u.if-not-s.true v.write_bound-is
-          | else-far v ↦ let z : not here ≡ false = sym u.far-is ∙ v.if-far.false in let y : true ≡ false = rw u.if-not-s.true at z in cc
-        ]
+        | then-far v ↦ rw u.if-not-s.true v.write_bound-is
+        | else-far v ↦ let z : not here ≡ false = sym u.far-is ∙ v.if-far.false in let y : true ≡ false = rw u.if-not-s.true at z in cc
+      ]
       | else-not-s u ↦ elim c.if-far.branch [
-          | then-far v ↦ rw (u.if-not-s.false, sym u.far-is ∙ v.if-far.true) v.write_bound-is
-          | else-far v ↦ rw (u.if-not-s.false, sym u.far-is ∙ v.if-far.false) (v.write_bound-is ∙ v.if-far.false)
-        ]
+        | then-far v ↦ rw (u.if-not-s.false, sym u.far-is ∙ v.if-far.true) v.write_bound-is
+        | else-far v ↦ rw (u.if-not-s.false, sym u.far-is ∙ v.if-far.false) (v.write_bound-is ∙ v.if-far.false)
+      ]
     ] in
     let far : Bool = not (scope_for true x (stack w)).1 || force in
     let after = rw (marks ∙ ap (λ (h : Bool). (not h || force) && not m) c.scope_for-s.ensures.1) at c.write_bound.ensures in
