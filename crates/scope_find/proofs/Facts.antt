@@ -23,7 +23,11 @@ use Rattle.words.specs.Tab.{tab, get_d-tab, get_d-tab-out}
 use Rattle.words.specs.Layout.{yes, core_from, node_of, tree}
 use Rattle.words.proofs.Nodes.{run_length, run-at, tree-length, tree-at}
 use Rattle.words.specs.Flags.{flag_at}
-use Rattle.words_scopes.specs.State.{bind_at, unres_at, value_of, var_type_of, len_at, off, run_at, heads, binds, stack, Good, place, index_in, Named}
+use Rattle.words_scopes.specs.declared.kinds.VarDeclKind.TheVariants.{Var, Let, Const}
+use Rattle.words_scopes.specs.declared.kinds.VarType.{VarType as Kind}
+use Rattle.words_scopes.specs.declared.kinds.VarType.TheVariants.{Param, Declared}
+use Rattle.words_scopes.specs.Kinds.{type_of}
+use Rattle.words_scopes.specs.State.{bind_at, unres_at, value_of, len_at, off, run_at, heads, binds, stack, Good, place, index_in, Named}
 use Rattle.words_scopes.proofs.Split as laws
 use Rattle.words_scopes.proofs.Look as outwards
 use Rattle.scope_find.specs.Look.{first, scope_at, below, at_place, kind_o, held, node_tree}
@@ -90,11 +94,11 @@ module _ (b : VarInfo) where
     prevented-value s = rw (e, s) refl
 
 -- read_prevents_inlining, by the binding found
-pub var-no : (n : ℕ) → (n ≡ 1 → ⊥) → is_var (var_type_of n) ≡ false
-var-no zero h = refl
-var-no (suc zero) h = absurd (h refl)
-var-no (suc (suc zero)) h = refl
-var-no (suc (suc (suc n))) h = refl
+pub var-other : (t : Kind) → (t ≡ Declared Var → ⊥) → is_var (type_of t) ≡ false
+var-other Param h = refl
+var-other (Declared Var) h = absurd (h refl)
+var-other (Declared Let) h = refl
+var-other (Declared Const) h = refl
 
 module _ (x : ℕ) (st : Stack) where
   pub reads-free : find_binding x st ≡ none → read_prevents_inlining x st ≡ write_prevents_inline x st

@@ -13,9 +13,11 @@ use lib.ListN.{length, get_or, drop, length-drop}
 use lib.Dec.{eqb}
 use lib.Seq.{get_or-drop}
 use Rattle.def_tree.specs.Tree.{Tree}
-use Rattle.def_pass.specs.Scope.{VarInfo, Scope, Stack, is_fn, is_loop, is_block, is_some, find_in, has_in, const_in, write_prevents_inline, has_constant, in_loop}
+use Rattle.def_pass.specs.Scope.{VarInfo, Scope, Stack, fn, is_fn, is_loop, is_block, is_some, find_in, has_in, const_in, write_prevents_inline, has_constant, in_loop}
 use Rattle.words.specs.Tab.{tab, length-tab, get_d-tab}
-use Rattle.words_scopes.specs.Kinds.{scope_kind_of}
+use Rattle.words_scopes.specs.declared.kinds.ScopeKind.{ScopeKind as Kind}
+use Rattle.words_scopes.specs.declared.kinds.ScopeKind.TheVariants.{Cond, Loop, Block, Fn}
+use Rattle.words_scopes.specs.Kinds.{kind_of, scope_kind_of}
 use Rattle.words_scopes.specs.State.{bind_at, const_at, heads_at, heads, stack, Fits, CFits, Good}
 use Rattle.words_scopes.proofs.Split as laws
 use Rattle.words_scopes.proofs.Look as outwards
@@ -155,32 +157,24 @@ pub current : (w : List ℕ) (k : ℕ) → Good w → suc k ≡ get_or w 2 0 →
 current w k g e = below_all w ∙ ap (below w) (sym e) ∙ below_next w g k (omega arith)
 
 -- a scope's kind by its number
-pub block_no : (n : ℕ) → (n ≡ 2 → ⊥) → is_block (scope_kind_of n) ≡ false
-block_no zero h = refl
-block_no (suc zero) h = refl
-block_no (suc (suc zero)) h = absurd (h refl)
-block_no (suc (suc (suc zero))) h = refl
-block_no (suc (suc (suc (suc n)))) h = refl
+pub fn_named : (n : ℕ) → 4 ≤ n → scope_kind_of n ≡ fn true
+fn_named zero h = absurd (omega arith)
+fn_named (suc zero) h = absurd (omega arith)
+fn_named (suc (suc zero)) h = absurd (omega arith)
+fn_named (suc (suc (suc zero))) h = absurd (omega arith)
+fn_named (suc (suc (suc (suc n)))) h = refl
 
-pub fn-yes : (n : ℕ) → 3 ≤ n → is_fn (scope_kind_of n) ≡ true
-fn-yes zero h = absurd (omega arith)
-fn-yes (suc zero) h = absurd (omega arith)
-fn-yes (suc (suc zero)) h = absurd (omega arith)
-fn-yes (suc (suc (suc zero))) h = refl
-fn-yes (suc (suc (suc (suc n)))) h = refl
+pub block_other : (t : Kind) → (t ≡ Block → ⊥) → is_block (kind_of t) ≡ false
+block_other Cond h = refl
+block_other Loop h = refl
+block_other Block h = absurd (h refl)
+block_other (Fn b) h = refl
 
-pub fn-no : (n : ℕ) → n < 3 → is_fn (scope_kind_of n) ≡ false
-fn-no zero h = refl
-fn-no (suc zero) h = refl
-fn-no (suc (suc zero)) h = refl
-fn-no (suc (suc (suc n))) h = absurd (omega arith)
-
-pub loop-no : (n : ℕ) → (n ≡ 1 → ⊥) → is_loop (scope_kind_of n) ≡ false
-loop-no zero h = refl
-loop-no (suc zero) h = absurd (h refl)
-loop-no (suc (suc zero)) h = refl
-loop-no (suc (suc (suc zero))) h = refl
-loop-no (suc (suc (suc (suc n)))) h = refl
+pub fn_other : (t : Kind) → ((b : Bool) → t ≡ Fn b → ⊥) → is_fn (kind_of t) ≡ false
+fn_other Cond h = refl
+fn_other Loop h = refl
+fn_other Block h = refl
+fn_other (Fn b) h = absurd (h b refl)
 
 pub kind-here : (w : List ℕ) (k : ℕ) → (scope_at w k).kind ≡ scope_kind_of (get_or w (7184 + k * 4) 0)
 unfolding scope_at

@@ -3,18 +3,18 @@
 
 ghost use Rattle.std.specs.Prelude.{◌≡◌, suc, ◌+◌, ◌*◌, ◌-◌, ◌≤◌, ◌<◌, true, ◌||◌, eqb, ltb, ◌⊎◌, get_or};
 ghost use Rattle.std.proofs.Math.Option.{some};
-ghost use Rattle.def_pass.specs.Scope.{is_some, const_in, find_binding, find_binding_from_current, write_prevents_inline, read_prevents_inlining, should_prevent_inline_because_of_scope, var_inline_prevented, is_hoisted_prevented, is_inline_prevented, is_var, mark_of, mark_of_id, ident_of, has_same_this, has_constant, scope_for, in_loop, any_from, between};
+ghost use Rattle.def_pass.specs.Scope.{is_some, const_in, find_binding, find_binding_from_current, write_prevents_inline, read_prevents_inlining, should_prevent_inline_because_of_scope, var_inline_prevented, is_hoisted_prevented, is_inline_prevented, mark_of, mark_of_id, ident_of, has_same_this, has_constant, scope_for, in_loop, any_from, between};
 ghost use Rattle.def_tree.specs.Tree.{kids};
 ghost use Rattle.def_pass.specs.Tree.{head_t};
 ghost use Rattle.words.specs.Layout.{yes, node_of};
 ghost use Rattle.words.specs.Place.{placed};
-ghost use Rattle.words_scopes.specs.Kinds.{type_of};
+ghost use Rattle.words_scopes.specs.Kinds.{type_of, kind_of};
 ghost use Rattle.words_scopes.specs.State.{Good, stack, heads, binds, place, bind_at, len_at, off};
 ghost use Rattle.scope_find.specs.Look.{HasScope, HasBinding, HasNode, start, first, scope_at, below, at_place, place_below, FoundIn, idx_here, idx_at, reads_o, kind_o, node_tree, held, bars_here, bound_here};
 ghost use Rattle.scope_find.specs.Answers.{count_of};
 
 use words::{arity_at, first_at, flag_at, kind_at, layout, num_at};
-use words_scopes::kinds::{VarDeclKind, VarType};
+use words_scopes::kinds::{ScopeKind, VarDeclKind, VarType};
 use words_scopes::{find_binding, offset};
 
 // scope_for: is the identifier bound in the scope found, and is that the current one.
@@ -41,6 +41,20 @@ pub fn first_of(w: &[u32], k: usize) -> usize
     ensures { result ≡ first w.now k }
 {
     start_of(w, k, layout::FIRST_BINDING, layout::BINDING_COUNT)
+}
+
+// Scope k's kind.
+pub fn scope_kind(w: &[u32], k: usize) -> ScopeKind
+    requires { HasScope w.now k }
+    ensures { kind_of result ≡ (scope_at w.now k).kind }
+{
+    match w[layout::SCOPES + k * 4] {
+        0 => ScopeKind::Cond,
+        1 => ScopeKind::Loop,
+        2 => ScopeKind::Block,
+        3 => ScopeKind::Fn { named: false },
+        _ => ScopeKind::Fn { named: true },
+    }
 }
 
 // The binding of x in scope k; p is the innermost one in the scopes up to k.
@@ -116,7 +130,7 @@ pub fn write_prevents_inline(w: &[u32], x: u8) -> bool
         if found_in(w, k, x).is_some() {
             return false;
         }
-        if w[layout::SCOPES + k * 4] != 2 {
+        if scope_kind(w, k) != ScopeKind::Block {
             return true;
         }
     }
@@ -129,11 +143,10 @@ pub fn in_loop(w: &[u32]) -> bool
     ensures { result ≡ in_loop (stack w.now) }
 {
     for k in (0..w[layout::SCOPE_COUNT] as usize).rev() {
-        if 3 <= w[layout::SCOPES + k * 4] {
-            return false;
-        }
-        if w[layout::SCOPES + k * 4] == 1 {
-            return true;
+        match scope_kind(w, k) {
+            ScopeKind::Fn { .. } => return false,
+            ScopeKind::Loop => return true,
+            ScopeKind::Cond | ScopeKind::Block => {}
         }
     }
     false
@@ -250,20 +263,13 @@ pub fn read_cnt(w: &[u32], x: u8) -> Option<u32>
     Some(w[layout::BINDINGS + k * 10 + layout::READS])
 }
 
-// Is it the type of a `var`.
-fn is_var(t: VarType) -> bool
-    ensures { result ≡ is_var (type_of t) }
-{
-    matches!(t, VarType::Declared(VarDeclKind::Var))
-}
-
 // Outwards, is a function, a loop or a condition met before the binding: of a `var` that is not hoisted.
 pub fn read_prevents_inlining(w: &[u32], x: u8) -> bool
     requires { Good w.now }
     ensures { result ≡ read_prevents_inlining x (stack w.now) }
 {
     if let Some(k) = find_binding(w, x) {
-        if !is_var(var_type(w, k)) || hoisted(w, k) {
+        if var_type(w, k) != VarType::Declared(VarDeclKind::Var) || hoisted(w, k) {
             return false;
         }
     }
@@ -345,10 +351,10 @@ pub fn ident_prevented(w: &[u32], x: u8) -> bool
     requires { Good w.now }
     ensures { result ≡ mark_of (find_binding x (stack w.now)) }
 {
-    let Some(k) = find_binding(w, x) else {
+    let Some(b) = find_binding(w, x) else {
         return false;
     };
-    inline_prevented(w, k)
+    inline_prevented(w, b)
 }
 
 // The identifier of node i.

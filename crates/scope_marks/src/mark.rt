@@ -6,9 +6,10 @@ ghost use Rattle.words_scopes.specs.State.{Good, Becomes, stack, heads, flags, b
 ghost use Rattle.scope_find.specs.Look.{HasScope, fn_start, params_from};
 ghost use Rattle.scope_find.specs.Touched.{BarStored};
 
-use scope_find::first_of;
+use scope_find::{first_of, scope_kind};
 use words::{layout, set_flag};
 use words_scopes::find_binding;
+use words_scopes::kinds::ScopeKind;
 
 // What `this` is matters to the innermost binding of x.
 pub fn mark_this_sensitive(w: &mut [u32], x: u8)
@@ -65,8 +66,8 @@ fn fn_start(w: &[u32]) -> usize
     ensures { result ≡ fn_start (heads w.now) }
 {
     for k in (0..w[layout::SCOPE_COUNT] as usize).rev() {
-        if 3 <= w[layout::SCOPES + k * 4] {
-            return w[layout::SCOPES + k * 4 + layout::FIRST_BINDING] as usize;
+        if let ScopeKind::Fn { .. } = scope_kind(w, k) {
+            return first_of(w, k);
         }
     }
     0

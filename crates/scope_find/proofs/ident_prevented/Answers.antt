@@ -8,4 +8,4 @@ pub returns-in_default : goal.returns-in_default
 returns-in_default c = sym (ap mark_of (facts.found_at c.args.w.now c.args.x 0 c.in_default.ensures.place))
 
 pub returns : goal.returns
-returns c = c.inline_prevented.ensures ∙ sym (ap mark_of (facts.found_at c.args.w.now c.args.x (suc c.in-Some.k) c.in-Some.ensures.place))
+returns c = c.inline_prevented.ensures ∙ sym (ap mark_of (facts.found_at c.args.w.now c.args.x (suc c.in-Some.b) c.in-Some.ensures.place))

@@ -1,5 +1,6 @@
 -- Outwards: the invariant is that the answer is that of the scopes left. Assumes nothing.
 use Rattle.std.proofs.Common.{◌≡◌, ℕ, ◌+◌, ◌*◌, ◌-◌, get_or, refl, sym, ap, ◌∙◌, arith}
+use Rattle.def_pass.specs.Scope.{is_fn}
 use Rattle.words_scopes.specs.State.{heads, heads_at}
 use Rattle.scope_find.specs.Look.{fn_start}
 use Rattle.scope_marks.proofs.Fields as fields
@@ -10,17 +11,17 @@ pub loop-k-init : goal.loop-k-init
 unfolding heads
 loop-k-init c = refl
 
-pub returns-then-w-k-ge3 : goal.returns-then-w-k-ge3
-returns-then-w-k-ge3 c =
+pub returns-in-Fn : goal.returns-in-Fn
+returns-in-Fn c =
     let w = c.args.w.now in
     let k = c.loop-k.k in
-    sym (c.loop-k.invariant ∙ fields.start-here w k (omega arith) (out.fn-yes (get_or w (7184 + (k - 1) * 4) 0) c.if-w-k-ge3.true))
+    c.first_of.ensures ∙ out.first-in w (k - 1) (omega arith) ∙ sym (c.loop-k.invariant ∙ fields.start-here w k (omega arith) (ap is_fn (sym (out.kind-here w (k - 1)) ∙ sym c.in-Fn.ensures)))
 
 pub loop-k-preserved : goal.loop-k-preserved
 loop-k-preserved c =
     let w = c.args.w.now in
     let k = c.loop-k.k in
-    c.loop-k.invariant ∙ fields.start-next w k (omega arith) (out.fn-no (get_or w (7184 + (k - 1) * 4) 0) c.if-w-k-ge3.false)
+    c.loop-k.invariant ∙ fields.start-next w k (omega arith) (ap is_fn (sym (out.kind-here w (k - 1)) ∙ sym c.scope_kind.ensures) ∙ out.fn_other c.scope_kind.result c.in_default.not-Fn)
 
 pub returns : goal.returns
 unfolding heads_at
