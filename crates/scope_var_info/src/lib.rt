@@ -187,8 +187,8 @@ pub fn put_constant(w: &mut [u32], i: usize, p: u32, x: u8) -> Result<(), Refusa
     requires { Planted w.old }
     ensures { (Puts result w.old w.new p i (tree_o (tree w.old) i) (find_constant x (stack w.old))) × (Free (targeted w.old) (find_constant x (stack w.old))) }
 {
-    let Some(r) = scope_constants::find_constant(w, x) else {
-        return Ok(());
-    };
-    put_held(w, i, p, layout::CONSTANT_VALUES, r)
+    match scope_constants::find_constant(w, x) {
+        None => Ok(()),
+        Some(r) => put_held(w, i, p, layout::CONSTANT_VALUES, r),
+    }
 }

@@ -10,8 +10,8 @@ use Rattle.scope_var_info.proofs.put_constant.Goals as goal
 pub put_held-requires : goal.put_held-requires
 put_held-requires c = (c.requires, omega arith, omega arith, (numbers.const-at c.args.w.now c.args.x c.in-Some.r c.in-Some.ensures).1)
 
-pub returns : goal.returns
-returns c =
+pub returns-in-Some : goal.returns-in-Some
+returns-in-Some c =
     let w = c.args.w.now in
     let x = c.args.x in
     let found = numbers.const-at w x c.in-Some.r c.in-Some.ensures in
