@@ -29,7 +29,7 @@ use Rattle.scope_define.specs.declared.Init.{Init}
 use Rattle.scope_define.specs.declared.Init.TheVariants.{NoInit, Recorded, Seen}
 use Rattle.scope_redeclare.proofs.Top.{stack_top}
 use Rattle.scope_find.specs.Look.{idx_here, bound_here, node_tree}
-use Rattle.scope_find.proofs.Facts.{placed, idx-find, node-tree, or-false}
+use Rattle.scope_find.proofs.Facts.{with_index, idx-find, node-tree, or-false}
 use Rattle.words_nodes.specs.Nodes.{Planted, tree_from}
 use Rattle.words_nodes.proofs.Splice.{subtree-run, subtree-one}
 use Rattle.scope_declare.specs.Inits.{place_here, barred_here, works_with, init_from, has_none, Valued, Sited}
@@ -39,13 +39,13 @@ abbrev pub kind_of_o : Option VarInfo → Option VarType
 kind_of_o none = none
 kind_of_o (some b) = some b.kind
 
-placed-kind : (n : ℕ) (o : Option VarInfo) → alias_from (placed n o) ≡ kind_of_o o
-placed-kind n none = refl
-placed-kind n (some b) = refl
+with_index-kind : (n : ℕ) (o : Option VarInfo) → alias_from (with_index n o) ≡ kind_of_o o
+with_index-kind n none = refl
+with_index-kind n (some b) = refl
 
 pub alias-find : (y : ℕ) (st : Stack) → alias_from (idx_here y st) ≡ kind_of_o (find_binding_from_current y st)
 alias-find y [] = refl
-alias-find y (s ∷ st) = ap alias_from (idx-find 0 y s.bindings) ∙ placed-kind (0 + index_in y s.bindings) (find_in y s.bindings)
+alias-find y (s ∷ st) = ap alias_from (idx-find 0 y s.bindings) ∙ with_index-kind (0 + index_in y s.bindings) (find_in y s.bindings)
 
 -- a place is one of the bindings, or behind them
 index-by : (x : ℕ) (b : VarInfo) (bs : List VarInfo) (p : Bool) → eqb b.id x ≡ p → index_in x (b ∷ bs) ≡ elim p [ true ↦ 0 | false ↦ suc (index_in x bs) ]
@@ -55,13 +55,13 @@ index-le : (x : ℕ) (bs : List VarInfo) → index_in x bs ≤ length bs
 index-le x [] = omega arith
 index-le x (b ∷ bs) = laws.tested (eqb b.id x) (λ e. rw (index-by x b bs true e) (omega arith)) (λ e. rw (index-by x b bs false e) (omega (arith, index-le x bs)))
 
-placed-le : (n m : ℕ) (o : Option VarInfo) → n ≤ m → place_or m (placed n o) ≤ m
-placed-le n m none h = omega arith
-placed-le n m (some b) h = h
+with_index-le : (n m : ℕ) (o : Option VarInfo) → n ≤ m → place_or m (with_index n o) ≤ m
+with_index-le n m none h = omega arith
+with_index-le n m (some b) h = h
 
 pub place-le : (x : ℕ) (st : Stack) → place_here x st ≤ bound_here st
 place-le x [] = omega arith
-place-le x (s ∷ st) = rw (idx-find 0 x s.bindings) (placed-le (0 + index_in x s.bindings) (length s.bindings) (find_in x s.bindings) (omega (arith, index-le x s.bindings)))
+place-le x (s ∷ st) = rw (idx-find 0 x s.bindings) (with_index-le (0 + index_in x s.bindings) (length s.bindings) (find_in x s.bindings) (omega (arith, index-le x s.bindings)))
 
 module _ (w : List ℕ) (g : Good w) where
   pub bound-here : 0 < get_or w 2 0 → bound_here (stack w) ≡ get_or w 1 0 - get_or w (7184 + (get_or w 2 0 - 1) * 4 + 1) 0

@@ -25,7 +25,7 @@ use Rattle.words_scopes.specs.State.{Good, Head, Fits, split, heads, flags, bind
 use Rattle.words_scopes.proofs.Split.{no_bind, tested}
 use Rattle.scope_values.proofs.Count.{length-binds, fits-binds, nodes-bind}
 use Rattle.scope_find.specs.Look.{node_tree, at_place, idx_here, idx_at, first}
-use Rattle.scope_find.proofs.Facts.{placed, idx-find}
+use Rattle.scope_find.proofs.Facts.{with_index as at_index, idx-find}
 use Rattle.words_nodes.specs.Nodes.{tree_from, value_from, Swapped}
 use Rattle.words_nodes.proofs.Trees.{count-some}
 use Rattle.words_nodes.proofs.Splice.{run-count}
@@ -222,12 +222,12 @@ find-elem x (c ∷ bs) b e = tested (eqb c.id x)
     (λ t. rw (index-by x c bs true t) (sym (find-by x c bs true t) ∙ e))
     (λ t. rw (index-by x c bs false t) (find-elem x bs b (sym (find-by x c bs false t) ∙ e)))
 
-placed-binding : (n : ℕ) (o : Option VarInfo) → binding_o (placed n o) ≡ o
-placed-binding n none = refl
-placed-binding n (some b) = refl
+at_index-binding : (n : ℕ) (o : Option VarInfo) → binding_o (at_index n o) ≡ o
+at_index-binding n none = refl
+at_index-binding n (some b) = refl
 
-placed-index : (n : ℕ) (o : Option VarInfo) (b : VarInfo) → o ≡ some b → index_o (placed n o) ≡ n
-placed-index n o b e = ap (λ (p : Option VarInfo). index_o (placed n p)) e
+at_index-index : (n : ℕ) (o : Option VarInfo) (b : VarInfo) → o ≡ some b → index_o (at_index n o) ≡ n
+at_index-index n o b e = ap (λ (p : Option VarInfo). index_o (at_index n p)) e
 
 pub index_is : (w : List ℕ) (st : Stack) (x r : ℕ) → idx_here x st ≡ idx_at w r → idx_here x st ≡ indexed st r
 index_is w [] x r e = refl
@@ -235,7 +235,7 @@ index_is w (s ∷ st) x zero e = e
 index_is w (s ∷ st) x (suc j) e =
     let b = bind_at w (first w (get_or w 2 0 - 1) + j) in
     let o = find_in x s.bindings in
-    let q : placed (0 + index_in x s.bindings) o ≡ some (j, b) = sym (idx-find 0 x s.bindings) ∙ e in
-    let f : o ≡ some b = sym (placed-binding (0 + index_in x s.bindings) o) ∙ ap binding_o q in
-    let i : index_in x s.bindings ≡ j = omega (arith, sym (placed-index (0 + index_in x s.bindings) o b f) ∙ ap index_o q) in
+    let q : at_index (0 + index_in x s.bindings) o ≡ some (j, b) = sym (idx-find 0 x s.bindings) ∙ e in
+    let f : o ≡ some b = sym (at_index-binding (0 + index_in x s.bindings) o) ∙ ap binding_o q in
+    let i : index_in x s.bindings ≡ j = omega (arith, sym (at_index-index (0 + index_in x s.bindings) o b f) ∙ ap index_o q) in
     e ∙ sym (ap (with_index j) (rw i at (find-elem x s.bindings b f)))
