@@ -35,7 +35,8 @@ pub fn find_binding(w: &[u32], x: u8) -> Option<usize>
     ensures place { placed result ≡ place x (heads w.now) (binds w.now) }
     ensures bound { IfSome result (λ k. k < slice_index w.now 1) }
 {
-    (w[layout::INDEX + x as usize] as usize).checked_sub(1)
+    let n = w[layout::INDEX + x as usize] as usize;
+    if n == 0 { None } else { Some(n - 1) }
 }
 
 // The same by a walk from the current scope to the root.
@@ -129,7 +130,8 @@ fn records(w: &[u32], k: usize, at: usize) -> [Binding; 8]
     bs
 }
 
-// The same records, x and its aliases among them marked.
+// The same records, x and its aliases among them marked; beside the pass, so that the pass keeps its registers.
+#[inline(never)]
 fn marks_of(w: &[u32], k: usize, at: usize, x: u8) -> [Binding; 8]
     requires { (Good w.now) × (k < slice_index w.now 1) × (at ≡ off w.now k) }
     ensures { Window (marked x) w.now k result }
