@@ -7,8 +7,8 @@ ghost use Rattle.def_tree.specs.Combine.{many, split_f, each_but_f, skip, tree_a
 ghost use Rattle.def_tree.specs.Tree.{count};
 ghost use Rattle.words.specs.Layout.{node_of, tree};
 ghost use Rattle.words_nodes.specs.Nodes.{Planted, tree_from};
-ghost use Rattle.words_scopes.specs.Kinds.{kind_of};
-ghost use Rattle.def_pass.specs.Scope.{loop};
+ghost use Rattle.words_scopes.specs.Kinds.{type_of, kind_of};
+ghost use Rattle.def_pass.specs.Scope.{loop, is_const};
 ghost use Rattle.laws_flat.specs.WalkF.{walks_f, visit_mut_stmts_f, plain_f, visit_mut_block_stmt_f, script_f, visit_with_child_f, visit_mut_var_decl_f, visit_mut_function_f, visit_mut_fn_decl_f, visit_mut_fn_expr_f, visit_mut_arrow_expr_f, visit_mut_if_stmt_f, visit_mut_while_stmt_f, visit_mut_for_stmt_f, visit_mut_for_in_stmt_f, visit_mut_try_stmt_f, catch_param_f, visit_mut_catch_clause_f, visit_mut_switch_case_f, visit_mut_pat_f, visit_mut_unary_expr_f, visit_mut_update_expr_f, visit_mut_call_expr_f, visit_mut_assign_expr_f, own_f, logical_f, after_f, in_cond_f, name_last_f, visit_mut_var_declarator_f, after_ident_f};
 ghost use Rattle.words_state.specs.State.{abs, rest};
 ghost use Rattle.walk_laws.specs.Did.{Did, Here, clauses_f, items_f, declr_end_f, Bound};
@@ -172,6 +172,13 @@ fn name(w: &mut [u32], p: usize, d: usize, n: usize, i: usize) -> Result<usize, 
     Ok(skip(w, i))
 }
 
+// Is a declaration of this kind one by `const`.
+fn is_const(kind: VarType) -> bool
+    ensures { result ≡ is_const (type_of kind) }
+{
+    matches!(kind, VarType::Declared(VarDeclKind::Const))
+}
+
 // A declarator in Inlining: its initialiser is walked again, and recorded or not.
 #[cycle(walks)]
 fn init(w: &mut [u32], p: usize, d: usize, n: usize, i: usize) -> Result<usize, Refusal>
@@ -179,7 +186,7 @@ fn init(w: &mut [u32], p: usize, d: usize, n: usize, i: usize) -> Result<usize, 
     ensures { Did w.old w.new result (declr_end_f (walks_f d) p i (some (tree_at (abs w.old) (i + 1))) true (rest w.old).var_decl_kind n (i + 1) (abs w.old)) }
 {
     let kind = var_decl_kind(w);
-    if kind == VarType::Declared(VarDeclKind::Const) {
+    if is_const(kind) {
         return name(w, p, d, n, i);
     }
     let bound = Name {

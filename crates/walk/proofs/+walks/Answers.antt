@@ -705,8 +705,8 @@ ifs-returns = of_ifs.ifs-returns
 pub init-name-requires : goal.init-name-requires
 init-name-requires = of_init.init-name-requires
 
-pub init-returns-then-eq : goal.init-returns-then-eq
-init-returns-then-eq = of_init.init-returns-then-eq
+pub init-returns-then-is_const : goal.init-returns-then-is_const
+init-returns-then-is_const = of_init.init-returns-then-is_const
 
 pub init-overflow_add-i : goal.init-overflow_add-i
 init-overflow_add-i = of_init.init-overflow_add-i

@@ -1,13 +1,8 @@
 -- The goals of init. Assumes nothing.
 use Prim.Native.Nat.{suc, ◌+◌, ◌-◌}
-use mathlib.Core.Path.{◌≡◌, refl, sym, ap, ◌∙◌}
+use mathlib.Core.Path.{refl, sym, ap, ◌∙◌}
 use Rattle.def_pass.specs.Scope.{is_const}
 use native.Mathlib.Omega.{arith}
-use mathlib.Core.Bool.{true, false}
-use Rattle.words_scopes.specs.Kinds.{type_of}
-use Rattle.words_scopes.specs.declared.kinds.VarDeclKind.TheVariants.{Var, Let, Const}
-use Rattle.words_scopes.specs.declared.kinds.VarType.{VarType}
-use Rattle.words_scopes.specs.declared.kinds.VarType.TheVariants.{Param, Declared}
 use Rattle.std.proofs.lemmas.Result.{err_from_is_err_and}
 use Rattle.def_tree.specs.Combine.{tree_at}
 use Rattle.def_tree.proofs.Sims.{sim-skip}
@@ -19,21 +14,11 @@ use Rattle.walk_laws.proofs.Ways as ways
 use Rattle.walk_laws.proofs.Declrs as declrs
 use Rattle.walk.proofs.+walks.Goals as goal
 
--- is a declaration of `const`, by the kind that was read
-const-yes : (k : VarType) → k ≡ Declared Const → is_const (type_of k) ≡ true
-const-yes k e = rw e refl
-
-const-no : (k : VarType) → (k ≡ Declared Const → ⊥) → is_const (type_of k) ≡ false
-const-no Param h = refl
-const-no (Declared Var) h = refl
-const-no (Declared Let) h = refl
-const-no (Declared Const) h = absurd (h refl)
-
 pub init-name-requires : goal.init-name-requires
 init-name-requires t c = (omega (arith, c.decreases), (c.requires.0, c.requires.1))
 
-pub init-returns-then-eq : goal.init-returns-then-eq
-init-returns-then-eq t c = declrs.end-const (walks_f c.args.d) c.args.p (sim-name (sims c.args.d) c.args.p) c.requires.0 c.requires.1 (tree_at (abs c.args.w.now) (c.args.i + 1)) (rest c.args.w.now).var_decl_kind (ap is_const (sym c.var_decl_kind-kind.ensures) ∙ const-yes c.var_decl_kind-kind.result c.if-eq.ensures) c.name.ensures
+pub init-returns-then-is_const : goal.init-returns-then-is_const
+init-returns-then-is_const t c = declrs.end-const (walks_f c.args.d) c.args.p (sim-name (sims c.args.d) c.args.p) c.requires.0 c.requires.1 (tree_at (abs c.args.w.now) (c.args.i + 1)) (rest c.args.w.now).var_decl_kind (ap is_const (sym c.var_decl_kind-kind.ensures) ∙ sym c.is_const.ensures ∙ c.if-is_const.true) c.name.ensures
 
 pub init-overflow_add-i : goal.init-overflow_add-i
 init-overflow_add-i t c = omega (arith, c.requires.0.depth, (heres.at-node c.requires.0).1)
@@ -60,13 +45,13 @@ pub init-skip-requires : goal.init-skip-requires
 init-skip-requires t c = heres.at-skip c.requires.0
 
 pub init-returns-then-stays : goal.init-returns-then-stays
-init-returns-then-stays t c = declrs.init-stays (walks_f c.args.d) c.args.p ((sims c.args.d).full (suc c.args.p)) c.requires.0 c.requires.1 c.requires.2 c.skip-j.ensures.0 (rest c.args.w.now).var_decl_kind (ap is_const (sym c.var_decl_kind-kind.ensures) ∙ const-no c.var_decl_kind-kind.result c.if-eq.ensures) c.form_at.result c.form_at.ensures c.ident_at.result c.ident_at.ensures c.stays.ensures c.if-stays.true c.skip.ensures.0
+init-returns-then-stays t c = declrs.init-stays (walks_f c.args.d) c.args.p ((sims c.args.d).full (suc c.args.p)) c.requires.0 c.requires.1 c.requires.2 c.skip-j.ensures.0 (rest c.args.w.now).var_decl_kind (ap is_const (sym c.var_decl_kind-kind.ensures) ∙ sym c.is_const.ensures ∙ c.if-is_const.false) c.form_at.result c.form_at.ensures c.ident_at.result c.ident_at.ensures c.stays.ensures c.if-stays.true c.skip.ensures.0
 
 pub init-declr_after-requires : goal.init-declr_after-requires
 init-declr_after-requires t c = (c.requires.0.planted, declrs.spot-none (walks_f c.args.d) c.args.p ((sims c.args.d).full (suc c.args.p)) c.requires.0 c.requires.1 c.requires.2 c.skip-j.ensures.0 c.if-n-eq1.true)
 
 pub init-returns-then-n-eq1 : goal.init-returns-then-n-eq1
-init-returns-then-n-eq1 t c = declrs.init-none (walks_f c.args.d) c.args.p ((sims c.args.d).full (suc c.args.p)) c.requires.0 c.requires.1 c.requires.2 c.skip-j.ensures.0 (rest c.args.w.now).var_decl_kind (ap is_const (sym c.var_decl_kind-kind.ensures) ∙ const-no c.var_decl_kind-kind.result c.if-eq.ensures) c.form_at.result c.form_at.ensures c.ident_at.result c.ident_at.ensures c.stays.ensures c.if-stays.false c.if-n-eq1.true (declrs.after-kind c.args.i c.form_at.result c.ident_at.result 0 c.skip-j.result c.skip-j.result c.var_decl_kind-kind.ensures c.declr_after.ensures)
+init-returns-then-n-eq1 t c = declrs.init-none (walks_f c.args.d) c.args.p ((sims c.args.d).full (suc c.args.p)) c.requires.0 c.requires.1 c.requires.2 c.skip-j.ensures.0 (rest c.args.w.now).var_decl_kind (ap is_const (sym c.var_decl_kind-kind.ensures) ∙ sym c.is_const.ensures ∙ c.if-is_const.false) c.form_at.result c.form_at.ensures c.ident_at.result c.ident_at.ensures c.stays.ensures c.if-stays.false c.if-n-eq1.true (declrs.after-kind c.args.i c.form_at.result c.ident_at.result 0 c.skip-j.result c.skip-j.result c.var_decl_kind-kind.ensures c.declr_after.ensures)
 
 pub init-overflow_add-p : goal.init-overflow_add-p
 init-overflow_add-p t c = omega (arith, c.requires.0.depth, (heres.at-node c.requires.0).1)
@@ -77,7 +62,7 @@ init-full-requires t c = (omega (arith, c.decreases), (heres.here-one (λ z. ome
 pub init-returns-in_err-full : goal.init-returns-in_err-full
 init-returns-in_err-full t c =
     let q = err_from_is_err_and c.from_residual.result c.from_residual.ensures.1 in
-    rw (q.1, q.2) (declrs.init-stop (walks_f c.args.d) c.args.p ((sims c.args.d).full (suc c.args.p)) c.requires.0 c.requires.1 c.requires.2 c.skip-j.ensures.0 (rest c.args.w.now).var_decl_kind (ap is_const (sym c.var_decl_kind-kind.ensures) ∙ const-no c.var_decl_kind-kind.result c.if-eq.ensures) c.form_at.result c.form_at.ensures c.ident_at.result c.ident_at.ensures c.stays.ensures c.if-stays.false c.if-n-eq1.false c.in_err-full.ensures)
+    rw (q.1, q.2) (declrs.init-stop (walks_f c.args.d) c.args.p ((sims c.args.d).full (suc c.args.p)) c.requires.0 c.requires.1 c.requires.2 c.skip-j.ensures.0 (rest c.args.w.now).var_decl_kind (ap is_const (sym c.var_decl_kind-kind.ensures) ∙ sym c.is_const.ensures ∙ c.if-is_const.false) c.form_at.result c.form_at.ensures c.ident_at.result c.ident_at.ensures c.stays.ensures c.if-stays.false c.if-n-eq1.false c.in_err-full.ensures)
 
 pub init-skip-end-requires : goal.init-skip-end-requires
 init-skip-end-requires t c = heres.here-below c.args.i (omega (arith, c.skip-j.ensures.1)) (heres.here-still ((sims c.args.d).full (c.args.p + 1)) (heres.here-one (λ z. omega (arith, z, c.if-n-eq1.false, c.requires.2.some)) (heres.here-next sim-skip (heres.here-kids c.requires.0 c.requires.1) (λ z. omega (arith, z, c.requires.2.some)) (ways.did-skip (c.args.i + 1) c.requires.0.planted c.skip-j.ensures.0))) refl c.in_ok-full.ensures)
@@ -86,4 +71,4 @@ pub init-declr_after-requires-2 : goal.init-declr_after-requires-2
 init-declr_after-requires-2 t c = (c.in_ok-full.ensures.ok.planted, declrs.spot (walks_f c.args.d) c.args.p ((sims c.args.d).full (suc c.args.p)) c.requires.0 c.requires.1 c.requires.2 c.skip-j.ensures.0 (declrs.walked (walks_f c.args.d) c.args.p ((sims c.args.d).full (suc c.args.p)) c.requires.0 c.requires.1 c.requires.2 c.skip-j.ensures.0 c.if-n-eq1.false c.in_ok-full.ensures c.skip-end.ensures.0) (λ z. c.skip-end.ensures.0))
 
 pub init-returns : goal.init-returns
-init-returns t c = declrs.init-then (walks_f c.args.d) c.args.p ((sims c.args.d).full (suc c.args.p)) c.requires.0 c.requires.1 c.requires.2 c.skip-j.ensures.0 (rest c.args.w.now).var_decl_kind (ap is_const (sym c.var_decl_kind-kind.ensures) ∙ const-no c.var_decl_kind-kind.result c.if-eq.ensures) c.form_at.result c.form_at.ensures c.ident_at.result c.ident_at.ensures c.stays.ensures c.if-stays.false (declrs.walked (walks_f c.args.d) c.args.p ((sims c.args.d).full (suc c.args.p)) c.requires.0 c.requires.1 c.requires.2 c.skip-j.ensures.0 c.if-n-eq1.false c.in_ok-full.ensures c.skip-end.ensures.0) (declrs.after-kind c.args.i c.form_at.result c.ident_at.result (c.args.n - 1) c.skip-j.result c.skip-end.result c.var_decl_kind-kind.ensures c.declr_after-2.ensures)
+init-returns t c = declrs.init-then (walks_f c.args.d) c.args.p ((sims c.args.d).full (suc c.args.p)) c.requires.0 c.requires.1 c.requires.2 c.skip-j.ensures.0 (rest c.args.w.now).var_decl_kind (ap is_const (sym c.var_decl_kind-kind.ensures) ∙ sym c.is_const.ensures ∙ c.if-is_const.false) c.form_at.result c.form_at.ensures c.ident_at.result c.ident_at.ensures c.stays.ensures c.if-stays.false (declrs.walked (walks_f c.args.d) c.args.p ((sims c.args.d).full (suc c.args.p)) c.requires.0 c.requires.1 c.requires.2 c.skip-j.ensures.0 c.if-n-eq1.false c.in_ok-full.ensures c.skip-end.ensures.0) (declrs.after-kind c.args.i c.form_at.result c.ident_at.result (c.args.n - 1) c.skip-j.result c.skip-end.result c.var_decl_kind-kind.ensures c.declr_after-2.ensures)
