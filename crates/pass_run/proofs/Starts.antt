@@ -8,42 +8,44 @@ use lib.ListN.{length, get_or}
 use lib.Dec.{leb}
 use Rattle.words.specs.Tab.{sum}
 use Rattle.words.specs.Layout.{yes, Agree, tree, beyond}
-use Rattle.words.specs.Moved.{Put5, Zeroed}
+use Rattle.words.specs.Moved.{Put, Zeroed}
 use Rattle.words.proofs.Nodes.{tree-length, tree-same, beyond-same}
 use Rattle.def_tree.specs.Tree.{Core}
-use Rattle.def_pass.specs.Scope.{Stack, fn, new_scope}
-use Rattle.def_pass.specs.Walk.{St, set_nodes}
+use Rattle.def_pass.specs.Scope.{Stack, fn, v_var, new_scope}
+use Rattle.def_pass.specs.Walk.{St, declaring, set_nodes}
 use Rattle.laws_flat.specs.PassF.{start_f, targets_l, flagged_l}
-use Rattle.words_scopes.specs.State.{Good, Becomes, heads, heads_at, stack, var_type_of, targeted}
+use Rattle.words_scopes.specs.State.{Good, Becomes, heads, heads_at, stack, targeted}
 use Rattle.words_scopes.proofs.Index.{beside_none}
 use Rattle.words_scopes.proofs.Words.{targeted-same}
 use Rattle.words_targets.specs.Targets.{Script, Targeted}
 use Rattle.words_targets.proofs.Targets.{beside-tree}
-use Rattle.scope_values.specs.declared.Step.{Step}
-use Rattle.scope_values.specs.declared.Step.TheVariants.{Done, Refused}
+use Rattle.std.specs.Prelude.{Result, Ok, Err}
+use Rattle.std.specs.Result.{IsOk}
+use Rattle.refusal.specs.declared.Refusal.{Refusal}
+use Rattle.refusal.specs.declared.Refusal.TheVariants.{Depth}
 use Rattle.scope_values.specs.Steps.{Limited}
-use Rattle.scope_child.specs.declared.ScopeKind.{ScopeKind}
-use Rattle.scope_child.specs.Kinds.{kind_of}
+use Rattle.words_scopes.specs.declared.kinds.ScopeKind.{ScopeKind}
+use Rattle.words_scopes.specs.Kinds.{var_type_of, kind_of}
 use Rattle.words_nodes.specs.Nodes.{Planted, Replants}
-use Rattle.words_state.specs.State.{mode_of, rest, Ok}
+use Rattle.words_state.specs.State.{mode_of, rest, Ok as Fine}
 use Rattle.words_state.proofs.Fields.{st-eq, becomes-rest, becomes-ok, count_kept, replants-rest}
 use Rattle.words_twice.specs.Twice.{Plain}
 use Rattle.words_twice.proofs.Steps.{flagged-long}
 use Rattle.pass_run.specs.Start.{Loaded, Fields, Started}
 
-pub fields : {w u v y z : List ℕ} → Zeroed w u 1 3 → Put5 u v 5 0 0 1 1 3 → Zeroed v y 10 4 → Zeroed y z 7568 256 → Fields w z
-fields {w} {u} {v} {y} {z} a b c d = record {
+pub fields : {w u v y z : List ℕ} (k m : ℕ) → var_type_of k ≡ v_var → mode_of m ≡ declaring → Zeroed w u 1 3 → Put u v 5 (0 ∷ 0 ∷ 1 ∷ k ∷ m ∷ []) → Zeroed v y 10 4 → Zeroed y z 7568 256 → Fields w z
+fields {w} {u} {v} {y} {z} k m e h a b c d = record {
   size = d.size ∙ c.size ∙ b.size ∙ a.size;
   nodes = d.low 0 (omega arith) ∙ c.low 0 (omega arith) ∙ b.low 0 (omega arith) ∙ a.low 0 (omega arith);
   bindings = d.low 1 (omega arith) ∙ c.low 1 (omega arith) ∙ b.low 1 (omega arith) ∙ a.here 0 (omega arith);
   scopes = d.low 2 (omega arith) ∙ c.low 2 (omega arith) ∙ b.low 2 (omega arith) ∙ a.here 1 (omega arith);
   constants = d.low 3 (omega arith) ∙ c.low 3 (omega arith) ∙ b.low 3 (omega arith) ∙ a.here 2 (omega arith);
   idents = d.low 4 (omega arith) ∙ c.low 4 (omega arith) ∙ b.low 4 (omega arith) ∙ a.high 4 (omega arith);
-  changed = d.low 5 (omega arith) ∙ c.low 5 (omega arith) ∙ b.at0;
-  inlining = d.low 6 (omega arith) ∙ c.low 6 (omega arith) ∙ b.at1;
-  is_first_run = d.low 7 (omega arith) ∙ c.low 7 (omega arith) ∙ b.at2;
-  var_decl_kind = d.low 8 (omega arith) ∙ c.low 8 (omega arith) ∙ b.at3;
-  pat_mode = d.low 9 (omega arith) ∙ c.low 9 (omega arith) ∙ b.at4;
+  changed = d.low 5 (omega arith) ∙ c.low 5 (omega arith) ∙ b.here 0 (omega arith);
+  inlining = d.low 6 (omega arith) ∙ c.low 6 (omega arith) ∙ b.here 1 (omega arith);
+  is_first_run = d.low 7 (omega arith) ∙ c.low 7 (omega arith) ∙ b.here 2 (omega arith);
+  var_decl_kind = ap var_type_of (d.low 8 (omega arith) ∙ c.low 8 (omega arith) ∙ b.here 3 (omega arith)) ∙ e;
+  pat_mode = ap mode_of (d.low 9 (omega arith) ∙ c.low 9 (omega arith) ∙ b.here 4 (omega arith)) ∙ h;
   in_test = d.low 10 (omega arith) ∙ c.here 0 (omega arith);
   conds = d.low 11 (omega arith) ∙ c.here 1 (omega arith);
   ended = d.low 12 (omega arith) ∙ c.here 2 (omega arith);
@@ -99,12 +101,12 @@ module _ {w u : List ℕ} (l : Loaded w) (f : Fields w u) where
   no-scope = rw f.scopes refl
 
   module _ {v : List ℕ} {st : Stack} (b : Becomes u v st) (size : length v ≡ length u) where
-    ok : Ok u v
+    ok : Fine u v
     ok = becomes-ok planted size b
 
     field : st ≡ new_scope (fn false) ∷ [] → targeted w ≡ targets_l (tree w) → rest v ≡ start_f (get_or w 0 0) (targets_l (tree w))
     unfolding rest
-    field e q = becomes-rest planted (count_kept b) b ∙ st-eq e (ap yes f.changed) (ap yes f.inlining) (ap yes f.is_first_run) (ap var_type_of f.var_decl_kind) (ap mode_of f.pat_mode) (ap yes f.in_test) f.conds f.nodes (targeted-same w u (λ j p h. f.high j (omega arith)) ∙ q) f.ended f.replaced
+    field e q = becomes-rest planted (count_kept b) b ∙ st-eq e (ap yes f.changed) (ap yes f.inlining) (ap yes f.is_first_run) f.var_decl_kind f.pat_mode (ap yes f.in_test) f.conds f.nodes (targeted-same w u (λ j p h. f.high j (omega arith)) ∙ q) f.ended f.replaced
 
     begun : st ≡ new_scope (fn false) ∷ [] → targeted w ≡ targets_l (tree w) → Opened w v
     begun e q = record {
@@ -118,12 +120,19 @@ module _ {w u : List ℕ} (l : Loaded w) (f : Fields w u) where
     }
 
   -- the root is opened: one scope passes no limit
-  pub opened : {v : List ℕ} (k : ScopeKind) (s : Step) → kind_of k ≡ fn false → length v ≡ length u → Limited 8 (leb 32 (length (stack u))) u v (new_scope (kind_of k) ∷ stack u) s → targeted w ≡ targets_l (tree w) → Opened w v
-  opened {v} k Done e z h q = begun h.0 z (rw (e, no-scope) refl) q
-  opened {v} k (Refused r) e z h q = absurd (no (sym (ap (λ (st : Stack). leb 32 (length st)) no-scope) ∙ h.1))
+  full : leb 32 (length (stack u)) ≡ true → ⊥
+  full h = no (sym (ap (λ (st : Stack). leb 32 (length st)) no-scope) ∙ h)
     where
       no : false ≡ true → ⊥
-      no q = let y : ◌≡◌ {A = ℕ} 0 1 = cc in omega arith
+      no q = cc
+
+  pub opens : (v : List ℕ) (k : ScopeKind) (s : Result Unit Refusal) → Limited Depth (leb 32 (length (stack u))) u v (new_scope (kind_of k) ∷ stack u) s → IsOk s
+  opens v k (Ok x) h = refl
+  opens v k (Err r) h = absurd (full h.1)
+
+  opened : (v : List ℕ) (k : ScopeKind) (s : Result Unit Refusal) → kind_of k ≡ fn false → length v ≡ length u → Limited Depth (leb 32 (length (stack u))) u v (new_scope (kind_of k) ∷ stack u) s → targeted w ≡ targets_l (tree w) → Opened w v
+  opened v k (Ok x) e z h q = begun h.0 z (rw (e, no-scope) refl) q
+  opened v k (Err r) e z h q = absurd (full h.1)
 
 -- the targets are marked first
 pub as-script : {w : List ℕ} → Loaded w → Script w
@@ -136,10 +145,10 @@ module _ {w u : List ℕ} (l : Loaded w) (t : Targeted w u) where
   pub marked-loaded : Loaded u
   marked-loaded = record { long = rw t.beside.size l.long; few = rw (t.beside.low 0 (omega arith)) l.few; names = rw marked-tree l.names; one = rw marked-tree l.one; plain = rw marked-tree l.plain }
 
-  pub marked-is : targeted u ≡ targets_l (tree u)
+  marked-is : targeted u ≡ targets_l (tree u)
   marked-is = t.is ∙ ap (λ (xs : List Core). targets_l xs) (sym marked-tree)
 
-  pub from-marked : {v : List ℕ} → Opened u v → Opened w v
+  from-marked : {v : List ℕ} → Opened u v → Opened w v
   from-marked s = record {
     planted = s.planted;
     size = s.size ∙ t.beside.size;
@@ -149,6 +158,11 @@ module _ {w u : List ℕ} (l : Loaded w) (t : Targeted w u) where
     high = λ j p h. s.high j p h ∙ t.beside.low j h;
     rest = s.rest ∙ beyond-same w u t.beside.size (λ j p. t.beside.high j (omega arith));
   }
+
+-- the targets, the fields and the root
+pub root-opened : {w u y : List ℕ} (l : Loaded w) (t : Targeted w u) (f : Fields u y) (v : List ℕ) (k : ScopeKind) (s : Result Unit Refusal) → kind_of k ≡ fn false → length v ≡ length y
+    → Limited Depth (leb 32 (length (stack y))) y v (new_scope (kind_of k) ∷ stack y) s → Opened w v
+root-opened l t f v k s e z h = from-marked l t (opened (marked-loaded l t) f v k s e z h (marked-is l t))
 
 -- the flags last
 module _ {w u : List ℕ} (o : Opened w u) where

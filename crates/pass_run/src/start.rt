@@ -3,8 +3,10 @@
 ghost use Rattle.std.specs.Prelude.{◌≤◌, length};
 ghost use Rattle.pass_run.specs.Start.{Loaded, Fields, Started};
 
-use scope_child::{Scope, ScopeKind, open_scope};
-use words::{layout, put5, wipe};
+use scope_child::open_scope;
+use words::{layout, put, wipe};
+use words_scopes::kinds::{Scope, ScopeKind, VarDeclKind, VarType};
+use words_state::PatFoldingMode;
 use words_targets::mark_targets;
 use words_twice::flag_twice;
 
@@ -15,7 +17,9 @@ fn set_fields(w: &mut [u32])
     ensures { Fields w.old w.new }
 {
     wipe(w, layout::BINDING_COUNT, 3);
-    put5(w, layout::CHANGED, 0, 0, 1, 1, 3);
+    let kind = u32::from(VarType::Declared(VarDeclKind::Var));
+    let mode = u32::from(PatFoldingMode::VarDecl);
+    put(w, layout::CHANGED, [0, 0, 1, kind, mode]);
     wipe(w, layout::IN_TEST, 4);
     wipe(w, layout::INDEX, 256);
 }

@@ -3,4 +3,4 @@ use Rattle.pass_run.proofs.Starts.{fields}
 use Rattle.pass_run.proofs.start.set_fields.Goals as goal
 
 pub returns : goal.returns
-returns c = fields c.wipe.ensures c.put5.ensures c.wipe-2.ensures c.wipe-3.ensures
+returns c = fields c.from-kind.result c.from-mode.result c.from-kind.ensures.0 c.from-mode.ensures c.wipe.ensures c.put.ensures c.wipe-2.ensures c.wipe-3.ensures

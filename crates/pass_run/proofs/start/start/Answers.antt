@@ -1,6 +1,6 @@
 -- The targets, the fields, the root scope, and the flags. Assumes nothing.
-use mathlib.Core.Path.{ap}
-use Rattle.scope_child.specs.Kinds.{kind_of}
+use Rattle.std.proofs.Common.{ap}
+use Rattle.words_scopes.specs.Kinds.{kind_of}
 use Rattle.pass_run.proofs.Starts as starts
 use Rattle.pass_run.proofs.start.start.Goals as goal
 
@@ -13,10 +13,15 @@ set_fields-requires c = (starts.marked-loaded c.requires c.mark_targets.ensures)
 pub open_scope-requires : goal.open_scope-requires
 open_scope-requires c = (starts.planted (starts.marked-loaded c.requires c.mark_targets.ensures) c.set_fields.ensures).good
 
+pub unwrap-requires : goal.unwrap-requires
+unwrap-requires c = starts.opens (starts.marked-loaded c.requires c.mark_targets.ensures) c.set_fields.ensures _ _ c.open_scope.result c.open_scope.ensures
+
 pub flag_twice-requires : goal.flag_twice-requires
 flag_twice-requires c =
-    let o = starts.from-marked c.requires c.mark_targets.ensures (starts.opened (starts.marked-loaded c.requires c.mark_targets.ensures) c.set_fields.ensures c.new-root.result.kind c.open_scope.result (ap kind_of c.new-root.ensures) c.open_scope.auto.w c.open_scope.ensures (starts.marked-is c.requires c.mark_targets.ensures)) in
+    let o = starts.root-opened c.requires c.mark_targets.ensures c.set_fields.ensures c.open_scope.new.w c.new-root.result.kind c.open_scope.result (ap kind_of c.new-root.ensures) c.open_scope.auto.w c.open_scope.ensures in
     (o.planted, starts.opened-plain o c.requires)
 
 pub returns : goal.returns
-returns c = starts.started (starts.from-marked c.requires c.mark_targets.ensures (starts.opened (starts.marked-loaded c.requires c.mark_targets.ensures) c.set_fields.ensures c.new-root.result.kind c.open_scope.result (ap kind_of c.new-root.ensures) c.open_scope.auto.w c.open_scope.ensures (starts.marked-is c.requires c.mark_targets.ensures))) c.flag_twice.ensures
+returns c =
+    let o = starts.root-opened c.requires c.mark_targets.ensures c.set_fields.ensures c.open_scope.new.w c.new-root.result.kind c.open_scope.result (ap kind_of c.new-root.ensures) c.open_scope.auto.w c.open_scope.ensures in
+    starts.started o c.flag_twice.ensures
