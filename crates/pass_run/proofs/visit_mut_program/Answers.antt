@@ -1,12 +1,17 @@
 -- A run: each phase is set, and the script walked in it. Assumes nothing.
+use Rattle.std.proofs.lemmas.Result.{err_from_is_err_and}
 use Rattle.pass_run.proofs.Turns as runs
 use Rattle.pass_run.proofs.visit_mut_program.Goals as goal
 
-pub returns-in-At-last : goal.returns-in-At-last
-returns-in-At-last c = runs.second-done c.set_inlining.ensures c.program-first.ensures c.in-At.is c.set_inlining-in-At.ensures c.program-last.ensures _ c.in-At-last.is c.set_inlining-in-At-last.ensures
+pub returns : goal.returns
+returns c = runs.second-done c.set_inlining.ensures c.program.ensures c.in_ok-program.was c.set_inlining-2.ensures c.program-end.ensures _ c.in_ok-end.was c.set_inlining-3.ensures
 
-pub returns-in-Refused-last : goal.returns-in-Refused-last
-returns-in-Refused-last c = runs.second-stop c.set_inlining.ensures c.program-first.ensures c.in-At.is c.set_inlining-in-At.ensures c.program-last.ensures _ c.in-Refused-last.is
+pub returns-in_err-end : goal.returns-in_err-end
+returns-in_err-end c =
+    let p = err_from_is_err_and c.from_residual.result c.from_residual.ensures.1 in
+    rw (p.1, p.2) (runs.second-stop c.set_inlining.ensures c.program.ensures c.in_ok-program.was c.set_inlining-2.ensures c.program-end.ensures _ c.in_err-end.was)
 
-pub returns-in-Refused : goal.returns-in-Refused
-returns-in-Refused c = runs.first-stop c.set_inlining.ensures c.program-first.ensures _ c.in-Refused.is
+pub returns-in_err-program : goal.returns-in_err-program
+returns-in_err-program c =
+    let p = err_from_is_err_and c.from_residual.result c.from_residual.ensures.1 in
+    rw (p.1, p.2) (runs.first-stop c.set_inlining.ensures c.program.ensures _ c.in_err-program.was)
