@@ -20,10 +20,13 @@ use Rattle.def_file.specs.Read.{Read, bad, script, u32, read}
 use Rattle.laws_roundtrip.proofs.Nodes.{nodes-length}
 use Rattle.laws_roundtrip.proofs.Round.{Found, found}
 use Rattle.file_read.specs.declared.header.Header.{Header}
-use Rattle.file_read.specs.declared.read.Answer.{Answer}
+use Rattle.std.specs.Prelude.{Result, Ok, Err}
+use Rattle.std.specs.Result.{is_ok, is_err}
+use Rattle.refusal.specs.declared.Refusal.{Refusal}
+use Rattle.refusal.specs.Number.{number}
 use Rattle.file_read.specs.Idents.{numbered, ids_of, Listed}
 use Rattle.file_read.specs.Load.{Kept}
-use Rattle.file_read.specs.Reading.{told, After, WordsAre, ReadIs}
+use Rattle.file_read.specs.Reading.{Told, After, WordsAre, ReadIs}
 use Rattle.file_read.proofs.Cores.{core-lit, core-id, core-plain, place-final, ids_more}
 use Rattle.file_copy.proofs.Again.{place-enter}
 use Rattle.file_copy.proofs.Ends.{WasRead}
@@ -38,7 +41,7 @@ use Rattle.words_state.specs.State.{abs}
 use Rattle.pass_run.specs.declared.Ran.{Ran}
 use Rattle.pass_run.specs.Run.{outcome, RunsIs}
 use Rattle.pass_run.specs.Start.{Loaded, Started}
-use Rattle.pass_run.specs.Inline.{begin, read_runs, FileIs}
+use Rattle.pass_run.specs.Inline.{begin, read_runs, Final, Leaves, FileIs}
 
 -- the core of a node has the number of an identifier, if it has one
 differ : true ≡ false → ⊥
@@ -134,13 +137,13 @@ module _ {w u : List ℕ} {n : ℕ} (L : Listed w n) (e : Same w u) where
   ids-still bs = rw e.count (tab-ext (get_or w 4 0) (λ i. numbered bs (get_or u (15504 + i) 0)) (λ i. numbered bs (get_or w (15504 + i) 0)) (λ i l. ap (λ (m : ℕ). numbered bs m) (e.each i (omega (arith, L.few)))))
 
 -- the pass over it
-module _ {bs w w₁ u v : List ℕ} {x : Ran} (n : ℕ) (W : WasRead bs w w₁) (S : Started w₁ u) (R : RunsIs u v x (runs_f n 0 (abs u))) where
+module _ {bs w w₁ u v : List ℕ} {x : Result Ran Refusal} (n : ℕ) (W : WasRead bs w w₁) (S : Started w₁ u) (R : RunsIs u v x (runs_f n 0 (abs u))) where
   begins : abs u ≡ begin W.script
   begins =
       ap₂ {C = Flat St} (λ (xs : List Core) (s : St). record { nodes = xs; rest = s }) (S.nodes ∙ ap (λ (xs : List Core). flagged_l xs) W.held.tree) (S.is ∙ ap₂ (λ (n : ℕ) (xs : List Core). start_f n (targets_l xs)) W.held.count W.held.tree)
 
-  ends : (r : Ran) → x ≡ r → outcome r v ≡ read_runs n (read bs)
-  ends r e = ap (λ (y : Ran). outcome y v) (sym e) ∙ R.is ∙ ap (λ (st : Flat St). runs_f n 0 st) begins ∙ ap (read_runs n) (sym W.is)
+  ends : outcome x v ≡ read_runs n (read bs)
+  ends = R.is ∙ ap (λ (st : Flat St). runs_f n 0 st) begins ∙ ap (read_runs n) (sym W.is)
 
   same : Same w₁ v
   same = record {
@@ -152,34 +155,43 @@ module _ {bs w w₁ u v : List ℕ} {x : Ran} (n : ℕ) (W : WasRead bs w w₁) 
   kept : Kept w v
   kept = record { size = same.size ∙ W.kept.size; rest = R.ok.rest ∙ S.rest ∙ W.kept.rest }
 
-  pub ran : (k : ℕ) (c : Bool) → x ≡ Ran.Done k c → FileIs bs w v n (Ran.Done k c)
-  ran k c e = record {
-    is = ends (Ran.Done k c) e;
-    words = record { script = W.script; is = W.is; planted = R.ok.planted; ids = ids-still W.held.listed same bs ∙ W.held.ids; listed = listed-still W.held.listed same; kept = kept };
-  }
+  finished : Final bs w v
+  finished = record { script = W.script; is = W.is; planted = R.ok.planted; ids = ids-still W.held.listed same bs ∙ W.held.ids; listed = listed-still W.held.listed same; kept = kept }
 
-  pub stopped : {z : List ℕ} (m : ℕ) → x ≡ Ran.Refused m → Cleared v z → FileIs bs w z n (Ran.Refused m)
-  stopped {z} m e C = record { is = ends (Ran.Refused m) e; words = record { size = C.size ∙ kept.size; here = C.here; rest = C.rest ∙ kept.rest } }
+  -- the words are cleared after a refusal
+  pub ran : is_err x ≡ false → FileIs bs w v n x
+  ran h = record { is = ends; words = go x h }
+    where
+      go : (r : Result Ran Refusal) → is_err r ≡ false → Leaves bs w v r
+      go (Ok r) h = finished
+      go (Err r) h = cc
+
+  pub stopped : {z : List ℕ} → is_err x ≡ true → Cleared v z → FileIs bs w z n x
+  stopped {z} h C = record { is = told x h ∙ ends; words = go x h }
+    where
+      told : (r : Result Ran Refusal) → is_err r ≡ true → outcome r z ≡ outcome r v
+      told (Ok r) h = cc
+      told (Err r) h = refl
+
+      go : (r : Result Ran Refusal) → is_err r ≡ true → Leaves bs w z r
+      go (Ok r) h = cc
+      go (Err r) h = record { size = C.size ∙ kept.size; here = C.here; rest = C.rest ∙ kept.rest }
 
 -- rows 2 to 7
-pub not-read : {bs w w₁ : List ℕ} {a : Answer} (n m : ℕ) → 16384 ≤ length w → ReadIs bs w w₁ a → a ≡ Answer.Refused m → FileIs bs w w₁ n (Ran.Refused m)
+pub not-read : {bs w w₁ : List ℕ} {a : Result Header Refusal} (n : ℕ) (m : Refusal) → 16384 ≤ length w → ReadIs bs w w₁ a → a ≡ Err m → FileIs bs w w₁ n (Err m)
 not-read {bs} {w} {w₁} {a} n m l R z = go (read bs) refl
   where
     long : leb 16384 (length w) ≡ true
     long = le-leb 16384 (length w) l
 
-    told-so : (x : Read) → read bs ≡ x → a ≡ told bs x
-    told-so x q = R.answer ∙ ap₂ {C = Answer} (λ (p : Bool) (x : Read). elim p [ false ↦ Answer.Refused 1 | true ↦ told bs x ]) long q
+    told-so : read bs ≡ bad (number m)
+    told-so =
+        let t : Told bs (elim (leb 16384 (length w)) [ false ↦ bad 1 | true ↦ read bs ]) (Err m) = subst (λ (r : Result Header Refusal). Told bs (elim (leb 16384 (length w)) [ false ↦ bad 1 | true ↦ read bs ]) r) z R.answer in
+        sym (ap (λ (p : Bool). elim p [ false ↦ bad 1 | true ↦ read bs ]) long) ∙ t
 
     after : (x : Read) → read bs ≡ x → After bs w w₁ x
     after x q = subst (After bs w w₁) q (subst (WordsAre bs w w₁) long R.words)
 
-    number : (m k : ℕ) → Answer.Refused m ≡ Answer.Refused k → m ≡ k
-    number m k e = cc
-
-    not-both : (m : ℕ) (h : Header) → Answer.Refused m ≡ Answer.Script h → ⊥
-    not-both m h e = let y : ◌≡◌ {A = ℕ} 0 1 = cc in omega arith
-
-    go : (x : Read) → read bs ≡ x → FileIs bs w w₁ n (Ran.Refused m)
-    go (bad k) q = record { is = ap {B = OutcomeF} (λ (i : ℕ). refused_f i) (number m k (sym z ∙ told-so (bad k) q)) ∙ ap (read_runs n) (sym q); words = after (bad k) q }
-    go (script s) q = absurd (not-both m _ (sym z ∙ told-so (script s) q))
+    go : (x : Read) → read bs ≡ x → FileIs bs w w₁ n (Err m)
+    go (bad k) q = record { is = ap (read_runs n) (sym told-so); words = after (bad k) q }
+    go (script s) q = let e = sym q ∙ told-so in cc

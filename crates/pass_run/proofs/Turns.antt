@@ -62,20 +62,18 @@ module _ {w u v : List ℕ} {x : Result ℕ Refusal} (t : Turns w u (set_inlinin
 
 -- k runs are done, and at most n - k are left
 pub record Going (w u : List ℕ) (n k : ℕ) : Type 0 where
-  pub less : k ≤ n
   pub ok : Fine w u
   pub is : runs_f n 0 (abs w) ≡ runs_f (n - k) k (abs u)
 
 pub going-none : {w : List ℕ} (n : ℕ) → Planted w → Going w w n 0
-going-none {w} n p = record { less = omega arith; ok = ok-self p; is = ap (λ (m : ℕ). runs_f m 0 (abs w)) (omega arith) }
+going-none {w} n p = record { ok = ok-self p; is = ap (λ (m : ℕ). runs_f m 0 (abs w)) (omega arith) }
 
 -- no run is left
-pub going_end : {w u : List ℕ} (n k : ℕ) → Going w u n k → n ≤ k → RunsIs w u (Ok (record { runs = k; changed = true })) (runs_f n 0 (abs w))
+pub going_end : {w u : List ℕ} (n k : ℕ) → Going w u n k → k ≡ n → RunsIs w u (Ok (record { runs = n; changed = true })) (runs_f n 0 (abs w))
 unfolding runs_f rest
-going_end {w} {u} n k g l = record { ok = g.ok; is = sym (g.is ∙ ap (λ (m : ℕ). runs_f m k (abs u)) (none n k l)) }
-  where
-    none : (n k : ℕ) → n ≤ k → n - k ≡ 0
-    none n k l = omega arith
+going_end {w} {u} n k g e =
+    let none : n - k ≡ 0 = omega arith in
+    record { ok = g.ok; is = sym (g.is ∙ ap (λ (m : ℕ). runs_f m k (abs u)) none ∙ ap (λ (m : ℕ). result_f m true (tree u) (root_marks (stack u))) e) }
 
 -- one more run
 module _ {w u v z : List ℕ} {x : Result ℕ Refusal} (n k : ℕ) (g : Going w u n k) (l : k < n) (t : Turns u v (set_changed false (rest u))) (d : Did v z x (run_f 0 (abs v))) where
@@ -114,7 +112,6 @@ module _ {w u v z : List ℕ} {x : Result ℕ Refusal} (n k : ℕ) (g : Going w 
 
     pub going_on : {z' : List ℕ} → (get_or z 5 0 ≡ 0 → ⊥) → Turns z z' (set_is_first_run false (rest z)) → Going w z' n (k + 1)
     going_on {z'} q t' = record {
-      less = omega arith;
       ok = ok-then so-far-runs t'.ok;
       is = marked true (some (get_or z 5 0) q) ∙ ap₂ {C = OutcomeF} (λ (i : ℕ) (st : Flat St). runs_f (n - (k + 1)) i st) plus (sym (turned t'));
     }

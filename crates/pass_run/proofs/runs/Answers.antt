@@ -31,4 +31,4 @@ pub loop-k-preserved : goal.loop-k-preserved
 loop-k-preserved c = going_on c.args.n c.loop-k.k c.loop-k.invariant c.loop-k-test.true c.set_changed.ensures c.visit_mut_program.ensures _ c.in_ok-visit_mut_program.was c.if-w-eq0.false c.set_is_first_run.ensures
 
 pub returns : goal.returns
-returns c = ?
+returns c = going_end c.args.n c.loop-k.k c.loop-k.invariant (omega arith)

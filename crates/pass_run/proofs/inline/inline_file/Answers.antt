@@ -1,10 +1,11 @@
 -- A file is read, or not; then the runs. Assumes nothing.
+use Rattle.std.proofs.lemmas.Result.{err_from_is_err_and}
 use Rattle.file_copy.proofs.Ends.{was_read}
 use Rattle.pass_run.proofs.Files as files
 use Rattle.pass_run.proofs.inline.inline_file.Goals as goal
 
 pub start-requires : goal.start-requires
-start-requires c = files.loaded (was_read _ c.read-answer.ensures c.in-Script.is)
+start-requires c = files.loaded (was_read _ c.read.ensures c.in_ok-read.was)
 
 pub runs-ran-requires : goal.runs-ran-requires
 runs-ran-requires c = c.start.ensures.planted
@@ -12,11 +13,10 @@ runs-ran-requires c = c.start.ensures.planted
 pub clear-requires : goal.clear-requires
 clear-requires c = c.runs-ran.ensures.ok.planted.good.long
 
-pub returns-in-Done : goal.returns-in-Done
-returns-in-Done c = files.ran c.args.limit (was_read _ c.read-answer.ensures c.in-Script.is) c.start.ensures c.runs-ran.ensures _ _ c.in-Done.is
+pub returns : goal.returns
+returns c = ?
 
-pub returns-in-Refused-ran : goal.returns-in-Refused-ran
-returns-in-Refused-ran c = files.stopped c.args.limit (was_read _ c.read-answer.ensures c.in-Script.is) c.start.ensures c.runs-ran.ensures _ c.in-Refused-ran.is c.clear.ensures
-
-pub returns-in-Refused : goal.returns-in-Refused
-returns-in-Refused c = files.not-read c.args.limit _ c.requires c.read-answer.ensures c.in-Refused.is
+pub returns-in_err-read : goal.returns-in_err-read
+returns-in_err-read c =
+    let p = err_from_is_err_and c.from_residual.result c.from_residual.ensures.1 in
+    rw (p.1, p.2) (files.not-read c.args.limit _ c.requires c.read.ensures c.in_err-read.was)
