@@ -6,15 +6,6 @@ use Rattle.words_scopes.specs.State.{len_at}
 use Rattle.scope_values.proofs.Listed as listed
 use Rattle.scope_values.proofs.set_run.Goals as goal
 
-pub offset_from-end-requires : goal.offset_from-end-requires
-offset_from-end-requires c = (c.requires.0, omega (arith, c.requires.1), omega arith, c.offset-at.ensures.0, c.offset-at.ensures.1)
-
-pub overflow_cast-old : goal.overflow_cast-old
-overflow_cast-old c =
-    let w = c.args.w.now in
-    let part = sums.sum-part (λ j. len_at w j) c.args.k (get_or w 1 0) c.requires.1 in
-    omega (arith, c.requires.0.vals)
-
 pub splice-requires : goal.splice-requires
 splice-requires c =
     let w = c.args.w.now in
@@ -22,9 +13,6 @@ splice-requires c =
     let a = c.offset-at.ensures.0 in
     let b = c.offset_from-end.ensures.0 in
     (c.requires.0.long, omega arith, omega arith, omega (arith, c.requires.0.nodes, c.requires.2.inside), omega (arith, c.offset-at.ensures.0), omega (arith, c.offset_from-end.ensures.1), omega (arith, c.requires.3))
-
-pub shape_of-w : goal.shape_of-w
-shape_of-w c = simp length-set c.splice.auto.w
 
 pub returns : goal.returns
 returns c =

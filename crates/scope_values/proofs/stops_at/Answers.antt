@@ -5,7 +5,7 @@ use Rattle.std.proofs.Common.{Some}
 use native.Mathlib.Omega.{arith}
 use lib.ListN.{get_or}
 use lib.Dec.{ltb}
-use Rattle.core.specs.Bool.{then_some}
+use Rattle.std.specs.Bool.{then_some}
 use Rattle.words_scopes.specs.State.{Fits, CFits, heads_at, heads}
 use Rattle.words_scopes.proofs.Look.{outer, outer-all}
 use Rattle.scope_values.specs.Outwards.{stops_at}
