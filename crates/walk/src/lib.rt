@@ -137,7 +137,14 @@ fn arm(w: &mut [u32], p: usize, d: usize, kind: ScopeKind, i: usize) -> Result<u
 
 // visit_with_child of each of a list.
 #[cycle(walks)]
-fn arms(w: &mut [u32], p: usize, d: usize, kind: ScopeKind, n: usize, i: usize) -> Result<usize, Refusal>
+fn arms(
+    w: &mut [u32],
+    p: usize,
+    d: usize,
+    kind: ScopeKind,
+    n: usize,
+    i: usize,
+) -> Result<usize, Refusal>
     requires { Here w.old n i p d }
     ensures { Did w.old w.new result (many (visit_with_child_f (walks_f d) p (kind_of kind)) n i (abs w.old)) }
 {
@@ -198,7 +205,17 @@ fn init(w: &mut [u32], p: usize, d: usize, n: usize, i: usize) -> Result<usize, 
         return Ok(skip(w, i));
     }
     if n == 1 {
-        return declr_after(w, bound, kind, Spot { q: i, n: 0, i: j, j });
+        return declr_after(
+            w,
+            bound,
+            kind,
+            Spot {
+                q: i,
+                n: 0,
+                i: j,
+                j,
+            },
+        );
     }
     full(w, p + 1, d, j)?;
     let end = skip(w, i);
@@ -259,7 +276,14 @@ fn params(w: &mut [u32], p: usize, d: usize, n: usize, i: usize) -> Result<usize
 
 // visit_mut_function.
 #[cycle(walks)]
-fn func(w: &mut [u32], p: usize, d: usize, named: bool, n: usize, i: usize) -> Result<usize, Refusal>
+fn func(
+    w: &mut [u32],
+    p: usize,
+    d: usize,
+    named: bool,
+    n: usize,
+    i: usize,
+) -> Result<usize, Refusal>
     requires { Here w.old n i (p + 1) d }
     ensures { Did w.old w.new result (visit_mut_function_f (walks_f d) p named n i (abs w.old)) }
 {

@@ -1,5 +1,4 @@
 -- `pats` meets its contract: the step, then past the tree. Assumes nothing.
-use Rattle.std.proofs.lemmas.Result.{err_from_is_err_and}
 use Rattle.def_pass.specs.Walk.{when, is_bind, pat_by}
 use Rattle.laws_flat.specs.WalkF.{visit_mut_pat_f}
 use Rattle.walk_laws.proofs.Laws as laws
@@ -12,9 +11,7 @@ pat_step-requires c = heres.at-skip c.requires
 
 pub returns-in_err-pat_step : goal.returns-in_err-pat_step
 unfolding visit_mut_pat_f
-returns-in_err-pat_step c =
-    let q = err_from_is_err_and c.from_residual.result c.from_residual.ensures.1 in
-    rw (q.1, q.2) (laws.act-stop _ c.in_err-pat_step.ensures)
+returns-in_err-pat_step c = ways.did-exit c.from_residual.result c.from_residual.ensures.1 (laws.act-stop _ c.in_err-pat_step.ensures)
 
 pub skip-requires : goal.skip-requires
 skip-requires c = heres.at-skip (heres.here-tree (λ t s. when (is_bind t) (pat_by s.pat_mode t) s) c.args.i c.in_ok-pat_step.ensures c.requires)

@@ -1,5 +1,4 @@
 -- `update` meets its contract: the step, then past the tree. Assumes nothing.
-use Rattle.std.proofs.lemmas.Result.{err_from_is_err_and}
 use mathlib.Core.Bool.{true}
 use Rattle.def_pass.specs.Tree.{kids}
 use Rattle.def_pass.specs.Walk.{write_forest}
@@ -14,9 +13,7 @@ write_kids-requires c = heres.at-skip c.requires
 
 pub returns-in_err-write_kids : goal.returns-in_err-write_kids
 unfolding visit_mut_update_expr_f
-returns-in_err-write_kids c =
-    let q = err_from_is_err_and c.from_residual.result c.from_residual.ensures.1 in
-    rw (q.1, q.2) (laws.act-stop _ c.in_err-write_kids.ensures)
+returns-in_err-write_kids c = ways.did-exit c.from_residual.result c.from_residual.ensures.1 (laws.act-stop _ c.in_err-write_kids.ensures)
 
 pub skip-requires : goal.skip-requires
 skip-requires c = heres.at-skip (heres.here-tree (λ t. write_forest true (kids t)) c.args.i c.in_ok-write_kids.ensures c.requires)

@@ -17,8 +17,9 @@ overflow_add-k c = omega (arith, c.requires.0.few, c.requires.1)
 
 pub returns-then-not-aims : goal.returns-then-not-aims
 returns-then-not-aims c = elim c.then-not-aims.branch [
-    then-not-aims-via-then-not-aims b ↦ laws.none-aimed c.args.w.now c.args.k (ap aims (sym c.kind_at.ensures) ∙ sym c.aims.ensures ∙ b.if-not-aims.true)
-  | then-not-aims-via-else-not-aims+then-arity_at-eq0 b ↦ laws.none-there c.args.w.now c.args.k (sym b.arity_at.ensures ∙ b.if-arity_at-eq0.true) ]
+  | then-not-aims-via-then-not-aims b ↦ laws.none-aimed c.args.w.now c.args.k (ap aims (sym c.kind_at.ensures) ∙ sym c.aims.ensures ∙ b.if-not-aims.true)
+  | then-not-aims-via-else-not-aims+then-arity_at-eq0 b ↦ laws.none-there c.args.w.now c.args.k (sym b.arity_at.ensures ∙ b.if-arity_at-eq0.true)
+]
 
 pub returns-in-Some : goal.returns-in-Some
 returns-in-Some c = laws.one_hit c.args.w.now c.args.k (ap aims (sym c.kind_at.ensures) ∙ sym c.aims.ensures ∙ c.if-not-aims.false) (λ e. c.if-arity_at-eq0.false (c.arity_at.ensures ∙ e)) c.in-Some.ensures c.set_flag.new.w c.set_flag.ensures

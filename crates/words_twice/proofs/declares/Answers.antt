@@ -16,8 +16,9 @@ binds-requires c = (c.requires.0, looks.first-in c.requires.0 c.requires.1 c.arg
 
 pub returns-then-c-eq0 : goal.returns-then-c-eq0
 returns-then-c-eq0 c = elim c.then-c-eq0.branch [
-    then-c-eq0-via-then-c-eq0 b ↦ looks.declares-none c.requires.0 c.requires.1 c.args.all c.args.x c.arity_at-c.ensures b.if-c-eq0.true
-  | then-c-eq0-via-else-c-eq0+then-not-binds b ↦ looks.declares-other c.requires.0 c.requires.1 c.args.all c.args.x c.arity_at-c.ensures b.if-c-eq0.false b.binds.ensures b.if-not-binds.true ]
+  | then-c-eq0-via-then-c-eq0 b ↦ looks.declares-none c.requires.0 c.requires.1 c.args.all c.args.x c.arity_at-c.ensures b.if-c-eq0.true
+  | then-c-eq0-via-else-c-eq0+then-not-binds b ↦ looks.declares-other c.requires.0 c.requires.1 c.args.all c.args.x c.arity_at-c.ensures b.if-c-eq0.false b.binds.ensures b.if-not-binds.true
+]
 
 pub returns-then-all : goal.returns-then-all
 returns-then-all c = looks.declares-all c.requires.0 c.requires.1 c.args.all c.args.x c.arity_at-c.ensures c.if-c-eq0.false c.binds.ensures c.if-not-binds.false c.if-all.true

@@ -10,8 +10,9 @@ kind_at-requires c = (c.requires.0.good.long, omega (arith, c.requires.0.good.no
 
 pub returns-then-kind_at-ne5 : goal.returns-then-kind_at-ne5
 returns-then-kind_at-ne5 c = elim c.then-kind_at-ne5.branch [
-    then-kind_at-ne5-via-then-kind_at-ne5 b ↦ looks.own-other c.requires.0 c.requires.1 c.args.all c.args.x (λ e. b.if-kind_at-ne5.true (c.kind_at.ensures ∙ e))
-  | then-kind_at-ne5-via-else-kind_at-ne5+then-form_at-ne0 b ↦ looks.own-let c.requires.0 c.requires.1 c.args.all c.args.x (sym c.kind_at.ensures ∙ b.if-kind_at-ne5.false) (λ e. b.if-form_at-ne0.true (b.form_at.ensures ∙ e)) ]
+  | then-kind_at-ne5-via-then-kind_at-ne5 b ↦ looks.own-other c.requires.0 c.requires.1 c.args.all c.args.x (λ e. b.if-kind_at-ne5.true (c.kind_at.ensures ∙ e))
+  | then-kind_at-ne5-via-else-kind_at-ne5+then-form_at-ne0 b ↦ looks.own-let c.requires.0 c.requires.1 c.args.all c.args.x (sym c.kind_at.ensures ∙ b.if-kind_at-ne5.false) (λ e. b.if-form_at-ne0.true (b.form_at.ensures ∙ e))
+]
 
 pub form_at-requires : goal.form_at-requires
 form_at-requires c = (c.requires.0.good.long, omega (arith, c.requires.0.good.nodes, c.requires.1))

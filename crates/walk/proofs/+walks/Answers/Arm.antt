@@ -1,7 +1,6 @@
 -- The goals of arm. Assumes nothing.
 use mathlib.Core.Path.{refl, sym, ◌∙◌}
 use native.Mathlib.Omega.{arith}
-use Rattle.std.proofs.lemmas.Result.{err_from_is_err_and}
 use Rattle.words_scopes.specs.Kinds.{kind_of}
 use Rattle.def_pass.specs.Walk.{opening}
 use Rattle.laws_flat.specs.WalkF.{walks_f, visit_with_child_f}
@@ -11,9 +10,7 @@ use Rattle.walk.proofs.+walks.Goals as goal
 
 pub arm-returns-in_err-enter : goal.arm-returns-in_err-enter
 unfolding visit_with_child_f
-arm-returns-in_err-enter t c =
-    let q = err_from_is_err_and c.from_residual.result c.from_residual.ensures.1 in
-    rw (q.1, q.2) (ways.scope-full (kind_of c.args.kind) ((walks_f c.args.d).bare c.args.p c.args.i) c.in_err-enter.ensures)
+arm-returns-in_err-enter t c = ways.did-exit c.from_residual.result c.from_residual.ensures.1 (ways.scope-full (kind_of c.args.kind) ((walks_f c.args.d).bare c.args.p c.args.i) c.in_err-enter.ensures)
 
 pub arm-returns-then-d-eq0 : goal.arm-returns-then-d-eq0
 unfolding visit_with_child_f
@@ -24,9 +21,7 @@ arm-own-requires t c = (omega (arith, c.decreases, c.if-d-eq0.false), heres.here
 
 pub arm-returns-in_err-j : goal.arm-returns-in_err-j
 unfolding visit_with_child_f
-arm-returns-in_err-j t c =
-    let q = err_from_is_err_and c.from_residual-in_err-j.result c.from_residual-in_err-j.ensures.1 in
-    rw (q.1, q.2) (ways.scope-stop (kind_of c.args.kind) ((walks_f c.args.d).bare c.args.p c.args.i) c.in_ok-enter.ensures (ways.bare_of_lem c.args.p c.args.i c.args.d c.if-d-eq0.false c.in_err-j.ensures))
+arm-returns-in_err-j t c = ways.did-exit c.from_residual-in_err-j.result c.from_residual-in_err-j.ensures.1 (ways.scope-stop (kind_of c.args.kind) ((walks_f c.args.d).bare c.args.p c.args.i) c.in_ok-enter.ensures (ways.bare_of_lem c.args.p c.args.i c.args.d c.if-d-eq0.false c.in_err-j.ensures))
 
 pub arm-returns : goal.arm-returns
 unfolding visit_with_child_f

@@ -1,7 +1,6 @@
 -- The goals of arms. Assumes nothing.
 use mathlib.Core.Path.{refl, sym, ◌∙◌}
 use native.Mathlib.Omega.{arith}
-use Rattle.std.proofs.lemmas.Result.{err_from_is_err_and}
 use Rattle.def_tree.proofs.Sims.{sim-each}
 use Rattle.words_scopes.specs.Kinds.{kind_of}
 use Rattle.laws_flat.specs.WalkF.{walks_f, visit_with_child_f}
@@ -18,9 +17,7 @@ pub arms-arm-requires : goal.arms-arm-requires
 arms-arm-requires t c = (omega (arith, c.decreases), heres.here-behind (sim-each (sim-branch (sims c.args.d) c.args.p (kind_of c.args.kind))) c.requires c.loop-k._k c.loop-k-test.true c.loop-k.invariant)
 
 pub arms-returns-in_err-at : goal.arms-returns-in_err-at
-arms-returns-in_err-at t c =
-    let q = err_from_is_err_and c.from_residual.result c.from_residual.ensures.1 in
-    rw (q.1, q.2) (ways.many-stop (visit_with_child_f (walks_f c.args.d) c.args.p (kind_of c.args.kind)) c.args.i c.loop-k._k c.args.n c.loop-k.invariant c.loop-k-test.true c.in_err-at.ensures)
+arms-returns-in_err-at t c = ways.did-exit c.from_residual.result c.from_residual.ensures.1 (ways.many-stop (visit_with_child_f (walks_f c.args.d) c.args.p (kind_of c.args.kind)) c.args.i c.loop-k._k c.args.n c.loop-k.invariant c.loop-k-test.true c.in_err-at.ensures)
 
 pub arms-loop-k-preserved : goal.arms-loop-k-preserved
 arms-loop-k-preserved t c = ways.many-next (visit_with_child_f (walks_f c.args.d) c.args.p (kind_of c.args.kind)) c.args.i c.loop-k._k c.args.n c.loop-k.invariant c.in_ok-at.ensures

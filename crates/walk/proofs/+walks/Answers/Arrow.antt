@@ -2,7 +2,6 @@
 use mathlib.Core.Path.{sym, ◌∙◌}
 use mathlib.Core.Bool.{false}
 use native.Mathlib.Omega.{arith}
-use Rattle.std.proofs.lemmas.Result.{err_from_is_err_and}
 use Rattle.def_pass.specs.Scope.{fn as fn_kind}
 use Rattle.def_pass.specs.Walk.{opening}
 use Rattle.laws_flat.specs.WalkF.{walks_f, plain_f, visit_mut_arrow_expr_f}
@@ -12,18 +11,14 @@ use Rattle.walk.proofs.+walks.Goals as goal
 
 pub arrow-returns-in_err-enter : goal.arrow-returns-in_err-enter
 unfolding visit_mut_arrow_expr_f
-arrow-returns-in_err-enter t c =
-    let q = err_from_is_err_and c.from_residual.result c.from_residual.ensures.1 in
-    rw (q.1, q.2) (ways.scope-full (fn_kind false) (plain_f (walks_f c.args.d) c.args.p c.args.i) c.in_err-enter.ensures)
+arrow-returns-in_err-enter t c = ways.did-exit c.from_residual.result c.from_residual.ensures.1 (ways.scope-full (fn_kind false) (plain_f (walks_f c.args.d) c.args.p c.args.i) c.in_err-enter.ensures)
 
 pub arrow-kids-requires : goal.arrow-kids-requires
 arrow-kids-requires t c = (omega (arith, c.decreases), (heres.here-rest (opening (fn_kind false)) c.in_ok-enter.ensures c.requires))
 
 pub arrow-returns-in_err-j : goal.arrow-returns-in_err-j
 unfolding visit_mut_arrow_expr_f
-arrow-returns-in_err-j t c =
-    let q = err_from_is_err_and c.from_residual-in_err-j.result c.from_residual-in_err-j.ensures.1 in
-    rw (q.1, q.2) (ways.scope-stop (fn_kind false) (plain_f (walks_f c.args.d) c.args.p c.args.i) c.in_ok-enter.ensures c.in_err-j.ensures)
+arrow-returns-in_err-j t c = ways.did-exit c.from_residual-in_err-j.result c.from_residual-in_err-j.ensures.1 (ways.scope-stop (fn_kind false) (plain_f (walks_f c.args.d) c.args.p c.args.i) c.in_ok-enter.ensures c.in_err-j.ensures)
 
 pub arrow-returns : goal.arrow-returns
 unfolding visit_mut_arrow_expr_f

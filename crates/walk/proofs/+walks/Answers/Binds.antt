@@ -1,7 +1,6 @@
 -- The goals of binds. Assumes nothing.
 use mathlib.Core.Path.{refl, sym, ◌∙◌}
 use native.Mathlib.Omega.{arith}
-use Rattle.std.proofs.lemmas.Result.{err_from_is_err_and}
 use Rattle.def_tree.proofs.Sims.{sim-each}
 use Rattle.laws_flat.specs.WalkF.{walks_f, catch_param_f}
 use Rattle.laws_flat.proofs.Sim.{sims, sim-catch_param}
@@ -23,9 +22,7 @@ pub binds-full-requires : goal.binds-full-requires
 binds-full-requires t c = (omega (arith, c.decreases), (heres.here-behind (sim-each (sim-catch_param (sims c.args.d) c.args.p)) c.requires c.loop-k._k c.loop-k-test.true c.loop-k.invariant))
 
 pub binds-returns-in_err-at : goal.binds-returns-in_err-at
-binds-returns-in_err-at t c =
-    let q = err_from_is_err_and c.from_residual.result c.from_residual.ensures.1 in
-    rw (q.1, q.2) (ways.many-stop (catch_param_f (walks_f c.args.d) c.args.p) c.args.i c.loop-k._k c.args.n c.loop-k.invariant c.loop-k-test.true (ways.bound-stop (walks_f c.args.d) c.args.p c.loop-k.at c.in_err-at.ensures))
+binds-returns-in_err-at t c = ways.did-exit c.from_residual.result c.from_residual.ensures.1 (ways.many-stop (catch_param_f (walks_f c.args.d) c.args.p) c.args.i c.loop-k._k c.args.n c.loop-k.invariant c.loop-k-test.true (ways.bound-stop (walks_f c.args.d) c.args.p c.loop-k.at c.in_err-at.ensures))
 
 pub binds-mark_caught-requires : goal.binds-mark_caught-requires
 binds-mark_caught-requires t c = heres.name-low (heres.here-behind (sim-each (sim-catch_param (sims c.args.d) c.args.p)) c.requires c.loop-k._k c.loop-k-test.true c.loop-k.invariant) c.kind_at-kind.ensures c.num_at-x.ensures c.in_ok-at.ensures.ok.planted

@@ -1,7 +1,6 @@
 -- The goals of block. Assumes nothing.
 use mathlib.Core.Path.{sym, ◌∙◌}
 use native.Mathlib.Omega.{arith}
-use Rattle.std.proofs.lemmas.Result.{err_from_is_err_and}
 use Rattle.def_pass.specs.Scope.{block as block_kind}
 use Rattle.def_pass.specs.Walk.{opening}
 use Rattle.laws_flat.specs.WalkF.{walks_f, visit_mut_block_stmt_f, script_f}
@@ -11,18 +10,14 @@ use Rattle.walk.proofs.+walks.Goals as goal
 
 pub block-returns-in_err-enter : goal.block-returns-in_err-enter
 unfolding visit_mut_block_stmt_f script_f
-block-returns-in_err-enter t c =
-    let q = err_from_is_err_and c.from_residual.result c.from_residual.ensures.1 in
-    rw (q.1, q.2) (ways.scope-full block_kind (script_f (walks_f c.args.d) c.args.p c.args.i) c.in_err-enter.ensures)
+block-returns-in_err-enter t c = ways.did-exit c.from_residual.result c.from_residual.ensures.1 (ways.scope-full block_kind (script_f (walks_f c.args.d) c.args.p c.args.i) c.in_err-enter.ensures)
 
 pub block-body-requires : goal.block-body-requires
 block-body-requires t c = (omega (arith, c.decreases), (heres.here-rest (opening block_kind) c.in_ok-enter.ensures c.requires))
 
 pub block-returns-in_err-j : goal.block-returns-in_err-j
 unfolding visit_mut_block_stmt_f script_f
-block-returns-in_err-j t c =
-    let q = err_from_is_err_and c.from_residual-in_err-j.result c.from_residual-in_err-j.ensures.1 in
-    rw (q.1, q.2) (ways.scope-stop block_kind (script_f (walks_f c.args.d) c.args.p c.args.i) c.in_ok-enter.ensures c.in_err-j.ensures)
+block-returns-in_err-j t c = ways.did-exit c.from_residual-in_err-j.result c.from_residual-in_err-j.ensures.1 (ways.scope-stop block_kind (script_f (walks_f c.args.d) c.args.p c.args.i) c.in_ok-enter.ensures c.in_err-j.ensures)
 
 pub block-returns : goal.block-returns
 unfolding visit_mut_block_stmt_f script_f

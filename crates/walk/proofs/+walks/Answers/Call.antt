@@ -4,7 +4,6 @@ use mathlib.Core.Path.{refl, sym, ◌∙◌}
 use mathlib.Core.Bool.{false, not}
 use mathlib.Core.Option.{some}
 use native.Mathlib.Omega.{arith}
-use Rattle.std.proofs.lemmas.Result.{err_from_is_err_and}
 use Rattle.def_tree.specs.Combine.{◌>>=◌, ◌>>◌, ret, act, act_f, many, split_f}
 use Rattle.words.specs.Layout.{yes}
 use Rattle.def_pass.specs.Scope.{mark_this_sensitive, ident_of}
@@ -37,9 +36,7 @@ call-full-requires t c = (omega (arith, c.decreases), heres.here-one c.if-n-eq0.
 
 pub call-returns-in_err-j : goal.call-returns-in_err-j
 unfolding visit_mut_call_expr_f
-call-returns-in_err-j t c =
-    let q = err_from_is_err_and c.from_residual.result c.from_residual.ensures.1 in
-    rw (q.1, q.2) (laws.did-stop _ (ways.on-kids (λ q. split_f (λ i₁. ((walks_f c.args.d).full q i₁) >>= λ j. act (λ c s. when (not s.inlining) (mark (mark_this_sensitive (ident_of (some c)))) s) i₁ >> ret j) (λ n i₁. act_f (λ ts. when c.args.called (write_forest false ts)) n i₁ >> many ((walks_f c.args.d).full q) n i₁)) c.requires c.arity_at-n.ensures (ways.split-stop (λ i₁. ((walks_f c.args.d).full (c.args.p + 1) i₁) >>= λ j. act (λ c s. when (not s.inlining) (mark (mark_this_sensitive (ident_of (some c)))) s) i₁ >> ret j) (λ n i₁. act_f (λ ts. when c.args.called (write_forest false ts)) n i₁ >> many ((walks_f c.args.d).full (c.args.p + 1)) n i₁) c.arity_at-n.result (c.args.i + 1) c.if-n-eq0.false (laws.did-stop _ c.in_err-j.ensures))))
+call-returns-in_err-j t c = ways.did-exit c.from_residual.result c.from_residual.ensures.1 (laws.did-stop _ (ways.on-kids (λ q. split_f (λ i₁. ((walks_f c.args.d).full q i₁) >>= λ j. act (λ c s. when (not s.inlining) (mark (mark_this_sensitive (ident_of (some c)))) s) i₁ >> ret j) (λ n i₁. act_f (λ ts. when c.args.called (write_forest false ts)) n i₁ >> many ((walks_f c.args.d).full q) n i₁)) c.requires c.arity_at-n.ensures (ways.split-stop (λ i₁. ((walks_f c.args.d).full (c.args.p + 1) i₁) >>= λ j. act (λ c s. when (not s.inlining) (mark (mark_this_sensitive (ident_of (some c)))) s) i₁ >> ret j) (λ n i₁. act_f (λ ts. when c.args.called (write_forest false ts)) n i₁ >> many ((walks_f c.args.d).full (c.args.p + 1)) n i₁) c.arity_at-n.result (c.args.i + 1) c.if-n-eq0.false (laws.did-stop _ c.in_err-j.ensures))))
 
 pub call-overflow_add-i-2 : goal.call-overflow_add-i-2
 call-overflow_add-i-2 t c = omega (arith, c.requires.depth, (heres.at-node c.requires).1)
@@ -52,9 +49,7 @@ call-write_args-requires t c = heres.at-trees (heres.here-tree (λ c s. when (no
 
 pub call-returns-in_err-write_args : goal.call-returns-in_err-write_args
 unfolding visit_mut_call_expr_f
-call-returns-in_err-write_args t c =
-    let q = err_from_is_err_and c.from_residual-in_err-write_args.result c.from_residual-in_err-write_args.ensures.1 in
-    rw (q.1, q.2) (laws.did-stop _ (ways.on-kids (λ q. split_f (λ i₁. ((walks_f c.args.d).full q i₁) >>= λ j. act (λ c s. when (not s.inlining) (mark (mark_this_sensitive (ident_of (some c)))) s) i₁ >> ret j) (λ n i₁. act_f (λ ts. when c.args.called (write_forest false ts)) n i₁ >> many ((walks_f c.args.d).full q) n i₁)) c.requires c.arity_at-n.ensures (ways.split-then (λ i₁. ((walks_f c.args.d).full (c.args.p + 1) i₁) >>= λ j. act (λ c s. when (not s.inlining) (mark (mark_this_sensitive (ident_of (some c)))) s) i₁ >> ret j) (λ n i₁. act_f (λ ts. when c.args.called (write_forest false ts)) n i₁ >> many ((walks_f c.args.d).full (c.args.p + 1)) n i₁) c.arity_at-n.result (c.args.i + 1) c.if-n-eq0.false (laws.did_then _ c.in_ok-j.ensures (ways.act-end c.in_ok-j.j c.mark_callee.ensures)) (laws.act-stop _ c.in_err-write_args.ensures))))
+call-returns-in_err-write_args t c = ways.did-exit c.from_residual-in_err-write_args.result c.from_residual-in_err-write_args.ensures.1 (laws.did-stop _ (ways.on-kids (λ q. split_f (λ i₁. ((walks_f c.args.d).full q i₁) >>= λ j. act (λ c s. when (not s.inlining) (mark (mark_this_sensitive (ident_of (some c)))) s) i₁ >> ret j) (λ n i₁. act_f (λ ts. when c.args.called (write_forest false ts)) n i₁ >> many ((walks_f c.args.d).full q) n i₁)) c.requires c.arity_at-n.ensures (ways.split-then (λ i₁. ((walks_f c.args.d).full (c.args.p + 1) i₁) >>= λ j. act (λ c s. when (not s.inlining) (mark (mark_this_sensitive (ident_of (some c)))) s) i₁ >> ret j) (λ n i₁. act_f (λ ts. when c.args.called (write_forest false ts)) n i₁ >> many ((walks_f c.args.d).full (c.args.p + 1)) n i₁) c.arity_at-n.result (c.args.i + 1) c.if-n-eq0.false (laws.did_then _ c.in_ok-j.ensures (ways.act-end c.in_ok-j.j c.mark_callee.ensures)) (laws.act-stop _ c.in_err-write_args.ensures))))
 
 pub call-overflow_add-p-2 : goal.call-overflow_add-p-2
 call-overflow_add-p-2 t c = omega (arith, c.requires.depth, (heres.at-node c.requires).1)
@@ -64,9 +59,7 @@ call-many-requires t c = (omega (arith, c.decreases), heres.here-trees (λ ts. w
 
 pub call-returns-in_err-end : goal.call-returns-in_err-end
 unfolding visit_mut_call_expr_f
-call-returns-in_err-end t c =
-    let q = err_from_is_err_and c.from_residual-in_err-end.result c.from_residual-in_err-end.ensures.1 in
-    rw (q.1, q.2) (laws.did-stop _ (ways.on-kids (λ q. split_f (λ i₁. ((walks_f c.args.d).full q i₁) >>= λ j. act (λ c s. when (not s.inlining) (mark (mark_this_sensitive (ident_of (some c)))) s) i₁ >> ret j) (λ n i₁. act_f (λ ts. when c.args.called (write_forest false ts)) n i₁ >> many ((walks_f c.args.d).full q) n i₁)) c.requires c.arity_at-n.ensures (ways.split-then (λ i₁. ((walks_f c.args.d).full (c.args.p + 1) i₁) >>= λ j. act (λ c s. when (not s.inlining) (mark (mark_this_sensitive (ident_of (some c)))) s) i₁ >> ret j) (λ n i₁. act_f (λ ts. when c.args.called (write_forest false ts)) n i₁ >> many ((walks_f c.args.d).full (c.args.p + 1)) n i₁) c.arity_at-n.result (c.args.i + 1) c.if-n-eq0.false (laws.did_then _ c.in_ok-j.ensures (ways.act-end c.in_ok-j.j c.mark_callee.ensures)) (laws.act-then _ c.in_ok-write_args.ensures c.in_err-end.ensures))))
+call-returns-in_err-end t c = ways.did-exit c.from_residual-in_err-end.result c.from_residual-in_err-end.ensures.1 (laws.did-stop _ (ways.on-kids (λ q. split_f (λ i₁. ((walks_f c.args.d).full q i₁) >>= λ j. act (λ c s. when (not s.inlining) (mark (mark_this_sensitive (ident_of (some c)))) s) i₁ >> ret j) (λ n i₁. act_f (λ ts. when c.args.called (write_forest false ts)) n i₁ >> many ((walks_f c.args.d).full q) n i₁)) c.requires c.arity_at-n.ensures (ways.split-then (λ i₁. ((walks_f c.args.d).full (c.args.p + 1) i₁) >>= λ j. act (λ c s. when (not s.inlining) (mark (mark_this_sensitive (ident_of (some c)))) s) i₁ >> ret j) (λ n i₁. act_f (λ ts. when c.args.called (write_forest false ts)) n i₁ >> many ((walks_f c.args.d).full (c.args.p + 1)) n i₁) c.arity_at-n.result (c.args.i + 1) c.if-n-eq0.false (laws.did_then _ c.in_ok-j.ensures (ways.act-end c.in_ok-j.j c.mark_callee.ensures)) (laws.act-then _ c.in_ok-write_args.ensures c.in_err-end.ensures))))
 
 pub call-returns : goal.call-returns
 unfolding visit_mut_call_expr_f

@@ -1,7 +1,6 @@
 -- The goals of case. Assumes nothing.
 use mathlib.Core.Path.{sym, ◌∙◌}
 use native.Mathlib.Omega.{arith}
-use Rattle.std.proofs.lemmas.Result.{err_from_is_err_and}
 use Rattle.def_pass.specs.Scope.{block as block_kind}
 use Rattle.def_pass.specs.Walk.{opening}
 use Rattle.laws_flat.specs.WalkF.{walks_f, visit_mut_switch_case_f}
@@ -12,18 +11,14 @@ use Rattle.walk.proofs.+walks.Goals as goal
 
 pub case-returns-in_err-enter : goal.case-returns-in_err-enter
 unfolding visit_mut_switch_case_f
-case-returns-in_err-enter t c =
-    let q = err_from_is_err_and c.from_residual.result c.from_residual.ensures.1 in
-    rw (q.1, q.2) (ways.scope-full block_kind (items_f (walks_f c.args.d) c.args.p c.args.i) c.in_err-enter.ensures)
+case-returns-in_err-enter t c = ways.did-exit c.from_residual.result c.from_residual.ensures.1 (ways.scope-full block_kind (items_f (walks_f c.args.d) c.args.p c.args.i) c.in_err-enter.ensures)
 
 pub case-items-requires : goal.case-items-requires
 case-items-requires t c = (omega (arith, c.decreases), (heres.here-rest (opening block_kind) c.in_ok-enter.ensures c.requires))
 
 pub case-returns-in_err-j : goal.case-returns-in_err-j
 unfolding visit_mut_switch_case_f
-case-returns-in_err-j t c =
-    let q = err_from_is_err_and c.from_residual-in_err-j.result c.from_residual-in_err-j.ensures.1 in
-    rw (q.1, q.2) (ways.scope-stop block_kind (items_f (walks_f c.args.d) c.args.p c.args.i) c.in_ok-enter.ensures c.in_err-j.ensures)
+case-returns-in_err-j t c = ways.did-exit c.from_residual-in_err-j.result c.from_residual-in_err-j.ensures.1 (ways.scope-stop block_kind (items_f (walks_f c.args.d) c.args.p c.args.i) c.in_ok-enter.ensures c.in_err-j.ensures)
 
 pub case-returns : goal.case-returns
 unfolding visit_mut_switch_case_f

@@ -2,7 +2,6 @@
 use Prim.Native.Nat.{suc, ◌+◌, ◌-◌}
 use mathlib.Core.Path.{refl, sym, ◌∙◌}
 use native.Mathlib.Omega.{arith}
-use Rattle.std.proofs.lemmas.Result.{err_from_is_err_and}
 use Rattle.def_tree.specs.Combine.{each_but_f, on_kids_f}
 use Rattle.def_tree.proofs.Sims.{sim-each}
 use Rattle.def_pass.specs.Scope.{block as block_kind}
@@ -16,9 +15,7 @@ use Rattle.walk.proofs.+walks.Goals as goal
 
 pub catch-returns-in_err-enter : goal.catch-returns-in_err-enter
 unfolding visit_mut_catch_clause_f
-catch-returns-in_err-enter t c =
-    let q = err_from_is_err_and c.from_residual.result c.from_residual.ensures.1 in
-    rw (q.1, q.2) (ways.scope-full block_kind (caught_f (walks_f c.args.d) c.args.p c.args.i) c.in_err-enter.ensures)
+catch-returns-in_err-enter t c = ways.did-exit c.from_residual.result c.from_residual.ensures.1 (ways.scope-full block_kind (caught_f (walks_f c.args.d) c.args.p c.args.i) c.in_err-enter.ensures)
 
 pub catch-arity_at-n-requires : goal.catch-arity_at-n-requires
 catch-arity_at-n-requires t c = heres.at-node (heres.here-turn c.set_pat_mode.ensures (heres.here-rest (opening block_kind) c.in_ok-enter.ensures c.requires))
@@ -41,9 +38,7 @@ catch-binds-requires t c = (omega (arith, c.decreases), heres.here-less (heres.h
 
 pub catch-returns-in_err-j : goal.catch-returns-in_err-j
 unfolding visit_mut_catch_clause_f
-catch-returns-in_err-j t c =
-    let q = err_from_is_err_and c.from_residual-in_err-j.result c.from_residual-in_err-j.ensures.1 in
-    rw (q.1, q.2) (ways.scope-stop block_kind (caught_f (walks_f c.args.d) c.args.p c.args.i) c.in_ok-enter.ensures (ways.modify-then (set_pat_mode as_catch) (on_kids_f (each_but_f (catch_param_f (walks_f c.args.d) (suc c.args.p)) ((walks_f c.args.d).full (suc c.args.p))) c.args.i) c.set_pat_mode.ensures (ways.on-kids (λ q. each_but_f (catch_param_f (walks_f c.args.d) q) ((walks_f c.args.d).full q)) (heres.here-turn c.set_pat_mode.ensures (heres.here-rest (opening block_kind) c.in_ok-enter.ensures c.requires)) c.arity_at-n.ensures (ways.but-stop (catch_param_f (walks_f c.args.d) (c.args.p + 1)) ((walks_f c.args.d).full (c.args.p + 1)) c.arity_at-n.result (c.args.i + 1) c.if-n-eq0.false c.in_err-j.ensures))))
+catch-returns-in_err-j t c = ways.did-exit c.from_residual-in_err-j.result c.from_residual-in_err-j.ensures.1 (ways.scope-stop block_kind (caught_f (walks_f c.args.d) c.args.p c.args.i) c.in_ok-enter.ensures (ways.modify-then (set_pat_mode as_catch) (on_kids_f (each_but_f (catch_param_f (walks_f c.args.d) (suc c.args.p)) ((walks_f c.args.d).full (suc c.args.p))) c.args.i) c.set_pat_mode.ensures (ways.on-kids (λ q. each_but_f (catch_param_f (walks_f c.args.d) q) ((walks_f c.args.d).full q)) (heres.here-turn c.set_pat_mode.ensures (heres.here-rest (opening block_kind) c.in_ok-enter.ensures c.requires)) c.arity_at-n.ensures (ways.but-stop (catch_param_f (walks_f c.args.d) (c.args.p + 1)) ((walks_f c.args.d).full (c.args.p + 1)) c.arity_at-n.result (c.args.i + 1) c.if-n-eq0.false c.in_err-j.ensures))))
 
 pub catch-overflow_add-p-2 : goal.catch-overflow_add-p-2
 catch-overflow_add-p-2 t c = omega (arith, c.requires.depth, (heres.at-node c.requires).1)
@@ -53,9 +48,7 @@ catch-full-requires t c = (omega (arith, c.decreases), heres.here-behind (sim-ea
 
 pub catch-returns-in_err-end : goal.catch-returns-in_err-end
 unfolding visit_mut_catch_clause_f
-catch-returns-in_err-end t c =
-    let q = err_from_is_err_and c.from_residual-in_err-end.result c.from_residual-in_err-end.ensures.1 in
-    rw (q.1, q.2) (ways.scope-stop block_kind (caught_f (walks_f c.args.d) c.args.p c.args.i) c.in_ok-enter.ensures (ways.modify-then (set_pat_mode as_catch) (on_kids_f (each_but_f (catch_param_f (walks_f c.args.d) (suc c.args.p)) ((walks_f c.args.d).full (suc c.args.p))) c.args.i) c.set_pat_mode.ensures (ways.on-kids (λ q. each_but_f (catch_param_f (walks_f c.args.d) q) ((walks_f c.args.d).full q)) (heres.here-turn c.set_pat_mode.ensures (heres.here-rest (opening block_kind) c.in_ok-enter.ensures c.requires)) c.arity_at-n.ensures (ways.but-then (catch_param_f (walks_f c.args.d) (c.args.p + 1)) ((walks_f c.args.d).full (c.args.p + 1)) c.arity_at-n.result (c.args.i + 1) c.if-n-eq0.false c.in_ok-j.ensures c.in_err-end.ensures))))
+catch-returns-in_err-end t c = ways.did-exit c.from_residual-in_err-end.result c.from_residual-in_err-end.ensures.1 (ways.scope-stop block_kind (caught_f (walks_f c.args.d) c.args.p c.args.i) c.in_ok-enter.ensures (ways.modify-then (set_pat_mode as_catch) (on_kids_f (each_but_f (catch_param_f (walks_f c.args.d) (suc c.args.p)) ((walks_f c.args.d).full (suc c.args.p))) c.args.i) c.set_pat_mode.ensures (ways.on-kids (λ q. each_but_f (catch_param_f (walks_f c.args.d) q) ((walks_f c.args.d).full q)) (heres.here-turn c.set_pat_mode.ensures (heres.here-rest (opening block_kind) c.in_ok-enter.ensures c.requires)) c.arity_at-n.ensures (ways.but-then (catch_param_f (walks_f c.args.d) (c.args.p + 1)) ((walks_f c.args.d).full (c.args.p + 1)) c.arity_at-n.result (c.args.i + 1) c.if-n-eq0.false c.in_ok-j.ensures c.in_err-end.ensures))))
 
 pub catch-returns : goal.catch-returns
 unfolding visit_mut_catch_clause_f

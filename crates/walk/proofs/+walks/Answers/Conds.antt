@@ -1,7 +1,6 @@
 -- The goals of conds. Assumes nothing.
 use mathlib.Core.Path.{refl, sym, ◌∙◌}
 use native.Mathlib.Omega.{arith}
-use Rattle.std.proofs.lemmas.Result.{err_from_is_err_and}
 use Rattle.def_tree.proofs.Sims.{sim-each, sim-within}
 use Rattle.def_pass.specs.Scope.{cond as cond_kind}
 use Rattle.def_pass.specs.Walk.{opening, restore, deeper, shallower}
@@ -20,18 +19,14 @@ conds-deeper-requires t c = (heres.here-behind (sim-each (sim-within deeper shal
 
 pub conds-returns-in_err-deeper : goal.conds-returns-in_err-deeper
 unfolding visit_with_child_f
-conds-returns-in_err-deeper t c =
-    let q = err_from_is_err_and c.from_residual.result c.from_residual.ensures.1 in
-    rw (q.1, q.2) (ways.many-stop (λ r. in_cond_f ((walks_f c.args.d).bare c.args.p r)) c.args.i c.loop-k._k c.args.n c.loop-k.invariant c.loop-k-test.true (ways.cond-full (visit_with_child_f (walks_f c.args.d) c.args.p cond_kind c.loop-k.at) c.in_err-deeper.ensures))
+conds-returns-in_err-deeper t c = ways.did-exit c.from_residual.result c.from_residual.ensures.1 (ways.many-stop (λ r. in_cond_f ((walks_f c.args.d).bare c.args.p r)) c.args.i c.loop-k._k c.args.n c.loop-k.invariant c.loop-k-test.true (ways.cond-full (visit_with_child_f (walks_f c.args.d) c.args.p cond_kind c.loop-k.at) c.in_err-deeper.ensures))
 
 pub conds-arm-requires : goal.conds-arm-requires
 conds-arm-requires t c = (omega (arith, c.decreases), heres.here-rest deeper c.in_ok-deeper.ensures (heres.here-behind (sim-each (sim-within deeper shallower (sim-within (opening cond_kind) restore ((sims c.args.d).bare c.args.p)))) c.requires c.loop-k._k c.loop-k-test.true c.loop-k.invariant))
 
 pub conds-returns-in_err-at : goal.conds-returns-in_err-at
 unfolding visit_with_child_f
-conds-returns-in_err-at t c =
-    let q = err_from_is_err_and c.from_residual-in_err-at.result c.from_residual-in_err-at.ensures.1 in
-    rw (q.1, q.2) (ways.many-stop (λ r. in_cond_f ((walks_f c.args.d).bare c.args.p r)) c.args.i c.loop-k._k c.args.n c.loop-k.invariant c.loop-k-test.true (ways.cond-stop (visit_with_child_f (walks_f c.args.d) c.args.p cond_kind c.loop-k.at) c.in_ok-deeper.ensures c.in_err-at.ensures))
+conds-returns-in_err-at t c = ways.did-exit c.from_residual-in_err-at.result c.from_residual-in_err-at.ensures.1 (ways.many-stop (λ r. in_cond_f ((walks_f c.args.d).bare c.args.p r)) c.args.i c.loop-k._k c.args.n c.loop-k.invariant c.loop-k-test.true (ways.cond-stop (visit_with_child_f (walks_f c.args.d) c.args.p cond_kind c.loop-k.at) c.in_ok-deeper.ensures c.in_err-at.ensures))
 
 pub conds-loop-k-preserved : goal.conds-loop-k-preserved
 unfolding visit_with_child_f

@@ -2,7 +2,6 @@
 use Prim.Native.Nat.{◌+◌}
 use mathlib.Core.Path.{sym, ◌∙◌}
 use native.Mathlib.Omega.{arith}
-use Rattle.std.proofs.lemmas.Result.{err_from_is_err_and}
 use Rattle.def_tree.specs.Combine.{tree_at}
 use Rattle.def_tree.proofs.Sims.{sim-each, sim-skip, sim-split}
 use Rattle.words_state.specs.State.{abs, rest}
@@ -26,9 +25,7 @@ pub declr-tail-requires : goal.declr-tail-requires
 declr-tail-requires t c = (omega (arith, c.decreases), (heres.here-kids c.requires c.arity_at-n.ensures))
 
 pub declr-returns-in_err-tail : goal.declr-returns-in_err-tail
-declr-returns-in_err-tail t c =
-    let q = err_from_is_err_and c.from_residual.result c.from_residual.ensures.1 in
-    rw (q.1, q.2) (declrs.declr-stop (walks_f c.args.d) c.requires c.arity_at-n.ensures c.in_err-tail.ensures)
+declr-returns-in_err-tail t c = ways.did-exit c.from_residual.result c.from_residual.ensures.1 (declrs.declr-stop (walks_f c.args.d) c.requires c.arity_at-n.ensures c.in_err-tail.ensures)
 
 pub declr-overflow_add-i-2 : goal.declr-overflow_add-i-2
 declr-overflow_add-i-2 t c = omega (arith, c.requires.depth, (heres.at-node c.requires).1)
@@ -79,6 +76,4 @@ pub declr-returns : goal.declr-returns
 declr-returns t c = declrs.declr-then (walks_f c.args.d) c.requires c.arity_at-n.ensures c.in_ok-tail.ensures c.set_pat_mode.ensures (declrs.over_no (walks_f c.args.d) c.args.p (sim-name (sims c.args.d) c.args.p) (declrs.kids-again (sim-split sim-skip (sim-each ((sims c.args.d).full (c.args.p + 1)))) c.requires c.arity_at-n.ensures c.in_ok-tail.ensures c.set_pat_mode.ensures).0 (declrs.kids-again (sim-split sim-skip (sim-each ((sims c.args.d).full (c.args.p + 1)))) c.requires c.arity_at-n.ensures c.in_ok-tail.ensures c.set_pat_mode.ensures).1 (tree_at (abs c.set_pat_mode.new.w) (c.args.i + 1)) (rest c.set_pat_mode.new.w).var_decl_kind (declrs.headed-no c.set_pat_mode.new.w c.arity_at-n.result (c.args.i + 1) c.nameless.result c.nameless.ensures c.if-nameless.false).0 (ways.in-analysis c.set_pat_mode.new.w c.if-w-ne0.false) c.form_at.result (declrs.name-form (heres.here-turn c.set_pat_mode.ensures (heres.here-again (sim-split sim-skip (sim-each ((sims c.args.d).full (c.args.p + 1)))) (heres.here-kids c.requires c.arity_at-n.ensures) c.in_ok-tail.ensures)) (declrs.headed-no c.set_pat_mode.new.w c.arity_at-n.result (c.args.i + 1) c.nameless.result c.nameless.ensures c.if-nameless.false).1 c.form_at.ensures) c.ident_at.result (declrs.name-num (heres.here-turn c.set_pat_mode.ensures (heres.here-again (sim-split sim-skip (sim-each ((sims c.args.d).full (c.args.p + 1)))) (heres.here-kids c.requires c.arity_at-n.ensures) c.in_ok-tail.ensures)) (declrs.headed-no c.set_pat_mode.new.w c.arity_at-n.result (c.args.i + 1) c.nameless.result c.nameless.ensures c.if-nameless.false).1 c.ident_at.ensures) c.in_ok-gone.ensures c.if-gone.false c.name-2.ensures)
 
 pub declr-returns-in_err-gone : goal.declr-returns-in_err-gone
-declr-returns-in_err-gone t c =
-    let q = err_from_is_err_and c.from_residual-in_err-gone.result c.from_residual-in_err-gone.ensures.1 in
-    rw (q.1, q.2) (declrs.declr-then (walks_f c.args.d) c.requires c.arity_at-n.ensures c.in_ok-tail.ensures c.set_pat_mode.ensures (declrs.over-stop (walks_f c.args.d) c.args.p (sim-name (sims c.args.d) c.args.p) (declrs.kids-again (sim-split sim-skip (sim-each ((sims c.args.d).full (c.args.p + 1)))) c.requires c.arity_at-n.ensures c.in_ok-tail.ensures c.set_pat_mode.ensures).0 (declrs.kids-again (sim-split sim-skip (sim-each ((sims c.args.d).full (c.args.p + 1)))) c.requires c.arity_at-n.ensures c.in_ok-tail.ensures c.set_pat_mode.ensures).1 (tree_at (abs c.set_pat_mode.new.w) (c.args.i + 1)) (rest c.set_pat_mode.new.w).var_decl_kind (declrs.headed-no c.set_pat_mode.new.w c.arity_at-n.result (c.args.i + 1) c.nameless.result c.nameless.ensures c.if-nameless.false).0 (ways.in-analysis c.set_pat_mode.new.w c.if-w-ne0.false) c.form_at.result (declrs.name-form (heres.here-turn c.set_pat_mode.ensures (heres.here-again (sim-split sim-skip (sim-each ((sims c.args.d).full (c.args.p + 1)))) (heres.here-kids c.requires c.arity_at-n.ensures) c.in_ok-tail.ensures)) (declrs.headed-no c.set_pat_mode.new.w c.arity_at-n.result (c.args.i + 1) c.nameless.result c.nameless.ensures c.if-nameless.false).1 c.form_at.ensures) c.ident_at.result (declrs.name-num (heres.here-turn c.set_pat_mode.ensures (heres.here-again (sim-split sim-skip (sim-each ((sims c.args.d).full (c.args.p + 1)))) (heres.here-kids c.requires c.arity_at-n.ensures) c.in_ok-tail.ensures)) (declrs.headed-no c.set_pat_mode.new.w c.arity_at-n.result (c.args.i + 1) c.nameless.result c.nameless.ensures c.if-nameless.false).1 c.ident_at.ensures) c.in_err-gone.ensures))
+declr-returns-in_err-gone t c = ways.did-exit c.from_residual-in_err-gone.result c.from_residual-in_err-gone.ensures.1 (declrs.declr-then (walks_f c.args.d) c.requires c.arity_at-n.ensures c.in_ok-tail.ensures c.set_pat_mode.ensures (declrs.over-stop (walks_f c.args.d) c.args.p (sim-name (sims c.args.d) c.args.p) (declrs.kids-again (sim-split sim-skip (sim-each ((sims c.args.d).full (c.args.p + 1)))) c.requires c.arity_at-n.ensures c.in_ok-tail.ensures c.set_pat_mode.ensures).0 (declrs.kids-again (sim-split sim-skip (sim-each ((sims c.args.d).full (c.args.p + 1)))) c.requires c.arity_at-n.ensures c.in_ok-tail.ensures c.set_pat_mode.ensures).1 (tree_at (abs c.set_pat_mode.new.w) (c.args.i + 1)) (rest c.set_pat_mode.new.w).var_decl_kind (declrs.headed-no c.set_pat_mode.new.w c.arity_at-n.result (c.args.i + 1) c.nameless.result c.nameless.ensures c.if-nameless.false).0 (ways.in-analysis c.set_pat_mode.new.w c.if-w-ne0.false) c.form_at.result (declrs.name-form (heres.here-turn c.set_pat_mode.ensures (heres.here-again (sim-split sim-skip (sim-each ((sims c.args.d).full (c.args.p + 1)))) (heres.here-kids c.requires c.arity_at-n.ensures) c.in_ok-tail.ensures)) (declrs.headed-no c.set_pat_mode.new.w c.arity_at-n.result (c.args.i + 1) c.nameless.result c.nameless.ensures c.if-nameless.false).1 c.form_at.ensures) c.ident_at.result (declrs.name-num (heres.here-turn c.set_pat_mode.ensures (heres.here-again (sim-split sim-skip (sim-each ((sims c.args.d).full (c.args.p + 1)))) (heres.here-kids c.requires c.arity_at-n.ensures) c.in_ok-tail.ensures)) (declrs.headed-no c.set_pat_mode.new.w c.arity_at-n.result (c.args.i + 1) c.nameless.result c.nameless.ensures c.if-nameless.false).1 c.ident_at.ensures) c.in_err-gone.ensures))

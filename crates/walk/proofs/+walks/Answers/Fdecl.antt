@@ -3,7 +3,6 @@ use Prim.Native.Nat.{◌+◌}
 use mathlib.Core.Path.{refl, sym}
 use mathlib.Core.Bool.{true}
 use native.Mathlib.Omega.{arith}
-use Rattle.std.proofs.lemmas.Result.{err_from_is_err_and}
 use Rattle.def_tree.specs.Combine.{skip, split_f}
 use Rattle.def_tree.proofs.Sims.{sim-skip}
 use Rattle.def_pass.specs.Tree.{kids, head_t}
@@ -19,9 +18,7 @@ fdecl-declare_name-requires t c = heres.at-skip c.requires
 
 pub fdecl-returns-in_err-declare_name : goal.fdecl-returns-in_err-declare_name
 unfolding visit_mut_fn_decl_f
-fdecl-returns-in_err-declare_name t c =
-    let q = err_from_is_err_and c.from_residual.result c.from_residual.ensures.1 in
-    rw (q.1, q.2) (laws.act-stop _ c.in_err-declare_name.ensures)
+fdecl-returns-in_err-declare_name t c = ways.did-exit c.from_residual.result c.from_residual.ensures.1 (laws.act-stop _ c.in_err-declare_name.ensures)
 
 pub fdecl-arity_at-n-requires : goal.fdecl-arity_at-n-requires
 fdecl-arity_at-n-requires t c = heres.at-node (heres.here-tree (λ t. declare_name (head_t (kids t))) c.args.i c.in_ok-declare_name.ensures c.requires)

@@ -3,7 +3,6 @@ use Prim.Native.Nat.{◌+◌}
 use mathlib.Core.Path.{refl, sym}
 use mathlib.Core.Bool.{false}
 use native.Mathlib.Omega.{arith}
-use Rattle.std.proofs.lemmas.Result.{err_from_is_err_and}
 use Rattle.def_tree.specs.Combine.{skip, split_f}
 use Rattle.def_tree.proofs.Sims.{sim-skip}
 use Rattle.def_pass.specs.Tree.{kids, head_t}
@@ -35,9 +34,7 @@ fexpr-write_name-requires t c = heres.at-skip c.requires
 
 pub fexpr-returns-in_err-write_name : goal.fexpr-returns-in_err-write_name
 unfolding visit_mut_fn_expr_f
-fexpr-returns-in_err-write_name t c =
-    let q = err_from_is_err_and c.from_residual.result c.from_residual.ensures.1 in
-    rw (q.1, q.2) (ways.iff-yes _ _ (ways.form-yes c.requires c.form_at-f.ensures c.if-f-ne1.false) (laws.act-stop _ c.in_err-write_name.ensures))
+fexpr-returns-in_err-write_name t c = ways.did-exit c.from_residual.result c.from_residual.ensures.1 (ways.iff-yes _ _ (ways.form-yes c.requires c.form_at-f.ensures c.if-f-ne1.false) (laws.act-stop _ c.in_err-write_name.ensures))
 
 pub fexpr-overflow_add-result : goal.fexpr-overflow_add-result
 fexpr-overflow_add-result t c = omega (arith, c.requires.depth, (heres.at-node c.requires).1)

@@ -2,7 +2,6 @@
 use mathlib.Core.Path.{refl, sym, ◌∙◌}
 use mathlib.Core.Bool.{true}
 use native.Mathlib.Omega.{arith}
-use Rattle.std.proofs.lemmas.Result.{err_from_is_err_and}
 use Rattle.def_tree.specs.Combine.{each_but_f}
 use Rattle.def_pass.specs.Tree.{kids}
 use Rattle.def_pass.specs.Scope.{loop as loop_kind}
@@ -18,9 +17,7 @@ fors-write_kids_but_last-requires t c = heres.at-skip c.requires
 
 pub fors-returns-in_err-write_kids_but_last : goal.fors-returns-in_err-write_kids_but_last
 unfolding visit_mut_for_stmt_f
-fors-returns-in_err-write_kids_but_last t c =
-    let q = err_from_is_err_and c.from_residual.result c.from_residual.ensures.1 in
-    rw (q.1, q.2) (laws.act-stop _ c.in_err-write_kids_but_last.ensures)
+fors-returns-in_err-write_kids_but_last t c = ways.did-exit c.from_residual.result c.from_residual.ensures.1 (laws.act-stop _ c.in_err-write_kids_but_last.ensures)
 
 pub fors-form_at-f-requires : goal.fors-form_at-f-requires
 fors-form_at-f-requires t c = heres.at-node (heres.here-tree (λ t. write_forest true (but_last (kids t))) c.args.i c.in_ok-write_kids_but_last.ensures c.requires)
@@ -39,9 +36,7 @@ fors-loops-requires t c = (omega (arith, c.decreases), heres.here-kids (heres.he
 
 pub fors-returns-in_err-j : goal.fors-returns-in_err-j
 unfolding visit_mut_for_stmt_f
-fors-returns-in_err-j t c =
-    let q = err_from_is_err_and c.from_residual-in_err-j.result c.from_residual-in_err-j.ensures.1 in
-    rw (q.1, q.2) (laws.act-then _ c.in_ok-write_kids_but_last.ensures (laws.did-stop _ (ways.on-kids (λ q. each_but_f ((walks_f c.args.d).full q) (visit_with_child_f (walks_f c.args.d) q loop_kind)) (heres.here-tree (λ t. write_forest true (but_last (kids t))) c.args.i c.in_ok-write_kids_but_last.ensures c.requires) c.arity_at-n.ensures c.in_err-j.ensures)))
+fors-returns-in_err-j t c = ways.did-exit c.from_residual-in_err-j.result c.from_residual-in_err-j.ensures.1 (laws.act-then _ c.in_ok-write_kids_but_last.ensures (laws.did-stop _ (ways.on-kids (λ q. each_but_f ((walks_f c.args.d).full q) (visit_with_child_f (walks_f c.args.d) q loop_kind)) (heres.here-tree (λ t. write_forest true (but_last (kids t))) c.args.i c.in_ok-write_kids_but_last.ensures c.requires) c.arity_at-n.ensures c.in_err-j.ensures)))
 
 pub fors-returns-then-f-eq0 : goal.fors-returns-then-f-eq0
 unfolding visit_mut_for_stmt_f

@@ -2,7 +2,6 @@
 use Prim.Native.Nat.{◌-◌}
 use mathlib.Core.Path.{refl, sym, ◌∙◌}
 use native.Mathlib.Omega.{arith}
-use Rattle.std.proofs.lemmas.Result.{err_from_is_err_and}
 use Rattle.laws_flat.specs.WalkF.{walks_f}
 use Rattle.laws_flat.proofs.Sim.{sims, sim-own}
 use Rattle.walk_laws.proofs.Shorts as shorts
@@ -35,9 +34,7 @@ pub full-own-requires : goal.full-own-requires
 full-own-requires t c = (omega (arith, c.decreases, c.if-l-eq0.false), heres.here-up c.if-l-eq0.false c.requires)
 
 pub full-returns-in_err-j : goal.full-returns-in_err-j
-full-returns-in_err-j t c =
-    let q = err_from_is_err_and c.from_residual.result c.from_residual.ensures.1 in
-    rw (q.1, q.2) (ways.full-stop c.args.p c.args.i c.args.l c.if-l-eq0.false c.in_err-j.ensures)
+full-returns-in_err-j t c = ways.did-exit c.from_residual.result c.from_residual.ensures.1 (ways.full-stop c.args.p c.args.i c.args.l c.if-l-eq0.false c.in_err-j.ensures)
 
 pub full-settled-requires : goal.full-settled-requires
 full-settled-requires t c = heres.here-flat (heres.here-still (sim-own (sims (c.args.l - 1)) c.args.p) (heres.here-up c.if-l-eq0.false c.requires) refl c.in_ok-j.ensures)

@@ -2,7 +2,6 @@
 use mathlib.Core.Path.{sym}
 use mathlib.Core.Option.{some}
 use native.Mathlib.Omega.{arith}
-use Rattle.std.proofs.lemmas.Result.{err_from_is_err_and}
 use Rattle.words_state.specs.State.{abs}
 use Rattle.laws_flat.specs.WalkF.{walks_f}
 use Rattle.laws_flat.proofs.Sim.{sims, sim-after_ident}
@@ -20,9 +19,7 @@ pub ident-inline_constant-requires : goal.ident-inline_constant-requires
 ident-inline_constant-requires t c = (c.requires.0.planted, heres.here-node c.requires.0, c.requires.1, c.in-Some.ensures.0, c.in-Some.ensures.1)
 
 pub ident-returns-in_err-inline_constant : goal.ident-returns-in_err-inline_constant
-ident-returns-in_err-inline_constant t c =
-    let q = err_from_is_err_and c.from_residual.result c.from_residual.ensures.1 in
-    rw (q.1, q.2) (ways.ident-by (walks_f c.args.d) c.args.p c.args.i (some (held (constant_at (abs c.args.w.now) c.args.i))) (idents.const-some c.args.w.now c.args.i c.in-Some.ensures.0) (ways.const-stop (walks_f c.args.d) c.args.p c.args.i (held (constant_at (abs c.args.w.now) c.args.i)) c.in_err-inline_constant.ensures))
+ident-returns-in_err-inline_constant t c = ways.did-exit c.from_residual.result c.from_residual.ensures.1 (ways.ident-by (walks_f c.args.d) c.args.p c.args.i (some (held (constant_at (abs c.args.w.now) c.args.i))) (idents.const-some c.args.w.now c.args.i c.in-Some.ensures.0) (ways.const-stop (walks_f c.args.d) c.args.p c.args.i (held (constant_at (abs c.args.w.now) c.args.i)) c.in_err-inline_constant.ensures))
 
 pub ident-full-requires : goal.ident-full-requires
 ident-full-requires t c = (omega (arith, c.decreases), idents.here-lower (idents.here-const c.args.p (held (constant_at (abs c.args.w.now) c.args.i)) c.requires.0 c.in_ok-inline_constant.ensures))
@@ -52,9 +49,7 @@ pub ident-inline_value-requires : goal.ident-inline_value-requires
 ident-inline_value-requires t c = (c.requires.0.planted, heres.here-node c.requires.0, c.requires.1, c.in-Value.ensures.1)
 
 pub ident-returns-in_err-inline_value-in-Value : goal.ident-returns-in_err-inline_value-in-Value
-ident-returns-in_err-inline_value-in-Value t c =
-    let q = err_from_is_err_and c.from_residual-in_err-inline_value-in-Value.result c.from_residual-in_err-inline_value-in-Value.ensures.1 in
-    rw (q.1, q.2) (idents.no-const-inlining (walks_f c.args.d) c.args.p c.args.i (idents.const-none c.args.w.now c.args.i c.in_default.ensures.0) c.if-w-eq0.false (idents.found-value (walks_f c.args.d) c.args.p c.args.i (value_by c.args.w.now c.in-Value.b) c.in-Value.ensures.0 (λ b. ways.value-stop (walks_f c.args.d) c.args.p c.args.i b (value_by c.args.w.now c.in-Value.b) c.in_err-inline_value-in-Value.ensures)))
+ident-returns-in_err-inline_value-in-Value t c = ways.did-exit c.from_residual-in_err-inline_value-in-Value.result c.from_residual-in_err-inline_value-in-Value.ensures.1 (idents.no-const-inlining (walks_f c.args.d) c.args.p c.args.i (idents.const-none c.args.w.now c.args.i c.in_default.ensures.0) c.if-w-eq0.false (idents.found-value (walks_f c.args.d) c.args.p c.args.i (value_by c.args.w.now c.in-Value.b) c.in-Value.ensures.0 (λ b. ways.value-stop (walks_f c.args.d) c.args.p c.args.i b (value_by c.args.w.now c.in-Value.b) c.in_err-inline_value-in-Value.ensures)))
 
 pub ident-logic-requires : goal.ident-logic-requires
 ident-logic-requires t c = (omega (arith, c.decreases), idents.here-value c.args.p (value_by c.args.w.now c.in-Value.b) c.requires.0 c.in_ok-inline_value-in-Value.ensures)

@@ -2,7 +2,6 @@
 use Prim.Native.Nat.{◌+◌}
 use mathlib.Core.Path.{refl, sym, ◌∙◌}
 use native.Mathlib.Omega.{arith}
-use Rattle.std.proofs.lemmas.Result.{err_from_is_err_and}
 use Rattle.def_tree.specs.Combine.{many, split_f}
 use Rattle.def_pass.specs.Scope.{cond as cond_kind}
 use Rattle.laws_flat.specs.WalkF.{walks_f, visit_with_child_f, tested_f, visit_mut_if_stmt_f}
@@ -35,9 +34,7 @@ ifs-full-requires t c = (omega (arith, c.decreases), heres.here-one c.if-n-eq0.f
 
 pub ifs-returns-in_err-j : goal.ifs-returns-in_err-j
 unfolding visit_mut_if_stmt_f tested_f
-ifs-returns-in_err-j t c =
-    let q = err_from_is_err_and c.from_residual.result c.from_residual.ensures.1 in
-    rw (q.1, q.2) (ways.on-kids (λ q. split_f (tested_f (walks_f c.args.d) q) (many (visit_with_child_f (walks_f c.args.d) q cond_kind))) c.requires c.arity_at-n.ensures (ways.split-stop (tested_f (walks_f c.args.d) (c.args.p + 1)) (many (visit_with_child_f (walks_f c.args.d) (c.args.p + 1) cond_kind)) c.arity_at-n.result (c.args.i + 1) c.if-n-eq0.false (ways.test-stop ((walks_f c.args.d).full (c.args.p + 1) (c.args.i + 1)) c.set_in_test.ensures c.in_err-j.ensures)))
+ifs-returns-in_err-j t c = ways.did-exit c.from_residual.result c.from_residual.ensures.1 (ways.on-kids (λ q. split_f (tested_f (walks_f c.args.d) q) (many (visit_with_child_f (walks_f c.args.d) q cond_kind))) c.requires c.arity_at-n.ensures (ways.split-stop (tested_f (walks_f c.args.d) (c.args.p + 1)) (many (visit_with_child_f (walks_f c.args.d) (c.args.p + 1) cond_kind)) c.arity_at-n.result (c.args.i + 1) c.if-n-eq0.false (ways.test-stop ((walks_f c.args.d).full (c.args.p + 1) (c.args.i + 1)) c.set_in_test.ensures c.in_err-j.ensures)))
 
 pub ifs-overflow_add-p-2 : goal.ifs-overflow_add-p-2
 ifs-overflow_add-p-2 t c = omega (arith, c.requires.depth, (heres.at-node c.requires).1)

@@ -3,7 +3,6 @@ use Prim.Native.Nat.{suc, ◌+◌, ◌-◌}
 use mathlib.Core.Path.{refl, sym, ap, ◌∙◌}
 use Rattle.def_pass.specs.Scope.{is_const}
 use native.Mathlib.Omega.{arith}
-use Rattle.std.proofs.lemmas.Result.{err_from_is_err_and}
 use Rattle.def_tree.specs.Combine.{tree_at}
 use Rattle.def_tree.proofs.Sims.{sim-skip}
 use Rattle.words_state.specs.State.{abs, rest}
@@ -60,9 +59,7 @@ pub init-full-requires : goal.init-full-requires
 init-full-requires t c = (omega (arith, c.decreases), (heres.here-one (λ z. omega (arith, z, c.if-n-eq1.false, c.requires.2.some)) (heres.here-next sim-skip (heres.here-kids c.requires.0 c.requires.1) (λ z. omega (arith, z, c.requires.2.some)) (ways.did-skip (c.args.i + 1) c.requires.0.planted c.skip-j.ensures.0))))
 
 pub init-returns-in_err-full : goal.init-returns-in_err-full
-init-returns-in_err-full t c =
-    let q = err_from_is_err_and c.from_residual.result c.from_residual.ensures.1 in
-    rw (q.1, q.2) (declrs.init-stop (walks_f c.args.d) c.args.p ((sims c.args.d).full (suc c.args.p)) c.requires.0 c.requires.1 c.requires.2 c.skip-j.ensures.0 (rest c.args.w.now).var_decl_kind (ap is_const (sym c.var_decl_kind-kind.ensures) ∙ sym c.is_const.ensures ∙ c.if-is_const.false) c.form_at.result c.form_at.ensures c.ident_at.result c.ident_at.ensures c.stays.ensures c.if-stays.false c.if-n-eq1.false c.in_err-full.ensures)
+init-returns-in_err-full t c = ways.did-exit c.from_residual.result c.from_residual.ensures.1 (declrs.init-stop (walks_f c.args.d) c.args.p ((sims c.args.d).full (suc c.args.p)) c.requires.0 c.requires.1 c.requires.2 c.skip-j.ensures.0 (rest c.args.w.now).var_decl_kind (ap is_const (sym c.var_decl_kind-kind.ensures) ∙ sym c.is_const.ensures ∙ c.if-is_const.false) c.form_at.result c.form_at.ensures c.ident_at.result c.ident_at.ensures c.stays.ensures c.if-stays.false c.if-n-eq1.false c.in_err-full.ensures)
 
 pub init-skip-end-requires : goal.init-skip-end-requires
 init-skip-end-requires t c = heres.here-below c.args.i (omega (arith, c.skip-j.ensures.1)) (heres.here-still ((sims c.args.d).full (c.args.p + 1)) (heres.here-one (λ z. omega (arith, z, c.if-n-eq1.false, c.requires.2.some)) (heres.here-next sim-skip (heres.here-kids c.requires.0 c.requires.1) (λ z. omega (arith, z, c.requires.2.some)) (ways.did-skip (c.args.i + 1) c.requires.0.planted c.skip-j.ensures.0))) refl c.in_ok-full.ensures)

@@ -2,7 +2,6 @@
 use Prim.Native.Nat.{◌+◌}
 use mathlib.Core.Path.{sym, ◌∙◌}
 use native.Mathlib.Omega.{arith}
-use Rattle.std.proofs.lemmas.Result.{err_from_is_err_and}
 use Rattle.def_tree.specs.Combine.{split_f}
 use Rattle.laws_flat.specs.WalkF.{walks_f, visit_mut_stmts_f, script_f}
 use Rattle.laws_flat.proofs.Sim.{sims}
@@ -39,9 +38,7 @@ pub items-full-requires : goal.items-full-requires
 items-full-requires t c = (omega (arith, c.decreases), heres.here-one c.if-n-eq0.false (heres.here-kids c.requires c.arity_at-n.ensures))
 
 pub items-returns-in_err-j : goal.items-returns-in_err-j
-items-returns-in_err-j t c =
-    let q = err_from_is_err_and c.from_residual.result c.from_residual.ensures.1 in
-    rw (q.1, q.2) (ways.iff-yes _ _ (ways.form-yes c.requires c.form_at-f.ensures c.if-f-ne1.false) (ways.on-kids (λ q. split_f ((walks_f c.args.d).full q) (visit_mut_stmts_f (walks_f c.args.d) q)) c.requires c.arity_at-n.ensures (ways.split-stop ((walks_f c.args.d).full (c.args.p + 1)) (visit_mut_stmts_f (walks_f c.args.d) (c.args.p + 1)) c.arity_at-n.result (c.args.i + 1) c.if-n-eq0.false c.in_err-j.ensures)))
+items-returns-in_err-j t c = ways.did-exit c.from_residual.result c.from_residual.ensures.1 (ways.iff-yes _ _ (ways.form-yes c.requires c.form_at-f.ensures c.if-f-ne1.false) (ways.on-kids (λ q. split_f ((walks_f c.args.d).full q) (visit_mut_stmts_f (walks_f c.args.d) q)) c.requires c.arity_at-n.ensures (ways.split-stop ((walks_f c.args.d).full (c.args.p + 1)) (visit_mut_stmts_f (walks_f c.args.d) (c.args.p + 1)) c.arity_at-n.result (c.args.i + 1) c.if-n-eq0.false c.in_err-j.ensures)))
 
 pub items-overflow_add-p-2 : goal.items-overflow_add-p-2
 items-overflow_add-p-2 t c = omega (arith, c.requires.depth, (heres.at-node c.requires).1)

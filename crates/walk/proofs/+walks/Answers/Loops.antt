@@ -2,7 +2,6 @@
 use Prim.Native.Nat.{◌-◌}
 use mathlib.Core.Path.{sym, ◌∙◌}
 use native.Mathlib.Omega.{arith}
-use Rattle.std.proofs.lemmas.Result.{err_from_is_err_and}
 use Rattle.def_tree.proofs.Sims.{sim-each}
 use Rattle.def_pass.specs.Scope.{loop as loop_kind}
 use Rattle.laws_flat.specs.WalkF.{walks_f, visit_with_child_f}
@@ -18,9 +17,7 @@ pub loops-many-requires : goal.loops-many-requires
 loops-many-requires t c = (omega (arith, c.decreases), heres.here-less c.requires)
 
 pub loops-returns-in_err-j : goal.loops-returns-in_err-j
-loops-returns-in_err-j t c =
-    let q = err_from_is_err_and c.from_residual.result c.from_residual.ensures.1 in
-    rw (q.1, q.2) (ways.but-stop ((walks_f c.args.d).full c.args.p) (visit_with_child_f (walks_f c.args.d) c.args.p loop_kind) c.args.n c.args.i c.if-n-eq0.false c.in_err-j.ensures)
+loops-returns-in_err-j t c = ways.did-exit c.from_residual.result c.from_residual.ensures.1 (ways.but-stop ((walks_f c.args.d).full c.args.p) (visit_with_child_f (walks_f c.args.d) c.args.p loop_kind) c.args.n c.args.i c.if-n-eq0.false c.in_err-j.ensures)
 
 pub loops-arm-requires : goal.loops-arm-requires
 loops-arm-requires t c = (omega (arith, c.decreases), heres.here-behind (sim-each ((sims c.args.d).full c.args.p)) c.requires (c.args.n - 1) (omega (arith, c.if-n-eq0.false)) c.in_ok-j.ensures)

@@ -1,7 +1,6 @@
 -- The goals of many. Assumes nothing.
 use mathlib.Core.Path.{refl, sym, ◌∙◌}
 use native.Mathlib.Omega.{arith}
-use Rattle.std.proofs.lemmas.Result.{err_from_is_err_and}
 use Rattle.def_tree.proofs.Sims.{sim-each}
 use Rattle.laws_flat.specs.WalkF.{walks_f}
 use Rattle.laws_flat.proofs.Sim.{sims}
@@ -17,9 +16,7 @@ pub many-full-requires : goal.many-full-requires
 many-full-requires t c = (omega (arith, c.decreases), heres.here-behind (sim-each ((sims c.args.d).full c.args.p)) c.requires c.loop-k._k c.loop-k-test.true c.loop-k.invariant)
 
 pub many-returns-in_err-at : goal.many-returns-in_err-at
-many-returns-in_err-at t c =
-    let q = err_from_is_err_and c.from_residual.result c.from_residual.ensures.1 in
-    rw (q.1, q.2) (ways.many-stop ((walks_f c.args.d).full c.args.p) c.args.i c.loop-k._k c.args.n c.loop-k.invariant c.loop-k-test.true c.in_err-at.ensures)
+many-returns-in_err-at t c = ways.did-exit c.from_residual.result c.from_residual.ensures.1 (ways.many-stop ((walks_f c.args.d).full c.args.p) c.args.i c.loop-k._k c.args.n c.loop-k.invariant c.loop-k-test.true c.in_err-at.ensures)
 
 pub many-loop-k-preserved : goal.many-loop-k-preserved
 many-loop-k-preserved t c = ways.many-next ((walks_f c.args.d).full c.args.p) c.args.i c.loop-k._k c.args.n c.loop-k.invariant c.in_ok-at.ensures

@@ -2,7 +2,6 @@
 use Prim.Native.Nat.{suc, ◌+◌}
 use mathlib.Core.Path.{refl, sym, ◌∙◌}
 use native.Mathlib.Omega.{arith}
-use Rattle.std.proofs.lemmas.Result.{err_from_is_err_and}
 use Rattle.def_tree.specs.Combine.{skips}
 use Rattle.laws_flat.specs.WalkF.{walks_f}
 use Rattle.laws_flat.proofs.Sim.{sims}
@@ -27,9 +26,7 @@ pub name-full-requires : goal.name-full-requires
 name-full-requires t c = (omega (arith, c.decreases), (heres.here-one c.if-n-eq0.false (heres.here-kids c.requires.0 c.requires.1)))
 
 pub name-returns-in_err-full : goal.name-returns-in_err-full
-name-returns-in_err-full t c =
-    let q = err_from_is_err_and c.from_residual.result c.from_residual.ensures.1 in
-    rw (q.1, q.2) (declrs.name-stop (walks_f c.args.d) ((sims c.args.d).full (suc c.args.p)) c.requires.0 c.requires.1 c.if-n-eq0.false c.in_err-full.ensures)
+name-returns-in_err-full t c = ways.did-exit c.from_residual.result c.from_residual.ensures.1 (declrs.name-stop (walks_f c.args.d) ((sims c.args.d).full (suc c.args.p)) c.requires.0 c.requires.1 c.if-n-eq0.false c.in_err-full.ensures)
 
 pub name-skip-requires : goal.name-skip-requires
 name-skip-requires t c = heres.here-below c.args.i (omega arith) (heres.here-still ((sims c.args.d).full (c.args.p + 1)) (heres.here-one c.if-n-eq0.false (heres.here-kids c.requires.0 c.requires.1)) refl c.in_ok-full.ensures)

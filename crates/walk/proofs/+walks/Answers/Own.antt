@@ -155,5 +155,5 @@ pub own-returns-in_default : goal.own-returns-in_default
 unfolding handle_f
 own-returns-in_default t c =
     let k = c.kind_at-k.result in
-    let between : (m : ℕ) → 9 ≤ m → m < 15 → k ≡ m → ⊥ = λ m lo hi e. elim c.in_default.branch [ own-in_default-via-then-k-lt9 s ↦ omega (arith, hi, lo, e, s) | own-in_default-via-else-k-lt9+else-k-lt12+else-k-lt15 s ↦ omega (arith, hi, lo, e, s)] in
+    let between : (m : ℕ) → 9 ≤ m → m < 15 → k ≡ m → ⊥ = λ m lo hi e. elim c.in_default.branch [ own-in_default-via-then-k-lt9 s ↦ omega (arith, hi, lo, e, s) | own-in_default-via-else-k-lt9+else-k-lt12+else-k-lt15 s ↦ omega (arith, hi, lo, e, s) ] in
     ways.own-by (walks_f c.args.d) h_plain c.requires c.kind_at-k.ensures (ways.kind-plain k (inl refl, (inr (λ e. omega (arith, e)), (inr (λ e. omega (arith, e)), (inl refl, (inl refl, (inr (λ e. omega (arith, e)), (inr (λ e. omega (arith, e)), (inr (λ e. omega (arith, e)), (inl refl, (inr (λ e. omega (arith, e)), (inr (between 10 (omega arith) (omega arith)), (inr (between 11 (omega arith) (omega arith)), (inr (λ e. omega (arith, e)), (inr (between 13 (omega arith) (omega arith)), (inr (between 14 (omega arith) (omega arith)), (inl refl, (inr (λ e. omega (arith, e)), (inr (λ e. omega (arith, e)), (inl refl, (inr (λ e. omega (arith, e)), (inr (λ e. omega (arith, e)), (inl refl, (inl refl, (inl refl, (inl refl, (inl refl, (inl refl, (inl refl, (inl refl, (inl refl, (inr (λ e. omega (arith, e)), (inr (λ e. omega (arith, e)), (inl refl, (inr (λ e. omega (arith, e)), (inl refl, (inr (λ e. omega (arith, e)), (inr (λ e. omega (arith, e)), (inl refl, (inl refl, (inr (λ e. omega (arith, e)), (inr (λ e. omega (arith, e)), (inl refl, (inl refl, (inl refl, (inl refl, tt)))))))))))))))))))))))))))))))))))))))))))))) c.kids.ensures

@@ -2,7 +2,6 @@
 use Prim.Native.Nat.{◌-◌}
 use mathlib.Core.Path.{sym, ◌∙◌}
 use native.Mathlib.Omega.{arith}
-use Rattle.std.proofs.lemmas.Result.{err_from_is_err_and}
 use Rattle.def_tree.proofs.Sims.{sim-each}
 use Rattle.laws_flat.specs.WalkF.{walks_f}
 use Rattle.laws_flat.proofs.Sim.{sims}
@@ -17,9 +16,7 @@ pub params-many-requires : goal.params-many-requires
 params-many-requires t c = (omega (arith, c.decreases), heres.here-less c.requires)
 
 pub params-returns-in_err-j : goal.params-returns-in_err-j
-params-returns-in_err-j t c =
-    let q = err_from_is_err_and c.from_residual.result c.from_residual.ensures.1 in
-    rw (q.1, q.2) (ways.but-stop ((walks_f c.args.d).full c.args.p) ((walks_f c.args.d).inner c.args.p) c.args.n c.args.i c.if-n-eq0.false c.in_err-j.ensures)
+params-returns-in_err-j t c = ways.did-exit c.from_residual.result c.from_residual.ensures.1 (ways.but-stop ((walks_f c.args.d).full c.args.p) ((walks_f c.args.d).inner c.args.p) c.args.n c.args.i c.if-n-eq0.false c.in_err-j.ensures)
 
 pub params-returns-then-d-eq0 : goal.params-returns-then-d-eq0
 params-returns-then-d-eq0 t c = ways.but-then ((walks_f c.args.d).full c.args.p) ((walks_f c.args.d).inner c.args.p) c.args.n c.args.i c.if-n-eq0.false c.in_ok-j.ensures (ways.inner-none c.args.p c.in_ok-j.j c.args.d c.in_ok-j.ensures.ok.planted c.if-d-eq0.true)

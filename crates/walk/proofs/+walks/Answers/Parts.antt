@@ -1,7 +1,6 @@
 -- The goals of parts. Assumes nothing.
 use mathlib.Core.Path.{refl, sym, ◌∙◌}
 use native.Mathlib.Omega.{arith}
-use Rattle.std.proofs.lemmas.Result.{err_from_is_err_and}
 use lib.Dec.{eqb}
 use Rattle.def_tree.proofs.Sims.{sim-each, sim-skip, sim-node, sim-if}
 use Rattle.laws_flat.specs.WalkF.{walks_f}
@@ -26,16 +25,15 @@ pub parts-full-requires : goal.parts-full-requires
 parts-full-requires t c = (omega (arith, c.decreases), (heres.here-behind (sim-each (sim-node (λ s c. eqb c.kind 17) (λ b. sim-if b ((sims c.args.d).full c.args.p) sim-skip))) c.requires c.loop-k._k c.loop-k-test.true c.loop-k.invariant))
 
 pub parts-returns-in_err-at : goal.parts-returns-in_err-at
-parts-returns-in_err-at t c =
-    let q = err_from_is_err_and c.from_residual.result c.from_residual.ensures.1 in
-    rw (q.1, q.2) (ways.many-stop (clause_f (walks_f c.args.d) c.args.p) c.args.i c.loop-k._k c.args.n c.loop-k.invariant c.loop-k-test.true (ways.iff-yes _ _ (ways.kind-yes (heres.here-behind (sim-each (sim-node (λ s c. eqb c.kind 17) (λ b. sim-if b ((sims c.args.d).full c.args.p) sim-skip))) c.requires c.loop-k._k c.loop-k-test.true c.loop-k.invariant) c.kind_at.ensures c.if-kind_at-eq17.true) c.in_err-at.ensures))
+parts-returns-in_err-at t c = ways.did-exit c.from_residual.result c.from_residual.ensures.1 (ways.many-stop (clause_f (walks_f c.args.d) c.args.p) c.args.i c.loop-k._k c.args.n c.loop-k.invariant c.loop-k-test.true (ways.iff-yes _ _ (ways.kind-yes (heres.here-behind (sim-each (sim-node (λ s c. eqb c.kind 17) (λ b. sim-if b ((sims c.args.d).full c.args.p) sim-skip))) c.requires c.loop-k._k c.loop-k-test.true c.loop-k.invariant) c.kind_at.ensures c.if-kind_at-eq17.true) c.in_err-at.ensures))
 
 pub parts-loop-k-preserved : goal.parts-loop-k-preserved
 parts-loop-k-preserved t c =
     let here = heres.here-behind (sim-each (sim-node (λ s c. eqb c.kind 17) (λ b. sim-if b ((sims c.args.d).full c.args.p) sim-skip))) c.requires c.loop-k._k c.loop-k-test.true c.loop-k.invariant in
     elim c.if-kind_at-eq17.branch [
-      parts-then-kind_at-eq17+in_ok-at b ↦ rw (b.w-is, b.at-is) (ways.many-next (clause_f (walks_f c.args.d) c.args.p) c.args.i c.loop-k._k c.args.n c.loop-k.invariant (ways.iff-yes _ _ (ways.kind-yes here c.kind_at.ensures b.if-kind_at-eq17.true) b.in_ok-at.ensures))
-    | parts-else-kind_at-eq17 b ↦ rw (b.w-is, b.at-is) (ways.many-next (clause_f (walks_f c.args.d) c.args.p) c.args.i c.loop-k._k c.args.n c.loop-k.invariant (ways.iff-no _ _ (ways.kind-no here 17 c.kind_at.ensures b.if-kind_at-eq17.false) (ways.did-skip c.loop-k.at here.planted b.skip-at.ensures.0))) ]
+      | parts-then-kind_at-eq17+in_ok-at b ↦ rw (b.w-is, b.at-is) (ways.many-next (clause_f (walks_f c.args.d) c.args.p) c.args.i c.loop-k._k c.args.n c.loop-k.invariant (ways.iff-yes _ _ (ways.kind-yes here c.kind_at.ensures b.if-kind_at-eq17.true) b.in_ok-at.ensures))
+      | parts-else-kind_at-eq17 b ↦ rw (b.w-is, b.at-is) (ways.many-next (clause_f (walks_f c.args.d) c.args.p) c.args.i c.loop-k._k c.args.n c.loop-k.invariant (ways.iff-no _ _ (ways.kind-no here 17 c.kind_at.ensures b.if-kind_at-eq17.false) (ways.did-skip c.loop-k.at here.planted b.skip-at.ensures.0)))
+    ]
 
 pub parts-returns : goal.parts-returns
 parts-returns t c = ways.many-end (clause_f (walks_f c.args.d) c.args.p) c.args.i c.loop-k._k c.args.n c.loop-k.invariant c.loop-k.auto._k-end c.loop-k-test.false

@@ -1,7 +1,6 @@
 -- The goals of stmts. Assumes nothing.
 use mathlib.Core.Path.{sym, ◌∙◌}
 use native.Mathlib.Omega.{arith}
-use Rattle.std.proofs.lemmas.Result.{err_from_is_err_and}
 use Rattle.def_tree.proofs.Sims.{sim-each}
 use Rattle.laws_flat.specs.WalkF.{walks_f}
 use Rattle.laws_flat.proofs.Sim.{sims}
@@ -19,9 +18,7 @@ pub stmts-many-requires-2 : goal.stmts-many-requires-2
 stmts-many-requires-2 t c = (omega (arith, c.decreases), (heres.here-turn c.set_inlining.ensures c.requires))
 
 pub stmts-returns-in_err-many : goal.stmts-returns-in_err-many
-stmts-returns-in_err-many t c =
-    let q = err_from_is_err_and c.from_residual.result c.from_residual.ensures.1 in
-    rw (q.1, q.2) (ways.stmts-stop (walks_f c.args.d) c.args.p c.args.n c.args.i c.if-w-eq0.false c.set_inlining.ensures c.in_err-many.ensures)
+stmts-returns-in_err-many t c = ways.did-exit c.from_residual.result c.from_residual.ensures.1 (ways.stmts-stop (walks_f c.args.d) c.args.p c.args.n c.args.i c.if-w-eq0.false c.set_inlining.ensures c.in_err-many.ensures)
 
 pub stmts-many-requires-3 : goal.stmts-many-requires-3
 stmts-many-requires-3 t c = (omega (arith, c.decreases), (heres.here-turn c.set_inlining-2.ensures (heres.here-again (sim-each ((sims c.args.d).full c.args.p)) (heres.here-turn c.set_inlining.ensures c.requires) c.in_ok-many.ensures)))

@@ -3,7 +3,6 @@ use Prim.Native.Nat.{◌+◌}
 use mathlib.Core.Path.{refl, sym}
 use mathlib.Core.Bool.{true}
 use native.Mathlib.Omega.{arith}
-use Rattle.std.proofs.lemmas.Result.{err_from_is_err_and}
 use Rattle.def_tree.specs.Combine.{◌>>◌, act, skip, split_f}
 use Rattle.def_tree.proofs.Sims.{sim-skip}
 use Rattle.def_pass.specs.Walk.{write_tree}
@@ -32,9 +31,7 @@ tries-write_tree-requires t c = heres.at-skip (heres.here-one c.if-n-eq0.false (
 
 pub tries-returns-in_err-write_tree : goal.tries-returns-in_err-write_tree
 unfolding visit_mut_try_stmt_f
-tries-returns-in_err-write_tree t c =
-    let q = err_from_is_err_and c.from_residual.result c.from_residual.ensures.1 in
-    rw (q.1, q.2) (ways.on-kids (λ q. split_f (λ i₁. act (write_tree true) i₁ >> skip i₁) (λ n i₁. clauses_f (walks_f c.args.d) q n i₁)) c.requires c.arity_at-n.ensures (ways.split-stop (λ i₁. act (write_tree true) i₁ >> skip i₁) (λ n i₁. clauses_f (walks_f c.args.d) (c.args.p + 1) n i₁) c.arity_at-n.result (c.args.i + 1) c.if-n-eq0.false (laws.act-stop _ c.in_err-write_tree.ensures)))
+tries-returns-in_err-write_tree t c = ways.did-exit c.from_residual.result c.from_residual.ensures.1 (ways.on-kids (λ q. split_f (λ i₁. act (write_tree true) i₁ >> skip i₁) (λ n i₁. clauses_f (walks_f c.args.d) q n i₁)) c.requires c.arity_at-n.ensures (ways.split-stop (λ i₁. act (write_tree true) i₁ >> skip i₁) (λ n i₁. clauses_f (walks_f c.args.d) (c.args.p + 1) n i₁) c.arity_at-n.result (c.args.i + 1) c.if-n-eq0.false (laws.act-stop _ c.in_err-write_tree.ensures)))
 
 pub tries-overflow_add-i-2 : goal.tries-overflow_add-i-2
 tries-overflow_add-i-2 t c = omega (arith, c.requires.depth, (heres.at-node c.requires).1)

@@ -3,7 +3,6 @@ use Prim.Native.Nat.{suc}
 use mathlib.Core.Path.{sym}
 use mathlib.Core.Bool.{true}
 use native.Mathlib.Omega.{arith}
-use Rattle.std.proofs.lemmas.Result.{err_from_is_err_and}
 use Rattle.def_tree.specs.Combine.{each_but_f, on_kids_f}
 use Rattle.def_pass.specs.Tree.{kids}
 use Rattle.def_pass.specs.Scope.{loop as loop_kind}
@@ -19,9 +18,7 @@ whiles-write_kids_but_last-requires t c = heres.at-skip c.requires
 
 pub whiles-returns-in_err-write_kids_but_last : goal.whiles-returns-in_err-write_kids_but_last
 unfolding visit_mut_while_stmt_f
-whiles-returns-in_err-write_kids_but_last t c =
-    let q = err_from_is_err_and c.from_residual.result c.from_residual.ensures.1 in
-    rw (q.1, q.2) (laws.act-stop (λ x. on_kids_f (each_but_f ((walks_f c.args.d).full (suc c.args.p)) (visit_with_child_f (walks_f c.args.d) (suc c.args.p) loop_kind)) c.args.i) c.in_err-write_kids_but_last.ensures)
+whiles-returns-in_err-write_kids_but_last t c = ways.did-exit c.from_residual.result c.from_residual.ensures.1 (laws.act-stop (λ x. on_kids_f (each_but_f ((walks_f c.args.d).full (suc c.args.p)) (visit_with_child_f (walks_f c.args.d) (suc c.args.p) loop_kind)) c.args.i) c.in_err-write_kids_but_last.ensures)
 
 pub whiles-arity_at-n-requires : goal.whiles-arity_at-n-requires
 whiles-arity_at-n-requires t c = heres.at-node (heres.here-tree (λ t. write_forest true (but_last (kids t))) c.args.i c.in_ok-write_kids_but_last.ensures c.requires)
