@@ -17,7 +17,7 @@ use Rattle.std.specs.List.{range_with_len, list_any}
 use lib.Seq.{get_or-drop, drop-cons}
 use Rattle.def_tree.specs.Base.{pick, or_else}
 use Rattle.def_tree.specs.Tree.{Tree, Forest, node, nil, cons, kind, num, kids, Core, no_core, take_f, drop_f, plant, first_t}
-use Rattle.def_pass.specs.Scope.{VarInfo, Scope, Stack, is_var, is_some, find_in, has_in, const_in, find_binding, idx_val, member_o, free_to_read, var_inline_prevented, is_hoisted_prevented, read_prevents_inlining, write_prevents_inline, scope_for, should_prevent_inline_because_of_scope, any_from, between, ident_of, mark_of, mark_of_id, is_inline_prevented, has_same_this}
+use Rattle.def_pass.specs.Scope.{VarInfo, Scope, Stack, is_var, is_some, find_in, has_in, const_in, find_binding, idx_val, free_to_read, is_hoisted_prevented, read_prevents_inlining, write_prevents_inline, scope_for, should_prevent_inline_because_of_scope, any_from, between, ident_of, mark_of, mark_of_id, is_inline_prevented}
 use Rattle.def_pass.specs.Tree.{is_member, head_t}
 use Rattle.words.specs.Tab.{tab, get_d-tab, get_d-tab-out}
 use Rattle.words.specs.Layout.{yes, core_from, node_of, tree}
@@ -27,7 +27,7 @@ use Rattle.words_scopes.specs.declared.kinds.VarDeclKind.TheVariants.{Var, Let, 
 use Rattle.words_scopes.specs.declared.kinds.VarType.{VarType as Kind}
 use Rattle.words_scopes.specs.declared.kinds.VarType.TheVariants.{Param, Declared}
 use Rattle.words_scopes.specs.Kinds.{type_of}
-use Rattle.words_scopes.specs.State.{bind_at, unres_at, value_of, len_at, off, run_at, heads, binds, stack, Good, place, index_in, Named}
+use Rattle.words_scopes.specs.State.{unres_at, value_of, len_at, off, run_at, heads, binds, stack, Good, place, index_in, Named}
 use Rattle.words_scopes.proofs.Split as laws
 use Rattle.words_scopes.proofs.Look as outwards
 use Rattle.scope_find.specs.Look.{first, scope_at, below, at_place, kind_o, held, node_tree}
@@ -52,13 +52,6 @@ pub found_at : (w : List ℕ) (x r : ℕ) → r ≡ place x (heads w) (binds w) 
 found_at w x zero e = outwards.missing w x (sym e)
 found_at w x (suc k) e = outwards.found w x k (sym e)
 
-pub at-is : (w : List ℕ) (r : ℕ) → (r ≡ 0 → ⊥) → at_place w r ≡ some (bind_at w (r - 1))
-at-is w zero h = absurd (h refl)
-at-is w (suc k) h = let e : suc k - 1 ≡ k = omega arith in rw e refl
-
-pub found-is : (w : List ℕ) (x r : ℕ) → r ≡ place x (heads w) (binds w) → (r ≡ 0 → ⊥) → find_binding x (stack w) ≡ some (bind_at w (r - 1))
-found-is w x r e h = found_at w x r e ∙ at-is w r h
-
 -- a value's kind is its first node's
 first_kind : (xs : List Core) → 0 < length xs → kind_o (value_of xs) ≡ some (get_or xs 0 no_core).kind
 first_kind [] l = absurd (omega arith)
@@ -80,18 +73,6 @@ module _ (w : List ℕ) (k : ℕ) where
       let p : 0 < len_at w k = omega arith in
       let q : off w k + 0 ≡ o = omega arith in
       sym (first_kind (run_at w k) (omega (arith, size)) ∙ ap (λ (c : Core). some c.kind) (run-at w 2064 (off w k) (len_at w k) 0 p ∙ ap (λ (n : ℕ). core_from w (2064 + n * 2)) q))
-
--- VarInfo::is_inline_prevented
-module _ (b : VarInfo) where
-  pub prevented-mark : b.inline_prevented ≡ true → var_inline_prevented b ≡ true
-  prevented-mark e = rw e refl
-
-  module _ (e : b.inline_prevented ≡ false) where
-    pub prevented-not : b.this_sensitive ≡ false → var_inline_prevented b ≡ false
-    prevented-not s = rw (e, s) refl
-
-    pub prevented-value : b.this_sensitive ≡ true → var_inline_prevented b ≡ member_o b.value
-    prevented-value s = rw (e, s) refl
 
 -- read_prevents_inlining, by the binding found
 pub var-other : (t : Kind) → (t ≡ Declared Var → ⊥) → is_var (type_of t) ≡ false
@@ -242,10 +223,6 @@ module _ (x : ℕ) where
 
   pub held-unresolved : (s : Scope) (st : Stack) → s.unresolved_usages x ≡ true → held x (s ∷ st) ≡ true
   held-unresolved s st u = rw u refl
-
--- a hoisted binding that is prevented
-pub hoisted-and : (w : List ℕ) (r : ℕ) → (r ≡ 0 → ⊥) → is_hoisted_prevented (at_place w r) ≡ ((bind_at w (r - 1)).hoisted && var_inline_prevented (bind_at w (r - 1)))
-hoisted-and w r h = ap is_hoisted_prevented (at-is w r h)
 
 -- is x unresolved in scope k
 pub unresolved-at : (w : List ℕ) (k x : ℕ) → x < 256 → (scope_at w k).unresolved_usages x ≡ yes (flag_at w (7312 + k * 8) x)

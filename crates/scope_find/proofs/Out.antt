@@ -6,19 +6,18 @@ use mathlib.Core.Option.{Option, none, some}
 use Rattle.std.proofs.Common.{Option as Answer, Some, None, is_some as holds}
 use Rattle.words.specs.Place.{placed, FirstAt}
 use Prim.Native.Nat.{ℕ, zero, suc, ◌+◌, ◌-◌, ◌*◌, ◌≤◌, ◌<◌}
-use native.Mathlib.Numerals.{add-one}
 use native.Mathlib.Omega.{arith}
 use borrow.Author.Tests.{eq-eqb, ne_eqb, lt-ltb, le-ltb}
 use lib.ListN.{length, get_or, drop, length-drop}
 use lib.Dec.{eqb}
 use lib.Seq.{get_or-drop}
 use Rattle.def_tree.specs.Tree.{Tree}
-use Rattle.def_pass.specs.Scope.{VarInfo, Scope, Stack, fn, is_fn, is_loop, is_block, is_some, find_in, has_in, const_in, write_prevents_inline, has_constant, in_loop}
+use Rattle.def_pass.specs.Scope.{Scope, Stack, fn, is_fn, is_loop, is_block, is_some, has_in, const_in, write_prevents_inline, has_constant, in_loop}
 use Rattle.words.specs.Tab.{tab, length-tab, get_d-tab}
 use Rattle.words_scopes.specs.declared.kinds.ScopeKind.{ScopeKind as Kind}
 use Rattle.words_scopes.specs.declared.kinds.ScopeKind.TheVariants.{Cond, Loop, Block, Fn}
 use Rattle.words_scopes.specs.Kinds.{kind_of, scope_kind_of}
-use Rattle.words_scopes.specs.State.{bind_at, const_at, heads_at, heads, stack, Fits, CFits, Good}
+use Rattle.words_scopes.specs.State.{const_at, heads_at, heads, stack, Fits, CFits, Good}
 use Rattle.words_scopes.proofs.Split as laws
 use Rattle.words_scopes.proofs.Look as outwards
 use Rattle.scope_find.specs.Look.{first, cfirst, scope_at, below, at_place, FoundIn}

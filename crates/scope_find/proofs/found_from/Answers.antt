@@ -1,7 +1,6 @@
 -- In scope k, if it stands behind its beginning. Assumes nothing.
 use Rattle.std.proofs.Common.{sym, ap, ◌∙◌, arith}
 use Rattle.words.specs.Place.{placed}
-use Rattle.scope_find.specs.Look.{FoundIn}
 use Rattle.scope_find.proofs.Placed as places
 use Rattle.scope_find.proofs.found_from.Goals as goal
 

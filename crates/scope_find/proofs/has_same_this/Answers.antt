@@ -1,5 +1,5 @@
 -- By the binding found. Assumes nothing.
-use Rattle.std.proofs.Common.{◌≡◌, Bool, true, false, not, ◌&&◌, ◌||◌, ℕ, eqb, suc, sym, ap, ◌∙◌}
+use Rattle.std.proofs.Common.{◌≡◌, not, ◌&&◌, ◌||◌, ℕ, eqb, suc, sym, ap, ◌∙◌}
 use mathlib.Core.Option.{Option, some}
 use Rattle.def_tree.specs.Tree.{kind}
 use Rattle.def_pass.specs.Tree.{is_member}

@@ -1,5 +1,5 @@
 -- The index in the current scope. Assumes nothing.
-use Rattle.std.proofs.Common.{◌≡◌, ℕ, suc, ◌+◌, ◌-◌, get_or, sym, ap, ◌∙◌, refl, arith}
+use Rattle.std.proofs.Common.{◌≡◌, ℕ, suc, ◌+◌, ◌-◌, get_or, ap, ◌∙◌, refl, arith}
 use Rattle.words_scopes.specs.State.{index_in}
 use Rattle.scope_find.specs.Look.{first, scope_at, idx_here}
 use Rattle.scope_find.proofs.Facts as facts

@@ -1,5 +1,5 @@
 -- What the binding found shadows, or the same one. Assumes nothing.
-use Rattle.std.proofs.Common.{◌≡◌, sym, ap, ◌∙◌, arith}
+use Rattle.std.proofs.Common.{sym, ap, ◌∙◌, arith}
 use Rattle.words.specs.Place.{placed}
 use Rattle.scope_find.proofs.Facts as facts
 use Rattle.scope_find.proofs.Placed as places

@@ -1,5 +1,5 @@
 -- What is found outwards, and whether it is the current scope. Assumes nothing.
-use Rattle.std.proofs.Common.{◌≡◌, Bool, true, false, ◌-◌, get_or, sym, ap, ◌∙◌, arith}
+use Rattle.std.proofs.Common.{◌≡◌, true, false, ◌-◌, get_or, sym, ◌∙◌, arith}
 use borrow.Author.Tests.{le-leb}
 use Rattle.def_pass.specs.Scope.{is_some, has_in, const_in}
 use Rattle.scope_find.specs.Look.{scope_at}

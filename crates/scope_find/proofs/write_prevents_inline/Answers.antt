@@ -1,6 +1,6 @@
 -- Outwards: the invariant is that the answer is that of the scopes left. Assumes nothing.
-use Rattle.std.proofs.Common.{rules, ◌≡◌, suc, ◌+◌, ◌*◌, ◌-◌, get_or, sym, ap, ◌∙◌, arith}
-use Rattle.def_pass.specs.Scope.{is_some, is_block, has_in, write_prevents_inline}
+use Rattle.std.proofs.Common.{rules, ◌≡◌, suc, ◌-◌, sym, ap, ◌∙◌, arith}
+use Rattle.def_pass.specs.Scope.{is_block, write_prevents_inline}
 use Rattle.words_scopes.specs.declared.kinds.ScopeKind.TheVariants.{Block}
 use Rattle.words_scopes.specs.Kinds.{kind_of}
 use Rattle.scope_find.specs.Look.{scope_at, below, place_below}
@@ -39,9 +39,11 @@ loop-k-preserved c =
     let k = c.loop-k.k in
     let q : k ≡ suc (k - 1) = omega arith in
     let n = out.has-it c.found_in.result c.found_in.ensures c.is_some.ensures ∙ c.if-is_some.false in
-    let h : c.scope_kind.result ≡ Block = search rules in
-    (c.loop-k.invariant.0 ∙ ap (write_prevents_inline c.args.x) (out.turn w k c.requires (omega arith) (omega arith))
-    ∙ out.writes-on c.args.x (scope_at w (k - 1)) (below w (k - 1)) n (ap is_block (sym c.scope_kind.ensures ∙ ap kind_of h)), c.loop-k.invariant.1 ∙ ap (place_below w c.args.x) q ∙ places.outer-none w c.requires (k - 1) (omega arith) c.args.x n)
+    let h : c.scope_kind.result ≡ Block = search rules in (
+      c.loop-k.invariant.0 ∙ ap (write_prevents_inline c.args.x) (out.turn w k c.requires (omega arith) (omega arith))
+          ∙ out.writes-on c.args.x (scope_at w (k - 1)) (below w (k - 1)) n (ap is_block (sym c.scope_kind.ensures ∙ ap kind_of h)),
+      c.loop-k.invariant.1 ∙ ap (place_below w c.args.x) q ∙ places.outer-none w c.requires (k - 1) (omega arith) c.args.x n,
+    )
 
 pub returns : goal.returns
 returns c = sym (c.loop-k.invariant.0 ∙ ap (write_prevents_inline c.args.x) (out.below_end c.args.w.now c.loop-k.k (omega arith)))

@@ -1,7 +1,7 @@
 -- Marks, and the rest. Assumes nothing.
-use Rattle.std.proofs.Common.{◌≡◌, not, ◌&&◌, List, ℕ, sym, ◌∙◌}
+use Rattle.std.proofs.Common.{◌≡◌, not, ◌&&◌, List, ℕ, ◌∙◌}
 use Rattle.def_tree.specs.Base.{pick}
-use Rattle.def_pass.specs.Scope.{Stack, prevent_inline, prevent_inline_of_params, write_prevents_inline, add_write}
+use Rattle.def_pass.specs.Scope.{Stack, prevent_inline, prevent_inline_of_params, add_write}
 use Rattle.words_scopes.specs.State.{Becomes, stack}
 use Rattle.scope_find.specs.Answers.{write_to}
 use Rattle.scope_read_write.proofs.Again as again

@@ -1,5 +1,5 @@
 -- Outwards: the invariant is that the answer is that of the scopes left. Assumes nothing.
-use Rattle.std.proofs.Common.{◌≡◌, ℕ, ◌+◌, ◌*◌, ◌-◌, get_or, refl, sym, ap, ◌∙◌, arith}
+use Rattle.std.proofs.Common.{◌≡◌, ℕ, ◌-◌, refl, sym, ap, ◌∙◌, arith}
 use Rattle.def_pass.specs.Scope.{is_fn}
 use Rattle.words_scopes.specs.State.{heads, heads_at}
 use Rattle.scope_find.specs.Look.{fn_start}
