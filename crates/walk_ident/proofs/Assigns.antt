@@ -1,5 +1,5 @@
 -- `=` in Inlining by the words: its parts, its test, and the first value recorded. Assumes nothing.
-use Rattle.std.proofs.Common.{◌≡◌, ℕ, zero, suc, ◌+◌, ◌<◌, ◌≤◌, Bool, true, false, not, ◌&&◌, List, length, get_or, drop, sym, refl, ap, ◌∙◌, add-one, arith, drop-cons, eq-eqb, ne_eqb}
+use Rattle.std.proofs.Common.{◌≡◌, Result, Ok, Err, ℕ, zero, suc, ◌+◌, ◌<◌, ◌≤◌, Bool, true, false, not, ◌&&◌, List, length, get_or, drop, sym, refl, ap, ◌∙◌, add-one, arith, drop-cons, eq-eqb, ne_eqb}
 use mathlib.Core.Option.{Option, none, some}
 use Rattle.def_tree.specs.Tree.{Tree, Forest, nil, cons, kind, num, kids, tail_f, Core, no_core, count, take_f, plant}
 use Rattle.def_tree.specs.Combine.{Res, stop, done, Nothing, and_then, iff, Flat, tree_at, skip, carry}
@@ -12,21 +12,22 @@ use Rattle.laws_flat.specs.WalkF.{after_assign_f, after_sides_f, first_to}
 use Rattle.words.specs.Layout.{node_of, tree}
 use Rattle.words.proofs.Nodes.{tree-length, tree-at}
 use Rattle.words_scopes.specs.State.{Becomes, stack}
-use Rattle.scope_values.specs.Steps.{over, Still, Grown}
-use Rattle.scope_values.specs.declared.Step.TheVariants as records
+use Rattle.refusal.specs.declared.Refusal.{Refusal}
+use Rattle.refusal.specs.Number.{number}
+use Rattle.scope_values.specs.Steps.{over, Grown}
+use Rattle.scope.specs.Steps.{Did}
+use Rattle.scope.proofs.Moves.{still-ok}
 use Rattle.scope_find.specs.Look.{node_tree}
 use Rattle.words_nodes.specs.Nodes.{Planted, Child, tree_from, forest_from}
 use Rattle.words_nodes.proofs.Trees.{tree-at-is, child-lt, child-next}
 use Rattle.words_nodes.proofs.Loops.{forest-first}
 use Rattle.words_nodes.proofs.Words.{tree-whole}
 use Rattle.words_nodes.proofs.Walks.{second-child, skip_is}
-use Rattle.words_state.specs.State.{rest, abs, Ok}
+use Rattle.words_state.specs.State.{rest, abs}
 use Rattle.words_state.proofs.Fields.{becomes-ok, ok-self, ok-then}
 use Rattle.scope_var_info.specs.Handles.{of_binding}
-use Rattle.walk_ident.specs.Steps.{Goes, first_test, first_f, swap_f}
-use Rattle.walk_ident.specs.declared.Next.{Next}
-use Rattle.walk_ident.specs.declared.Next.TheVariants.{At, Refused}
-use Rattle.walk_ident.proofs.Laws.{lands-done, lands-stop, becomes-abs, tree-kind, tree-num}
+use Rattle.walk_ident.specs.Steps.{first_test, first_f, swap_f}
+use Rattle.walk_ident.proofs.Laws.{becomes-abs, tree-kind, tree-num}
 
 -- the first and the second of some trees
 head-take : (n m : ℕ) (ts : Forest) → 0 < n → 0 < m → head_t (take_f n ts) ≡ head_t (take_f m ts)
@@ -145,11 +146,11 @@ module _ {w : List ℕ} (P : Planted w) (i : ℕ) (l : i < get_or w 0 0) where
           assign-first c = by-test c ∙ ap (λ (y : ℕ). first_f p x (tree_from xs y) i (abs w)) (sym q)
 
 -- answers
-pub goes-as : {w u : List ℕ} {a : Next} {f g : Res (Flat St) ℕ} → f ≡ g → Goes w u a g → Goes w u a f
-goes-as e d = rw e d
+pub goes-as : {w u : List ℕ} {a : Result ℕ Refusal} {f g : Res (Flat St) ℕ} → f ≡ g → Did w u a g → Did w u a f
+goes-as e d = record { ok = d.ok; is = e ∙ d.is }
 
-pub goes-past : {w : List ℕ} (i : ℕ) {k : ℕ} {f : Res (Flat St) ℕ} → Planted w → f ≡ skip i (abs w) → k ≡ i + count (tree_from (tree w) i) → Goes w w (At k) f
-goes-past {w} i P e q = record { ok = ok-self P; lands = lands-done (e ∙ skip_is (abs w) i) refl q }
+pub goes-past : {w : List ℕ} (i : ℕ) {k : ℕ} {f : Res (Flat St) ℕ} → Planted w → f ≡ skip i (abs w) → k ≡ i + count (tree_from (tree w) i) → Did w w (Ok k) f
+goes-past {w} i P e q = record { ok = ok-self P; is = e ∙ skip_is (abs w) i ∙ ap (done (abs w)) (sym q) }
 
 -- the first value recorded, and row 9
 module _ (w : List ℕ) (p x : ℕ) (r : Tree) (i : ℕ) where
@@ -169,27 +170,16 @@ module _ (w : List ℕ) (p x : ℕ) (r : Tree) (i : ℕ) where
   pub first-grown : over st ≡ false → first_f p x r i (abs w) ≡ swap_f p r i (record { nodes = tree w; rest = set_stack st (rest w) })
   first-grown e = by e
 
--- what is kept where it is refused
-still-ok : {w v : List ℕ} → Planted w → length v ≡ length w → Still w v → Ok w v
-still-ok P z s = record {
-  planted = record { good = s.good; one = rw s.tree P.one };
-  size = z;
-  idents = s.others.low 4 (omega arith) (omega arith);
-  reserved = λ j l h. s.others.low j (omega arith) h;
-  high = s.others.high;
-  rest = s.rest;
-}
-
 -- recorded, or refused by row 9; v is the value as the words have it
 module _ {w u : List ℕ} (p x : ℕ) (e : Tree) (i : ℕ) (P : Planted w) (z : length u ≡ length w) (v : Option Tree) (q : v ≡ some e) where
-  pub first-stop : {n : ℕ} → Grown w u (change x (λ c. defined (with_value v c)) (stack w)) (records.Refused n) → Goes w u (Refused n) (first_f p x e i (abs w))
+  pub first-stop : {r : Refusal} → Grown w u (change x (λ c. defined (with_value v c)) (stack w)) (Err r) → Did w u (Err r) (first_f p x e i (abs w))
   first-stop g =
       let o : over (change x (λ c. defined (with_value (some e) c)) (stack w)) ≡ true = rw q at g.1 in
-      record { ok = still-ok P z g.2; lands = rw g.0 (lands-stop (abs u) (first-over w p x e i o)) }
+      record { ok = still-ok P z g.2; is = first-over w p x e i o ∙ ap (λ (r : Refusal). stop (number r)) (sym g.0) }
 
-  pub first_on : {y : List ℕ} {a : Next} {t : Tree} → Grown w u (change x (λ c. defined (with_value v c)) (stack w)) records.Done → t ≡ e → Goes u y a (swap_f p t i (abs u)) → Goes w y a (first_f p x e i (abs w))
+  pub first_on : {y : List ℕ} {a : Result ℕ Refusal} {t : Tree} → Grown w u (change x (λ c. defined (with_value v c)) (stack w)) (Ok tt) → t ≡ e → Did u y a (swap_f p t i (abs u)) → Did w y a (first_f p x e i (abs w))
   first_on {y} {a} {t} g k d =
       let o : over (change x (λ c. defined (with_value (some e) c)) (stack w)) ≡ false = rw q at g.1 in
       let b : Becomes w u (change x (λ c. defined (with_value (some e) c)) (stack w)) = rw q at g.0 in
       let f : first_f p x e i (abs w) ≡ swap_f p t i (abs u) = first-grown w p x e i o ∙ ap (swap_f p e i) (sym (becomes-abs P b)) ∙ ap (λ (r : Tree). swap_f p r i (abs u)) (sym k) in
-      record { ok = ok-then (becomes-ok P z b) d.ok; lands = rw f d.lands }
+      record { ok = ok-then (becomes-ok P z b) d.ok; is = f ∙ d.is }

@@ -1,8 +1,9 @@
 -- What becomes of an identifier, from the words of its binding; the constant that it names. Assumes nothing.
+use Rattle.std.specs.Prelude as std
 use Rattle.std.proofs.Common.{◌≡◌, ℕ, zero, suc, ◌<◌, Bool, true, false, ◌&&◌, eqb, List, get_or, sym, refl, ap, ◌∙◌, arith, ne_eqb}
 use mathlib.Core.Option.{Option, none, some}
 use Rattle.def_tree.specs.Base.{pick}
-use Rattle.def_tree.specs.Tree.{Tree, num, Core}
+use Rattle.def_tree.specs.Tree.{Tree, num, count, Core}
 use Rattle.def_tree.specs.Combine.{node_at}
 use Rattle.def_pass.specs.Tree.{count_o, is_ident}
 use Rattle.def_pass.specs.Scope.{VarInfo, find_binding, find_constant, var_inline_prevented, value_o}
@@ -12,10 +13,10 @@ use Rattle.words.proofs.Nodes.{tree-at}
 use Rattle.words_scopes.specs.State.{name_of, stack}
 use Rattle.words_nodes.specs.Nodes.{tree_from}
 use Rattle.words_state.specs.State.{rest, abs}
-use Rattle.scope_var_info.specs.Handles.{of_binding, held}
-use Rattle.scope_var_info.proofs.Numbers.{held-some, count_none}
+use Rattle.scope_var_info.specs.Handles.{of_binding, held, counted_o}
+use Rattle.scope_var_info.proofs.Numbers.{count_none}
 use Rattle.words_nodes.proofs.Trees.{count-some}
-use Rattle.walk_ident.specs.Steps.{stays, undefined, inlined, fate_of, fate_at, constant_at}
+use Rattle.walk_ident.specs.Steps.{names, stays, undefined, inlined, fate_of, fate_at, constant_at}
 use Rattle.walk_ident.proofs.Laws.{tree-num}
 
 -- the fate by the binding, if there is one
@@ -52,15 +53,27 @@ unfolding rest
 const-later w i z = rw z refl
 
 -- a constant that is there was looked for
-pub const-now : (w : List ℕ) (i x : ℕ) → i < get_or w 0 0 → x ≡ (node_of w i).num → 0 < count_o (constant_at (abs w) i) → find_constant x (stack w) ≡ some (held (constant_at (abs w) i))
-const-now w i x l n z =
-    sym (const-at w i x l n (λ q. omega (arith, ap count_o (const-later w i q)))) ∙ held-some (constant_at (abs w) i) z
+pub const-now : (w : List ℕ) (i x : ℕ) {m : ℕ} → i < get_or w 0 0 → x ≡ (node_of w i).num → some m ≡ counted_o (constant_at (abs w) i) → (find_constant x (stack w) ≡ some (held (constant_at (abs w) i))) × (m ≡ count (held (constant_at (abs w) i)))
+const-now w i x {m} l n e = (sym (const-at w i x l n first) ∙ some_of (constant_at (abs w) i) e, size (constant_at (abs w) i) e)
+  where
+    gone : {A : Type 0} {m : ℕ} → ◌≡◌ {A = Option ℕ} (some m) none → A
+    gone e = absurd (let y : ◌≡◌ {A = ℕ} 0 1 = cc in omega arith)
+
+    first : get_or w 7 0 ≡ 0 → ⊥
+    first q = gone (e ∙ ap counted_o (const-later w i q))
+
+    some_of : (o : Option Tree) → some m ≡ counted_o o → o ≡ some (held o)
+    some_of none e = gone e
+    some_of (some t) e = refl
+
+    size : (o : Option Tree) → some m ≡ counted_o o → m ≡ count (held o)
+    size none e = gone e
+    size (some t) e = cc
 
 -- the same identifier, by the identifier that a value is
-same_by : (e : Tree) (x : ℕ) → x < 256 → (b : Bool) → eqb (pick b (num e) 256) x ≡ (b && eqb (num e) x)
-same_by e x h true = refl
-same_by e x h false = ne_eqb 256 x (λ q. omega arith)
-
-pub same-is : (w : List ℕ) (i x : ℕ) → i < get_or w 0 0 → x ≡ (node_of w i).num → x < 256 → (e : Tree) (v : Option Tree) → v ≡ some e → (r : ℕ) → r ≡ name_of v → eqb r x ≡ same_ident (tree_from (tree w) i) e
-same-is w i x l n h e v q r m =
-    rw (tree-num w i l, ← n) (ap (λ (k : ℕ). eqb k x) (m ∙ ap name_of q) ∙ same_by e x h (is_ident e))
+pub same-is : (w : List ℕ) (i x : ℕ) → i < get_or w 0 0 → x ≡ (node_of w i).num → (e : Tree) (v : Option Tree) → v ≡ some e → (r : std.Option ℕ) → r ≡ name_of v → names r x ≡ same_ident (tree_from (tree w) i) e
+same-is w i x l n e v q r m = rw (tree-num w i l, ← n) (ap (λ (k : std.Option ℕ). names k x) (m ∙ ap name_of q) ∙ by (is_ident e))
+  where
+    by : (b : Bool) → names (pick b (std.Some (num e)) std.None) x ≡ (b && eqb (num e) x)
+    by true = refl
+    by false = refl

@@ -1,5 +1,6 @@
 -- Contracts in the terms of the walk on the list: what the words stand for after a step, and a replacement with its rows. Assumes nothing.
-use Rattle.std.proofs.Common.{◌≡◌, ℕ, ◌+◌, ◌-◌, ◌%◌, ◌<◌, ◌≤◌, Bool, true, false, not, List, length, get_or, take, drop, sym, refl, ap, ◌∙◌, subst, arith, length-append, length-drop, length-take-le}
+use mathlib.Core.Path.{ap₂}
+use Rattle.std.proofs.Common.{◌≡◌, Ok, Err, ℕ, ◌+◌, ◌-◌, ◌%◌, ◌<◌, ◌≤◌, Bool, true, false, not, List, length, get_or, take, drop, sym, refl, ap, ◌∙◌, subst, arith, length-append, length-drop, length-take-le}
 use Rattle.def_tree.specs.Tree.{Tree, kind, form, num, Core, count, flat}
 use Rattle.def_tree.specs.Combine.{Res, stop, done, Nothing, and_then, Flat, on_rest}
 use Rattle.def_tree.proofs.Whole as whole
@@ -9,15 +10,16 @@ use Rattle.words.specs.Layout.{node_of, tree}
 use Rattle.words.proofs.Nodes.{tree-length, tree-at}
 use Rattle.words_scopes.specs.State.{Becomes, stack}
 use Rattle.words_nodes.specs.Nodes.{Planted, tree_from, put_at, Swapped}
-use Rattle.words_nodes.specs.declared.Step.TheVariants as step
+use Rattle.refusal.specs.declared.Refusal.{Refusal}
+use Rattle.refusal.specs.Number.{number}
+use Rattle.refusal.proofs.Rows.{number-some}
 use Rattle.words_nodes.proofs.Trees.{tree-at-is, behind-le, length-flat}
 use Rattle.words_nodes.proofs.Words.{tree-whole}
 use Rattle.words_nodes.proofs.Walks.{swap-stop, swap-done}
 use Rattle.words_state.specs.State.{rest, abs, Acts, Turns}
 use Rattle.words_state.proofs.Fields.{becomes-rest, becomes-turns, count_kept, ok-self, ok-then, replants-ok, replants-rest}
-use Rattle.walk_ident.specs.Steps.{Lands, Goes, Note, quiet, changes, counts, noted, counts_if, Landed, swap_f, value_f}
-use Rattle.walk_ident.specs.declared.Next.{Next}
-use Rattle.walk_ident.specs.declared.Next.TheVariants.{At, Refused}
+use Rattle.scope.specs.Steps.{Did}
+use Rattle.walk_ident.specs.Steps.{Note, quiet, changes, counts, noted, counts_if, swap_f, value_f}
 
 -- a state, part by part
 pub flat-eq : {xs ys : List Core} {s t : St} → xs ≡ ys → s ≡ t → ◌≡◌ {A = Flat St} (record { nodes = xs; rest = s }) (record { nodes = ys; rest = t })
@@ -49,14 +51,8 @@ counted-turns {w} {w₁} {w₂} {w₃} x v a z b e t =
 pub acts-done : (u : List ℕ) {r : Res (Flat St) Nothing} {st : Flat St} → r ≡ done st tt → abs u ≡ st → Acts u 0 r
 acts-done u e q = rw e (refl, q)
 
-pub acts-stop : (u : List ℕ) {r : Res (Flat St) Nothing} {n : ℕ} → r ≡ stop n → 0 < n → Acts u n r
-acts-stop u e h = rw e (refl, h)
-
-pub lands-done : {r : Res (Flat St) ℕ} {st st' : Flat St} {j k : ℕ} → r ≡ done st' k → st ≡ st' → j ≡ k → Lands (At j) st r
-lands-done e q h = rw e (ap At h, q)
-
-pub lands-stop : (st : Flat St) {r : Res (Flat St) ℕ} {n : ℕ} → r ≡ stop n → Lands (Refused n) st r
-lands-stop st e = rw e refl
+pub acts-stop : (u : List ℕ) {r : Res (Flat St) Nothing} {e : Refusal} → r ≡ stop (number e) → Acts u (number e) r
+acts-stop u {e = e} q = rw q (refl, number-some e)
 
 -- the node at i, as the first of its tree
 module _ (w : List ℕ) (i : ℕ) (l : i < get_or w 0 0) where
@@ -92,10 +88,10 @@ module _ (w u : List ℕ) (p i : ℕ) (e : Tree) (s : St) (z : s.nodes ≡ get_o
   abbrev before : Flat St
   before = record { nodes = tree w; rest = s }
 
-  pub swap-refused : {m : ℕ} → Swapped (step.Refused m) w u p i e → swap_f p e i before ≡ stop m
-  swap-refused {m} h = swap-stop before p i e m h.1 (rw z h.0)
+  pub swap-refused : {r : Refusal} → Swapped (Err r) w u p i e → swap_f p e i before ≡ stop (number r)
+  swap-refused {r} h = swap-stop before p i e (number r) (number-some r) (rw z h.0)
 
-  pub swap-made : Planted w → i < get_or w 0 0 → Swapped step.Done w u p i e → swap_f p e i before ≡ done (record { nodes = tree u; rest = set_nodes (get_or u 0 0) s }) (i + count e)
+  pub swap-made : Planted w → i < get_or w 0 0 → Swapped (Ok tt) w u p i e → swap_f p e i before ≡ done (record { nodes = tree u; rest = set_nodes (get_or u 0 0) s }) (i + count e)
   swap-made P l h =
       let n : s.nodes + count e - count (tree_from (tree w) i) ≡ get_or u 0 0 =
       rw (z, ← (tree-length w)) (sym (put-length (tree w) i e (behind-le (tree w) i (rw tree-length l) (tree-whole P))) ∙ sym (ap length h.1.is) ∙ tree-length u) in
@@ -111,15 +107,16 @@ module _ (w v : List ℕ) (p i : ℕ) (e : Tree) (P : Planted w) (l : i < get_or
       go changes = refl
       go (counts x) = refl
 
-  pub goes-stop : {m : ℕ} → Swapped (step.Refused m) w v p i e → Goes w v (Refused m) f
-  goes-stop h = record { ok = rw h.2 (ok-self P); lands = lands-stop (abs v) (q ∙ swap-refused w v p i e (noted note (rest w)) count-is h) }
+  pub goes-stop : {r : Refusal} → Swapped (Err r) w v p i e → Did w v (Err r) f
+  goes-stop h = record { ok = rw h.1 (ok-self P); is = q ∙ swap-refused w v p i e (noted note (rest w)) count-is h }
 
-  pub goes_on : {u : List ℕ} {a : Next} {j : ℕ} → Swapped step.Done w v p i e → Landed v u j note a → j ≡ i + count e → Goes w u a f
-  goes_on {u} {a} {j} h d n =
+  pub goes_on : {u : List ℕ} {j : ℕ} → Swapped (Ok tt) w v p i e → Turns v u (noted note (rest v)) → j ≡ i + count e → Did w u (Ok j) f
+  goes_on {u} {j} h t n =
       let r : rest v ≡ set_nodes (get_or v 0 0) (rest w) = replants-rest h.1 ∙ ap (λ (k : ℕ). set_nodes k (rest w)) (sym (ap length h.1.is) ∙ tree-length v) in
+      let s : abs u ≡ record { nodes = tree v; rest = set_nodes (get_or v 0 0) (noted note (rest w)) } = turns-abs t ∙ flat-eq refl (ap (noted note) r ∙ late note) in
       record {
-        ok = ok-then (replants-ok h.1) d.turns.ok;
-        lands = rw d.at (lands-done (q ∙ swap-made w v p i e (noted note (rest w)) count-is P l h) (turns-abs d.turns ∙ flat-eq refl (ap (noted note) r ∙ late note)) n);
+        ok = ok-then (replants-ok h.1) t.ok;
+        is = q ∙ swap-made w v p i e (noted note (rest w)) count-is P l h ∙ ap₂ {C = Res (Flat St) ℕ} done (sym s) (sym n);
       }
     where
       late : (b : Note) → noted b (set_nodes (get_or v 0 0) (rest w)) ≡ set_nodes (get_or v 0 0) (noted b (rest w))

@@ -3,10 +3,11 @@ use Rattle.std.proofs.Common.{◌≡◌, ℕ, suc, ◌+◌, ◌%◌, ◌<◌, �
 use borrow.Author.Tests.{lt-leb}
 use Rattle.def_tree.specs.Combine.{Res, stop, done, Nothing, carry, Flat, on_rest}
 use Rattle.def_pass.specs.Scope.{ScopeKind, v_var, new_scope, close, wrap, ending}
-use Rattle.def_pass.specs.Walk.{St, opening, deeper, restore, shallower, set_stack, set_var_decl_kind, set_pat_mode, set_in_test, set_inlining, set_conds}
-use Rattle.words.specs.Layout.{yes, tree}
-use Rattle.words_scopes.specs.State.{stack, var_type_of}
-use Rattle.words_state.specs.State.{rest, abs, mode_of, set_ended, Turns}
+use Rattle.def_pass.specs.Walk.{St, opening, deeper, restore, set_stack, set_var_decl_kind, set_conds}
+use Rattle.words.specs.Layout.{tree}
+use Rattle.words_scopes.specs.State.{stack}
+use Rattle.words_state.specs.declared.SavedFields.{SavedFields}
+use Rattle.words_state.specs.State.{rest, abs, given_back, set_ended, Turns}
 use Rattle.walk_ident.specs.Steps.{Restored}
 use Rattle.walk_ident.proofs.Laws.{flat-eq, turns-abs}
 
@@ -42,13 +43,7 @@ module _ (w : List ℕ) where
 pub total : (a b n e v : ℕ) → a ≡ b → n ≡ wrap e → v ≡ (a + n) % 4294967296 → v ≡ wrap (b + e)
 total a b n e v p q r = omega (arith, p, q, r)
 
--- the words' visitor after `close` and the five stores is that of `restore`
-pub left_is : (w u : List ℕ) (ended inl decl mode test : ℕ) → ended ≡ wrap (get_or w 12 0 + ending (stack w))
-    → Turns w u (set_in_test (yes test) (set_pat_mode (mode_of mode) (set_var_decl_kind (var_type_of decl) (set_inlining (yes inl) (set_ended ended (set_stack (close (stack w)) (rest w)))))))
-    → Restored w u inl decl mode test
+-- the words' visitor after `close` and the stores is that of `restore`
+pub left_is : (w u : List ℕ) (ended : ℕ) (f : SavedFields) → ended ≡ wrap (get_or w 12 0 + ending (stack w)) → Turns w u (given_back f (set_ended ended (set_stack (close (stack w)) (rest w)))) → Restored w u f
 unfolding restore rest
-left_is w u ended inl decl mode test e t = record { ok = t.ok; is = λ old a b c d. turns-abs t ∙ flat-eq refl (rw (a, b, c, d, e) refl) }
-
--- `shallower`, by a store of the count before
-pub shallower-is : (w u : List ℕ) (old : St) (n : ℕ) → n ≡ old.conds → Turns w u (set_conds n (rest w)) → abs u ≡ record { nodes = (abs w).nodes; rest = shallower old (abs w).rest }
-shallower-is w u old n e t = turns-abs t ∙ flat-eq refl (ap (λ (k : ℕ). set_conds k (rest w)) e)
+left_is w u ended f e t = record { ok = t.ok; is = λ old s. turns-abs t ∙ flat-eq refl (rw (← s.inlining, ← s.var_decl_kind, ← s.pat_mode, ← s.in_test, e) refl) }
