@@ -172,8 +172,8 @@ module _ (w : List ℕ) (p x : ℕ) (r : Tree) (i : ℕ) where
 
 -- recorded, or refused by row 9; v is the value as the words have it
 module _ {w u : List ℕ} (p x : ℕ) (e : Tree) (i : ℕ) (P : Planted w) (z : length u ≡ length w) (v : Option Tree) (q : v ≡ some e) where
-  pub first-stop : {r : Refusal} → Grown w u (change x (λ c. defined (with_value v c)) (stack w)) (Err r) → Did w u (Err r) (first_f p x e i (abs w))
-  first-stop g =
+  pub first-stop : (r : Refusal) → Grown w u (change x (λ c. defined (with_value v c)) (stack w)) (Err r) → Did w u (Err r) (first_f p x e i (abs w))
+  first-stop r g =
       let o : over (change x (λ c. defined (with_value (some e) c)) (stack w)) ≡ true = rw q at g.1 in
       record { ok = still-ok P z g.2; is = first-over w p x e i o ∙ ap (λ (r : Refusal). stop (number r)) (sym g.0) }
 

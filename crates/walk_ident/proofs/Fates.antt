@@ -1,4 +1,5 @@
 -- What becomes of an identifier, from the words of its binding; the constant that it names. Assumes nothing.
+use Rattle.core.specs.Option.{option_eq}
 use Rattle.std.specs.Prelude as std
 use Rattle.std.proofs.Common.{◌≡◌, ℕ, zero, suc, ◌<◌, Bool, true, false, ◌&&◌, eqb, List, get_or, sym, refl, ap, ◌∙◌, arith, ne_eqb}
 use mathlib.Core.Option.{Option, none, some}
@@ -16,7 +17,7 @@ use Rattle.words_state.specs.State.{rest, abs}
 use Rattle.scope_var_info.specs.Handles.{of_binding, held, counted_o}
 use Rattle.scope_var_info.proofs.Numbers.{count_none}
 use Rattle.words_nodes.proofs.Trees.{count-some}
-use Rattle.walk_ident.specs.Steps.{names, stays, undefined, inlined, fate_of, fate_at, constant_at}
+use Rattle.walk_ident.specs.Steps.{stays, undefined, inlined, fate_of, fate_at, constant_at}
 use Rattle.walk_ident.proofs.Laws.{tree-num}
 
 -- the fate by the binding, if there is one
@@ -71,9 +72,9 @@ const-now w i x {m} l n e = (sym (const-at w i x l n first) ∙ some_of (constan
     size (some t) e = cc
 
 -- the same identifier, by the identifier that a value is
-pub same-is : (w : List ℕ) (i x : ℕ) → i < get_or w 0 0 → x ≡ (node_of w i).num → (e : Tree) (v : Option Tree) → v ≡ some e → (r : std.Option ℕ) → r ≡ name_of v → names r x ≡ same_ident (tree_from (tree w) i) e
-same-is w i x l n e v q r m = rw (tree-num w i l, ← n) (ap (λ (k : std.Option ℕ). names k x) (m ∙ ap name_of q) ∙ by (is_ident e))
+pub same-is : (w : List ℕ) (i x : ℕ) → i < get_or w 0 0 → x ≡ (node_of w i).num → (e : Tree) (v : Option Tree) → v ≡ some e → (r : std.Option ℕ) → r ≡ name_of v → option_eq eqb r (std.Some x) ≡ same_ident (tree_from (tree w) i) e
+same-is w i x l n e v q r m = rw (tree-num w i l, ← n) (ap (λ (k : std.Option ℕ). option_eq eqb k (std.Some x)) (m ∙ ap name_of q) ∙ by (is_ident e))
   where
-    by : (b : Bool) → names (pick b (std.Some (num e)) std.None) x ≡ (b && eqb (num e) x)
+    by : (b : Bool) → option_eq eqb (pick b (std.Some (num e)) std.None) (std.Some x) ≡ (b && eqb (num e) x)
     by true = refl
     by false = refl

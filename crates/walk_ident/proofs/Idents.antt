@@ -1,5 +1,5 @@
 -- The walk's own steps by those of the functions here: an identifier in Analysis, and in Inlining by its fate. Assumes nothing.
-use Rattle.std.proofs.Common.{◌≡◌, ℕ, zero, suc, ◌<◌, Bool, true, false, not, ◌&&◌, eqb, List, length, get_or, refl, arith, ne_eqb}
+use Rattle.std.proofs.Common.{◌≡◌, ℕ, zero, suc, ◌<◌, Bool, true, false, not, ◌&&◌, ◌||◌, eqb, List, length, get_or, refl, arith, ne_eqb}
 use mathlib.Core.Option.{Option, none, some}
 use Rattle.def_tree.specs.Base.{pick}
 use Rattle.def_tree.specs.Tree.{Tree, kind, form, num}

@@ -51,8 +51,8 @@ counted-turns {w} {w₁} {w₂} {w₃} x v a z b e t =
 pub acts-done : (u : List ℕ) {r : Res (Flat St) Nothing} {st : Flat St} → r ≡ done st tt → abs u ≡ st → Acts u 0 r
 acts-done u e q = rw e (refl, q)
 
-pub acts-stop : (u : List ℕ) {r : Res (Flat St) Nothing} {e : Refusal} → r ≡ stop (number e) → Acts u (number e) r
-acts-stop u {e = e} q = rw q (refl, number-some e)
+pub acts-stop : (u : List ℕ) {r : Res (Flat St) Nothing} (e : Refusal) → r ≡ stop (number e) → Acts u (number e) r
+acts-stop u e q = rw q (refl, number-some e)
 
 -- the node at i, as the first of its tree
 module _ (w : List ℕ) (i : ℕ) (l : i < get_or w 0 0) where
@@ -88,8 +88,8 @@ module _ (w u : List ℕ) (p i : ℕ) (e : Tree) (s : St) (z : s.nodes ≡ get_o
   abbrev before : Flat St
   before = record { nodes = tree w; rest = s }
 
-  pub swap-refused : {r : Refusal} → Swapped (Err r) w u p i e → swap_f p e i before ≡ stop (number r)
-  swap-refused {r} h = swap-stop before p i e (number r) (number-some r) (rw z h.0)
+  pub swap-refused : (r : Refusal) → Swapped (Err r) w u p i e → swap_f p e i before ≡ stop (number r)
+  swap-refused r h = swap-stop before p i e (number r) (number-some r) (rw z h.0)
 
   pub swap-made : Planted w → i < get_or w 0 0 → Swapped (Ok tt) w u p i e → swap_f p e i before ≡ done (record { nodes = tree u; rest = set_nodes (get_or u 0 0) s }) (i + count e)
   swap-made P l h =
@@ -107,8 +107,8 @@ module _ (w v : List ℕ) (p i : ℕ) (e : Tree) (P : Planted w) (l : i < get_or
       go changes = refl
       go (counts x) = refl
 
-  pub goes-stop : {r : Refusal} → Swapped (Err r) w v p i e → Did w v (Err r) f
-  goes-stop h = record { ok = rw h.1 (ok-self P); is = q ∙ swap-refused w v p i e (noted note (rest w)) count-is h }
+  pub goes-stop : (r : Refusal) → Swapped (Err r) w v p i e → Did w v (Err r) f
+  goes-stop r h = record { ok = rw h.1 (ok-self P); is = q ∙ swap-refused w v p i e (noted note (rest w)) count-is r h }
 
   pub goes_on : {u : List ℕ} {j : ℕ} → Swapped (Ok tt) w v p i e → Turns v u (noted note (rest v)) → j ≡ i + count e → Did w u (Ok j) f
   goes_on {u} {j} h t n =

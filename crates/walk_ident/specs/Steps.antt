@@ -1,5 +1,4 @@
 -- The steps of an identifier and of a scope on the list of nodes, as the functions here make them. Assumes nothing: these are definitions.
-use Rattle.std.specs.Prelude as std
 use Rattle.std.specs.Prelude.{◌≡◌, ℕ, suc, Bool, true, false, not, ◌&&◌, List, ◌==◌}
 use Rattle.std.proofs.Math.Option.{Option, none, some}
 use Rattle.def_tree.specs.Base.{pick}
@@ -54,11 +53,6 @@ value_by w b = held (value_o (numbered (stack w) (suc b)))
 
 abbrev pub Has : List ℕ → ℕ → Type 0
 Has w b = value_o (numbered (stack w) (suc b)) ≡ some (value_by w b)
-
--- is the identifier that an answer is, if it is one, x
-abbrev pub names : std.Option ℕ → ℕ → Bool
-names std.None x = false
-names (std.Some n) x = n == x
 
 abbrev pub Fated : List ℕ → ℕ → Found → Type 0
 Fated w i found.Nothing = fate_at (abs w) i ≡ stays

@@ -1,0 +1,10 @@
+use Rattle.std.proofs.Common.{suc, ◌∙◌}
+use Rattle.def_pass.specs.Scope.{value_o}
+use Rattle.words_scopes.specs.State.{stack}
+use Rattle.scope_var_info.specs.Handles.{numbered}
+use Rattle.walk_ident.specs.Steps.{value_by}
+use Rattle.walk_ident.proofs.Fates as fates
+use Rattle.walk_ident.proofs.same_ident.Goals as goal
+
+pub returns : goal.returns
+returns c = c.eq.ensures ∙ fates.same-is c.args.w.now c.args.i c.ident_at-x.result c.requires.1 c.ident_at-x.ensures (value_by c.args.w.now c.args.b) (value_o (numbered (stack c.args.w.now) (suc c.args.b))) c.requires.3 c.value_ident.result c.value_ident.ensures
