@@ -1,5 +1,7 @@
 -- The walk's own steps by those of the functions here: an identifier in Analysis, and in Inlining by its fate. Assumes nothing.
-use Rattle.std.proofs.Common.{◌≡◌, ℕ, zero, suc, ◌<◌, Bool, true, false, not, ◌&&◌, ◌||◌, eqb, List, length, get_or, refl, arith, ne_eqb}
+use Rattle.core.specs.Option.{option_eq}
+use Rattle.std.specs.Prelude as std
+use Rattle.std.proofs.Common.{◌≡◌, ℕ, zero, suc, ◌<◌, Bool, true, false, not, ◌&&◌, ◌||◌, eqb, List, length, get_or, refl, ap, ◌∙◌, arith}
 use mathlib.Core.Option.{Option, none, some}
 use Rattle.def_tree.specs.Base.{pick}
 use Rattle.def_tree.specs.Tree.{Tree, kind, form, num}
@@ -8,6 +10,7 @@ use Rattle.def_pass.specs.Scope.{VarInfo, Stack, find_binding, prevent_inline, a
 use Rattle.def_pass.specs.Walk.{St, when, modify, mark, replace, set_stack, set_changed, tally, same_ident, cheap_o}
 use Rattle.laws_flat.specs.WalkF.{test_read}
 use Rattle.scope_find.specs.Look.{kind_o}
+use Rattle.scope_find.specs.Answers.{count_of}
 use Rattle.words.specs.Layout.{yes, node_of, tree}
 use Rattle.words_scopes.specs.State.{Becomes, stack}
 use Rattle.scope_values.proofs.Listed.{becomes-then}
@@ -19,23 +22,20 @@ use Rattle.walk_ident.specs.Steps.{analysis_f, costly, test_stack}
 use Rattle.walk_ident.proofs.Laws.{acts-done, becomes-abs, tree-form, tree-num}
 
 -- costly, by the binding and by the kind of its value
-pub costly-none : (o : Option VarInfo) → o ≡ none → costly o ≡ false
-costly-none o e = rw e refl
+pub costly-is : (o : Option VarInfo) (b : VarInfo) (k : std.Option ℕ) → o ≡ some b → count_of k ≡ kind_o b.value → (not (option_eq eqb k (std.Some 21)) && not (option_eq eqb k (std.Some 22))) ≡ costly o
+costly-is o b k e q = rw e (go k b.value q)
+  where
+    turned : (p q : Bool) → (not p && not q) ≡ not (q || p)
+    turned true true = refl
+    turned true false = refl
+    turned false true = refl
+    turned false false = refl
 
-module _ (o : Option VarInfo) (b : VarInfo) (e : o ≡ some b) where
-  pub costly-bare : kind_o b.value ≡ none → costly o ≡ true
-  costly-bare k = rw e (bare b.value k)
-    where
-      bare : (v : Option Tree) → kind_o v ≡ none → not (cheap_o v) ≡ true
-      bare none k = refl
-      bare (some t) k = absurd (let y : ◌≡◌ {A = ℕ} 0 1 = cc in omega arith)
-
-  pub costly-kind : (m : ℕ) → kind_o b.value ≡ some m → costly o ≡ not (eqb m 22 || eqb m 21)
-  costly-kind m k = rw e (by-kind b.value k)
-    where
-      by-kind : (v : Option Tree) → kind_o v ≡ some m → not (cheap_o v) ≡ not (eqb m 22 || eqb m 21)
-      by-kind none k = absurd (let y : ◌≡◌ {A = ℕ} 0 1 = cc in omega arith)
-      by-kind (some t) k = let q : kind t ≡ m = cc in ap (λ (n : ℕ). not (eqb n 22 || eqb n 21)) q
+    go : (k : std.Option ℕ) (v : Option Tree) → count_of k ≡ kind_o v → (not (option_eq eqb k (std.Some 21)) && not (option_eq eqb k (std.Some 22))) ≡ not (cheap_o v)
+    go std.None none q = refl
+    go std.None (some t) q = absurd (let y : ◌≡◌ {A = ℕ} 0 1 = cc in omega arith)
+    go (std.Some m) none q = absurd (let y : ◌≡◌ {A = ℕ} 0 1 = cc in omega arith)
+    go (std.Some m) (some t) q = let e : m ≡ kind t = cc in turned (eqb m 21) (eqb m 22) ∙ ap (λ (n : ℕ). not (eqb n 22 || eqb n 21)) e
 
 -- a read in a test
 module _ (x : ℕ) (s : St) where

@@ -51,7 +51,8 @@ fn costly(w: &[u32], x: u8) -> bool
     let Some(b) = find_binding(w, x) else {
         return false;
     };
-    !matches!(value_kind(w, b), Some(21 | 22))
+    let kind = value_kind(w, b);
+    kind != Some(21) && kind != Some(22)
 }
 
 // A read of x in a test prevents a costly value.

@@ -3,6 +3,7 @@ use Rattle.std.proofs.Common.{◌<◌, sym, ◌∙◌, inl, arith}
 use Rattle.walk_ident.proofs.Assigns as assigns
 use Rattle.words.specs.Layout.{node_of}
 use Rattle.walk_ident.proofs.assign.after_assign.Goals as goal
+use Rattle.walk_ident.proofs.assign.after_assign.Goals.{then-arity_at-lt2-via-then-arity_at-lt2, then-arity_at-lt2-via-else-arity_at-lt2+then-kind_at-ne20}
 
 pub kind_at-requires : goal.kind_at-requires
 kind_at-requires c =
@@ -11,22 +12,50 @@ kind_at-requires c =
     (c.requires.0.good.long, omega (arith, c.requires.0.good.nodes, assigns.target-in c.requires.0 c.args.i c.requires.1 h))
 
 pub returns-then-arity_at-lt2 : goal.returns-then-arity_at-lt2
-returns-then-arity_at-lt2 c = ?
+returns-then-arity_at-lt2 c =
+    let w = c.args.w.now in
+    elim c.then-arity_at-lt2.branch [
+      then-arity_at-lt2-via-then-arity_at-lt2 d ↦ assigns.goes-past c.args.i c.requires.0 (assigns.assign-few c.requires.0 c.args.i c.requires.1 c.args.p (omega (arith, c.arity_at.ensures, d.if-arity_at-lt2.true))) c.skip.ensures.0
+    | then-arity_at-lt2-via-else-arity_at-lt2+then-kind_at-ne20 d ↦
+        let h : 1 < (node_of w c.args.i).arity = omega (arith, c.arity_at.ensures, d.if-arity_at-lt2.false) in
+        assigns.goes-past c.args.i c.requires.0 (assigns.assign_other c.requires.0 c.args.i c.requires.1 h c.args.p (λ e. d.if-kind_at-ne20.true (d.kind_at.ensures ∙ e))) c.skip.ensures.0
+    ]
 
 pub ident_at-x-requires : goal.ident_at-x-requires
-ident_at-x-requires c = ?
+ident_at-x-requires c =
+    let w = c.args.w.now in
+    let h : 1 < (node_of w c.args.i).arity = omega (arith, c.arity_at.ensures, c.if-arity_at-lt2.false) in
+    let e = sym c.kind_at.ensures ∙ c.if-kind_at-ne20.false in
+    (c.requires.0.good, assigns.target-in c.requires.0 c.args.i c.requires.1 h, inl e)
 
 pub skip-j-requires : goal.skip-j-requires
-skip-j-requires c = ?
+skip-j-requires c =
+    let w = c.args.w.now in
+    let h : 1 < (node_of w c.args.i).arity = omega (arith, c.arity_at.ensures, c.if-arity_at-lt2.false) in
+    (c.requires.0, assigns.target-in c.requires.0 c.args.i c.requires.1 h)
 
 pub first_here-requires : goal.first_here-requires
-first_here-requires c = ?
+first_here-requires c =
+    let w = c.args.w.now in
+    let h : 1 < (node_of w c.args.i).arity = omega (arith, c.arity_at.ensures, c.if-arity_at-lt2.false) in
+    (c.requires.0.good, omega (arith, c.skip-j.ensures.0, assigns.value_in c.requires.0 c.args.i c.requires.1 h))
 
 pub first_assigned-requires : goal.first_assigned-requires
-first_assigned-requires c = ?
+first_assigned-requires c =
+    let w = c.args.w.now in
+    let h : 1 < (node_of w c.args.i).arity = omega (arith, c.arity_at.ensures, c.if-arity_at-lt2.false) in
+    (c.requires.0, rw c.skip-j.ensures.0 (assigns.value-child c.requires.0 c.args.i c.requires.1 h), c.requires.2)
 
 pub returns-then-first_here : goal.returns-then-first_here
-returns-then-first_here c = ?
+returns-then-first_here c =
+    let w = c.args.w.now in
+    let h : 1 < (node_of w c.args.i).arity = omega (arith, c.arity_at.ensures, c.if-arity_at-lt2.false) in
+    let e = sym c.kind_at.ensures ∙ c.if-kind_at-ne20.false in
+    assigns.goes-as (assigns.assign-first c.requires.0 c.args.i c.requires.1 h c.args.p e c.ident_at-x.result c.ident_at-x.ensures c.skip-j.result c.skip-j.ensures.0 (sym c.first_here.ensures ∙ c.if-first_here.true)) c.first_assigned.ensures
 
 pub returns : goal.returns
-returns c = ?
+returns c =
+    let w = c.args.w.now in
+    let h : 1 < (node_of w c.args.i).arity = omega (arith, c.arity_at.ensures, c.if-arity_at-lt2.false) in
+    let e = sym c.kind_at.ensures ∙ c.if-kind_at-ne20.false in
+    assigns.goes-past c.args.i c.requires.0 (assigns.assign-not c.requires.0 c.args.i c.requires.1 h c.args.p e c.ident_at-x.result c.ident_at-x.ensures c.skip-j.result c.skip-j.ensures.0 (sym c.first_here.ensures ∙ c.if-first_here.false)) c.skip-2.ensures.0
