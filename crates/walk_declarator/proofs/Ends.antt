@@ -1,4 +1,5 @@
 -- The end of a declarator: what stays, and what is taken out with its nodes. Assumes nothing.
+use Rattle.std.proofs.Common.{Ok, Err}
 use mathlib.Core.Path.{◌≡◌, refl, sym, ap, ◌∙◌}
 use mathlib.Core.List.{List, ◌++◌}
 use mathlib.Core.Bool.{Bool, true, false}
@@ -22,7 +23,10 @@ use Rattle.words_nodes.proofs.Walks as walks
 use Rattle.def_tree.proofs.Whole.{whole_drop}
 use Rattle.words_state.specs.State.{rest, abs}
 use Rattle.words_state.proofs.Fields.{ok-then, replants-ok, replants-rest}
-use Rattle.walk_declarator.specs.Steps.{named, wants, take_ident, take_value, take_or_mark, take_init, Moves, Did, Spot, declr_after}
+use Rattle.walk_declarator.specs.Steps.{named, wants, take_ident, take_value, take_or_mark, take_init, Moves, Did, Stands, declr_after}
+use Rattle.walk_declarator.specs.declared.Spot.{Spot}
+use Rattle.refusal.specs.declared.Refusal.{Refusal}
+use Rattle.refusal.specs.Number.{number}
 use Rattle.walk_declarator.proofs.Acts as acts
 use Rattle.walk_declarator.proofs.Parts as parts
 
@@ -83,21 +87,27 @@ rest-nodes : (w : List ℕ) → (rest w).nodes ≡ length (tree w)
 unfolding rest
 rest-nodes w = sym (tree-length w)
 
-pub spot-child : {xs : List Core} {q n i j : ℕ} → Spot xs q n i j → 0 < n → Child xs q 1 i
-spot-child {xs} {q} sp h = rw sp.at (walks.second-child xs q (omega (arith, sp.arity)) sp.name)
+pub spot-child : {xs : List Core} {s : Spot} → Stands xs s → 0 < s.n → Child xs s.q 1 s.i
+spot-child {xs} {s} sp h = rw sp.at (walks.second-child xs s.q (omega (arith, sp.arity)) sp.name)
 
 module _ {w u : List ℕ} (k : VarType) (name : Tree) (q n i j : ℕ) where
-  pub after_stop : {m : ℕ} → Moves w u (takes k name (forest_from (tree w) n i) (rest w)) (stop m) → Did w u (declr_after q k name n i j (abs w)) (stop m)
-  after_stop p = record { ok = p.ok; is = after_is q k name n i j w ∙ ap (after q n i j (tree w)) p.is }
+  pub after_stop : (e : Refusal) → Moves w u (takes k name (forest_from (tree w) n i) (rest w)) (stop (number e)) → Did w u (Err e) (declr_after q k name n i j (abs w))
+  after_stop e p = record { ok = p.ok; is = after_is q k name n i j w ∙ ap (after q n i j (tree w)) p.is }
 
-  pub after_kept : Spot (tree w) q n i j → Moves w u (takes k name (forest_from (tree w) n i) (rest w)) (done (rest u) false) → Did w u (declr_after q k name n i j (abs w)) (done (abs u) j)
-  after_kept sp p = record {
+  pub after_kept : (get_or (tree w) q no_core).arity ≡ suc n → Moves w u (takes k name (forest_from (tree w) n i) (rest w)) (done (rest u) false) → Did w u (Ok j) (declr_after q k name n i j (abs w))
+  after_kept a p = record {
     ok = p.ok;
-    is = after_is q k name n i j w ∙ ap (after q n i j (tree w)) p.is ∙ ap (λ (st : Flat St). done st j) (same-arity (tree w) q (suc n) (rest u) sp.arity ∙ ap (λ (l : List Core). record { nodes = l; rest = rest u }) (sym p.nodes));
+    is = after_is q k name n i j w ∙ ap (after q n i j (tree w)) p.is ∙ ap (λ (st : Flat St). done st j) (same-arity (tree w) q (suc n) (rest u) a ∙ ap (λ (l : List Core). record { nodes = l; rest = rest u }) (sym p.nodes));
   }
 
 -- with the initialiser at i
-module _ {w : List ℕ} (g : Planted w) (f x : ℕ) (k : VarType) (q n i j : ℕ) (sp : Spot (tree w) q n i j) (z : 0 < n) where
+module _ {w : List ℕ} (g : Planted w) (f x : ℕ) (k : VarType) (s : Spot) (sp : Stands (tree w) s) (z : 0 < s.n) where
+  abbrev q n i j : ℕ
+  q = s.q
+  n = s.n
+  i = s.i
+  j = s.j
+
   abbrev e : Tree
   e = tree_from (tree w) i
 
@@ -112,11 +122,11 @@ module _ {w : List ℕ} (g : Planted w) (f x : ℕ) (k : VarType) (q n i j : ℕ
       ap (λ (ts : Forest). takes k (named f x) ts (rest w)) (parts.forest-some (tree w) n i z (parts.some-tree (drop i (tree w)) (omega (arith, length-drop i (tree w), places.1))))
       ∙ takes-some f x k e (take_f (n - 1) (tail_f (plant (drop i (tree w))))) (rest w)
 
-  pub init-stop : {u : List ℕ} {m : ℕ} → Moves w u (take_init f x k e (rest w)) (stop m) → Did w u (declr_after q k (named f x) n i j (abs w)) (stop m)
-  init-stop p = after_stop k (named f x) q n i j (acts.moves-by takes-here (acts.moves-stop (counted e) p))
+  pub init-stop : {u : List ℕ} (r : Refusal) → Moves w u (take_init f x k e (rest w)) (stop (number r)) → Did w u (Err r) (declr_after q k (named f x) n i j (abs w))
+  init-stop r p = after_stop k (named f x) q n i j r (acts.moves-by takes-here (acts.moves-stop (counted e) p))
 
-  pub init-kept : {u : List ℕ} → Moves w u (take_init f x k e (rest w)) (done (rest u) false) → Did w u (declr_after q k (named f x) n i j (abs w)) (done (abs u) j)
-  init-kept p = after_kept k (named f x) q n i j sp (acts.moves-by takes-here (acts.moves-then (counted e) p (acts.moves-self p.ok.planted false)))
+  pub init-kept : {u : List ℕ} → Moves w u (take_init f x k e (rest w)) (done (rest u) false) → Did w u (Ok j) (declr_after q k (named f x) n i j (abs w))
+  init-kept p = after_kept k (named f x) q n i j sp.arity (acts.moves-by takes-here (acts.moves-then (counted e) p (acts.moves-self p.ok.planted false)))
 
   -- the list without the initialiser, of which the words have the new count
   abbrev without : St → Flat St
@@ -136,16 +146,16 @@ module _ {w : List ℕ} (g : Planted w) (f x : ℕ) (k : VarType) (q n i j : ℕ
           ap (λ (b : ℕ). done (set_arity q b (record { nodes = take i (tree w) ++ drop (i + count (tree_at st i)) (tree w); rest = s })) (j - count e)) d
           ∙ ap (λ (r : Flat St). done r (j - count e)) (walks.cut-is st q i places.0 (omega (arith, places.1)))
 
-  pub init-gone : {u v : List ℕ} → Moves w u (take_init f x k e (rest w)) (done (rest u) true) → Replants u v (cut_at (tree u) q i) → Did w v (declr_after q k (named f x) n i j (abs w)) (done (abs v) (j - count e))
+  pub init-gone : {u v : List ℕ} → Moves w u (take_init f x k e (rest w)) (done (rest u) true) → Replants u v (cut_at (tree u) q i) → Did w v (Ok (j - count e)) (declr_after q k (named f x) n i j (abs w))
   init-gone {u} {v} p r =
       let b : i + count e ≤ length (tree w) = behind-le (tree w) i places.1 (tree-whole g) in
       let c : length (cut_at (tree u) q i) ≡ (rest u).nodes - count e = ap (λ (l : List Core). length (cut_at l q i)) p.nodes ∙ cut-length (tree w) q i b ∙ ap (λ (m : ℕ). m - count e) (ap length (sym p.nodes) ∙ sym (rest-nodes u)) in
-      let s : rest v ≡ set_nodes ((rest u).nodes - count e) (rest u) = replants-rest r ∙ ap (λ (m : ℕ). set_nodes m (rest u)) c in
+      let o : rest v ≡ set_nodes ((rest u).nodes - count e) (rest u) = replants-rest r ∙ ap (λ (m : ℕ). set_nodes m (rest u)) c in
       let t : tree v ≡ cut_at (tree w) q i = r.is ∙ ap (λ (l : List Core). cut_at l q i) p.nodes in
       record {
         ok = ok-then p.ok (replants-ok r);
         is = after_is q k (named f x) n i j w ∙ ap (after q n i j (tree w)) (takes-here ∙ ap (λ r. and_then r (counted e)) p.is) ∙ after-cut (set_nodes ((rest u).nodes - count e) (rest u))
-            ∙ sym (rw (s, t) refl);
+            ∙ sym (rw (o, t) refl);
       }
 
 pub child-at : {w : List ℕ} {q i : ℕ} → Planted w → Child (tree w) q 1 i → i < get_or w 0 0
@@ -154,6 +164,3 @@ child-at {w} {q} g h = omega (arith, (child-lt h (whole_drop q (tree w) (tree-wh
 -- without an initialiser
 pub bare-here : (f x : ℕ) (k : VarType) (xs : List Core) (i : ℕ) (s : St) → takes k (named f x) (forest_from xs 0 i) s ≡ and_then (declare_m (named f x) def.no_init false k s) (λ u. ret false)
 bare-here f x k xs i s = ap (λ (ts : Forest). takes k (named f x) ts s) (parts.forest-none xs 0 i refl) ∙ takes_none f x k s
-
-pub did-by : {A : Type 0} {w u : List ℕ} {m m' r : Res (Flat St) A} → m ≡ m' → Did w u m' r → Did w u m r
-did-by e p = record { ok = p.ok; is = e ∙ p.is }

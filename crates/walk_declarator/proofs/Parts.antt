@@ -111,10 +111,6 @@ module _ (f x : ℕ) (k : VarType) (e : Tree) (s : St) where
   init-then = refl
 
 -- the name alone
-abbrev pub once_o : Option ℕ → Bool
-once_o none = false
-once_o (some n) = eqb n 1
-
 once-reads : (o : Option VarInfo) → read_once? o ≡ once_o (reads_o o)
 once-reads none = refl
 once-reads (some b) = refl

@@ -65,7 +65,7 @@ fn over_none(w: &mut [u32], name: Name) -> Result<(), Refusal>
     ensures { Moves w.old w.new (over_none name.form name.ident (rest w.old)) (done_of result (rest w.new)) }
 {
     let kind = var_decl_kind(w);
-    if matches!(kind, VarType::Declared(VarDeclKind::Const)) {
+    if kind == VarType::Declared(VarDeclKind::Const) {
         return Ok(());
     }
     declare_m(w, name.form, name.ident, Init::NoInit, 0, true, kind)
@@ -111,7 +111,7 @@ fn over_some(w: &mut [u32], name: Name, e: usize) -> Result<bool, Refusal>
     ensures { Moves w.old w.new (declr_analysis (name_of name) (some (tree_from (tree w.old) e)) (rest w.old)) (done_of result (rest w.new)) }
 {
     let kind = var_decl_kind(w);
-    if matches!(kind, VarType::Declared(VarDeclKind::Const)) {
+    if kind == VarType::Declared(VarDeclKind::Const) {
         over_const(w, name.ident, e)?;
         return Ok(false);
     }

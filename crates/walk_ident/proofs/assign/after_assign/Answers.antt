@@ -26,7 +26,7 @@ ident_at-x-requires c =
     let w = c.args.w.now in
     let h : 1 < (node_of w c.args.i).arity = omega (arith, c.arity_at.ensures, c.if-arity_at-lt2.false) in
     let e = sym c.kind_at.ensures ∙ c.if-kind_at-ne20.false in
-    (c.requires.0.good, assigns.target-in c.requires.0 c.args.i c.requires.1 h, inl e)
+    ((c.requires.0.good, assigns.target-in c.requires.0 c.args.i c.requires.1 h), inl e)
 
 pub skip-j-requires : goal.skip-j-requires
 skip-j-requires c =
