@@ -102,10 +102,16 @@ module _ {w u : List ℕ} (k : VarType) (name : Tree) (q n i j : ℕ) where
 
 -- with the initialiser at i
 module _ {w : List ℕ} (g : Planted w) (f x : ℕ) (k : VarType) (s : Spot) (sp : Stands (tree w) s) (z : 0 < s.n) where
-  abbrev q n i j : ℕ
+  abbrev q : ℕ
   q = s.q
+
+  abbrev n : ℕ
   n = s.n
+
+  abbrev i : ℕ
   i = s.i
+
+  abbrev j : ℕ
   j = s.j
 
   abbrev e : Tree

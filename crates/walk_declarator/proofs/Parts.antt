@@ -16,7 +16,11 @@ use Rattle.def_pass.specs.Tree.{is_ident, is_cheap, has_this, head_t, tail_f}
 use Rattle.def_pass.specs.Scope as def
 use Rattle.def_pass.specs.Scope.{VarInfo, Stack, VarType, is_var, is_const, declare, add_const, is_inline_prevented, prevent_inline, find_binding, mark_of, has_same_this}
 use Rattle.def_pass.specs.Walk.{St, M, when, mark, grow, declare_m, declr_analysis, over_m, stays, takes, read_once?}
-use Rattle.words.specs.Layout.{tree}
+use Rattle.core.specs.Bool.{then_some}
+use Rattle.scope.specs.Given.{value_at}
+use Rattle.scope_declare.proofs.Init.{from-kind}
+use Rattle.scope_var_info.proofs.Numbers.{tree-in}
+use Rattle.words.specs.Layout.{node_of, tree}
 use Rattle.words.proofs.Nodes.{tree-length}
 use Rattle.words_nodes.specs.Nodes.{Planted, tree_from, forest_from}
 use Rattle.words_nodes.proofs.Trees.{trees-le, plant-behind}
@@ -24,6 +28,14 @@ use Rattle.words_nodes.proofs.Words.{tree-whole}
 use Rattle.scope_find.specs.Look.{reads_o}
 use Rattle.walk_declarator.specs.Steps.{named, over_none, over_const, over_cheap, over_other, wants, take_ident, take_value, take_or_mark, take_init}
 pub use Rattle.scope.proofs.Undefined.{rest-kind, rest-inlining, rest-first}
+
+-- a literal or an identifier, and what is recorded of a constant's value
+pub cheap-is : (w : List ℕ) (i k : ℕ) → i < get_or w 0 0 → k ≡ (node_of w i).kind → (eqb k 22 || eqb k 21) ≡ is_cheap (tree_from (tree w) i)
+cheap-is w i k l e = ap (λ (n : ℕ). eqb n 22 || eqb n 21) (e ∙ sym (from-kind w i l))
+
+pub cheap-value : (w : List ℕ) (i : ℕ) (b : Bool) → i < get_or w 0 0 → pick b (some (tree_from (tree w) i)) none ≡ value_at (tree w) (then_some b i)
+cheap-value w i true l = sym (tree-in w i l)
+cheap-value w i false l = refl
 
 -- a constant
 module _ (x : ℕ) (s : St) (e : Tree) where
@@ -111,6 +123,10 @@ module _ (f x : ℕ) (k : VarType) (e : Tree) (s : St) where
   init-then = refl
 
 -- the name alone
+abbrev pub once_o : Option ℕ → Bool
+once_o none = false
+once_o (some n) = eqb n 1
+
 once-reads : (o : Option VarInfo) → read_once? o ≡ once_o (reads_o o)
 once-reads none = refl
 once-reads (some b) = refl

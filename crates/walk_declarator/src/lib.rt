@@ -6,7 +6,7 @@ ghost use Rattle.std.proofs.Math.Option.{some};
 ghost use Rattle.def_tree.specs.Tree.{count, length_f, plant};
 ghost use Rattle.def_tree.specs.Combine.{done};
 ghost use Rattle.def_pass.specs.Tree.{is_cheap};
-ghost use Rattle.def_pass.specs.Scope.{prevent_inline};
+ghost use Rattle.def_pass.specs.Scope.{is_const, prevent_inline};
 ghost use Rattle.def_pass.specs.Walk.{when, mark, declr_analysis, over_m, stays};
 ghost use Rattle.words.specs.Layout.{tree};
 ghost use Rattle.words_scopes.specs.State.{stack};
@@ -46,7 +46,15 @@ pub fn is_cheap(w: &[u32], i: usize) -> bool
     requires { (Planted w.now) × (i < size w.now) }
     ensures { result ≡ is_cheap (tree_from (tree w.now) i) }
 {
-    matches!(kind_at(w, i), 21 | 22)
+    let kind = kind_at(w, i);
+    kind == 22 || kind == 21
+}
+
+// Is it the type of a constant.
+fn is_const(kind: VarType) -> bool
+    ensures { result ≡ is_const (type_of kind) }
+{
+    kind == VarType::Declared(VarDeclKind::Const)
 }
 
 // Marks every binding of x, and every binding whose value is x, if a test holds.
@@ -65,7 +73,7 @@ fn over_none(w: &mut [u32], name: Name) -> Result<(), Refusal>
     ensures { Moves w.old w.new (over_none name.form name.ident (rest w.old)) (done_of result (rest w.new)) }
 {
     let kind = var_decl_kind(w);
-    if kind == VarType::Declared(VarDeclKind::Const) {
+    if is_const(kind) {
         return Ok(());
     }
     declare_m(w, name.form, name.ident, Init::NoInit, 0, true, kind)
@@ -111,7 +119,7 @@ fn over_some(w: &mut [u32], name: Name, e: usize) -> Result<bool, Refusal>
     ensures { Moves w.old w.new (declr_analysis (name_of name) (some (tree_from (tree w.old) e)) (rest w.old)) (done_of result (rest w.new)) }
 {
     let kind = var_decl_kind(w);
-    if kind == VarType::Declared(VarDeclKind::Const) {
+    if is_const(kind) {
         over_const(w, name.ident, e)?;
         return Ok(false);
     }
