@@ -4,7 +4,7 @@ use mathlib.Core.Bool.{Bool, true, false, ◌&&◌}
 use mathlib.Core.List.{List, [], ◌∷◌}
 use mathlib.Core.Logic.{inr}
 use mathlib.Core.Option.{Option, none, some}
-use Prim.Native.Nat.{ℕ, zero, suc, ◌+◌, ◌*◌, ◌<◌}
+use Prim.Native.Nat.{ℕ, ◌+◌, ◌*◌, ◌<◌}
 use native.Mathlib.Omega.{arith}
 use borrow.Author.Tests.{eq-eqb, ne_eqb}
 use lib.Dec.{eqb}
@@ -15,9 +15,9 @@ use Rattle.def_pass.specs.Tree.{is_ident, num}
 use Rattle.def_pass.specs.Scope.{untargeted, Free}
 use Rattle.words.specs.Flags.{flag_at}
 use Rattle.words.specs.Layout.{yes, run, core_from, node_of}
-use Rattle.words.specs.Tab.{get_d-tab, tab-zero}
+use Rattle.words.specs.Tab.{get_d-tab}
 use Rattle.words.proofs.Nodes.{run_length, run-at, tree-at}
-use Rattle.words_scopes.specs.State.{Good, Named, targeted, value_of, run_of}
+use Rattle.words_scopes.specs.State.{Good, Named, targeted, value_of}
 use Rattle.words.specs.declared.Run.{Run}
 use Rattle.scope_values.specs.Steps.{Offered, run_value}
 use Rattle.scope_values.proofs.Listed.{none-value, none-offered}

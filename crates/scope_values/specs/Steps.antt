@@ -1,6 +1,6 @@
 -- What a step on the records does, and what a step that may pass a limit answers. Assumes nothing: these are definitions.
 use Rattle.std.specs.Prelude.{◌≡◌, List, Bool, true, false, Result, Ok, Err, ◌||◌, ℕ, ◌+◌, ◌-◌, ◌*◌, ◌≤◌, ◌<◌, length, get_or, set, ltb}
-use Rattle.std.proofs.Math.Option.{Option, none, some}
+use Rattle.std.proofs.Math.Option.{Option}
 use Rattle.def_tree.specs.Tree.{Tree}
 use Rattle.def_pass.specs.Scope.{VarInfo, Stack, recorded_nodes, live}
 use Rattle.words.specs.Layout.{run, tree, beyond}

@@ -1,5 +1,5 @@
 -- By the first node. Assumes nothing.
-use Rattle.std.proofs.Common.{ℕ, ◌≡◌, sym, ap, ◌∙◌, arith}
+use Rattle.std.proofs.Common.{ℕ, sym, ap, ◌∙◌, arith}
 use Rattle.words.specs.Flags.{flag_at}
 use Rattle.words.specs.Layout.{yes}
 use Rattle.scope_constants.proofs.Targeted as laws
@@ -11,8 +11,8 @@ returns-then-r-eq0 c =
     let a = c.args in
     let o = c.requires.1 in
     elim c.then-r-eq0.branch [
-      then-r-eq0-via-then-r-eq0 v ↦ laws.left-empty a.w.now a.r o v.if-r-eq0.true
-    | then-r-eq0-via-else-r-eq0+then-kind_at-ne21 v ↦ laws.left_other a.w.now a.r o (omega (arith, v.if-r-eq0.false)) (λ e. v.if-kind_at-ne21.true (v.kind_at.ensures ∙ e))
+      | then-r-eq0-via-then-r-eq0 v ↦ laws.left-empty a.w.now a.r o v.if-r-eq0.true
+      | then-r-eq0-via-else-r-eq0+then-kind_at-ne21 v ↦ laws.left_other a.w.now a.r o (omega (arith, v.if-r-eq0.false)) (λ e. v.if-kind_at-ne21.true (v.kind_at.ensures ∙ e))
     ]
 
 pub overflow_cast-x : goal.overflow_cast-x

@@ -1,11 +1,9 @@
 -- The sum of words of a table. Assumes nothing.
 use Prim.Native.Nat.{ℕ, ◌+◌, ◌*◌}
-use mathlib.Core.Path.{◌≡◌}
 use native.Mathlib.Omega.{arith}
 use lib.ListN.{get_or}
 use Rattle.words.specs.Tab as sums
 use Rattle.words.specs.Tab.{sum}
-use Rattle.scope_values.proofs.Store.{stride}
 use Rattle.scope_values.proofs.lengths.Goals as goal
 
 pub loop-j-preserved : goal.loop-j-preserved

@@ -1,6 +1,6 @@
 -- A value overwritten, the later values shifted. Assumes nothing.
 use native.Mathlib.Omega.{arith}
-use lib.ListN.{get_or, length-set}
+use lib.ListN.{get_or}
 use Rattle.words.specs.Tab as sums
 use Rattle.words_scopes.specs.State.{len_at}
 use Rattle.scope_values.proofs.Listed as listed

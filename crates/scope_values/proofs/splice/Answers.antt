@@ -1,5 +1,4 @@
 -- Two shifts. Assumes nothing.
-use mathlib.Core.Path.{◌∙◌}
 use native.Mathlib.Omega.{arith}
 use Rattle.scope_values.proofs.Store.{spliced}
 use Rattle.scope_values.proofs.splice.Goals as goal

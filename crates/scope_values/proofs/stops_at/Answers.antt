@@ -87,4 +87,4 @@ returns c =
     let i = c.loop-i.i in
     let z : get_or w 2 0 - i ≡ 0 = omega arith in
     let z2 : get_or w 2 0 ≡ i = omega arith in
-    c.then_some.ensures ∙ ap (then_some (ltb 512 c.loop-i.sum)) z2 ∙ sym (c.loop-i.invariant.6 ∙ ap (λ (m : ℕ). later i (stops_at c.loop-i.sum (outer w m c.loop-i.e c.loop-i.c))) z ∙ at_end c.loop-i.sum i) 
+    c.then_some.ensures ∙ ap (then_some (ltb 512 c.loop-i.sum)) z2 ∙ sym (c.loop-i.invariant.6 ∙ ap (λ (m : ℕ). later i (stops_at c.loop-i.sum (outer w m c.loop-i.e c.loop-i.c))) z ∙ at_end c.loop-i.sum i)
