@@ -1,5 +1,5 @@
 -- One binding hoisted. Assumes nothing.
-use Rattle.std.proofs.Common.{◌≡◌, ℕ, zero, suc, ◌+◌, ◌*◌, ◌<◌, ◌≤◌, Bool, true, false, ◌||◌, eqb, List, [], ◌∷◌, length, get_or, set, sym, refl, ap, ◌∙◌, arith}
+use Rattle.std.proofs.Common.{◌≡◌, ℕ, zero, suc, ◌+◌, ◌*◌, ◌<◌, Bool, true, false, ◌||◌, eqb, List, [], ◌∷◌, length, get_or, set, sym, refl, ap, ◌∙◌, arith}
 use mathlib.Core.Option.{Option, none, some}
 use Rattle.def_pass.specs.Scope.{VarInfo, Stack, is_var, hoist, with_value, change, append, find_in, find_binding_from_current, count_in, is_some}
 use Rattle.words.specs.Layout.{yes, Agree}

@@ -13,9 +13,8 @@ use refusal::Refusal;
 use scope_redeclare::{own_binding, rewrite, set_count};
 use scope_values::set_run;
 use words::{Run, flag_at, layout, wipe};
-use words_scopes::{Record, append_record, drop_scope, open, record_at};
-
 pub use words_scopes::kinds::{Scope, ScopeKind};
+use words_scopes::{Record, append_record, drop_scope, open, record_at};
 
 // What a `var` of a closed scope, whose record j is, leaves in the innermost scope: in place of its binding of the same name, whose count is
 // answered, or appended.

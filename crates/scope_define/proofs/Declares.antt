@@ -1,7 +1,7 @@
 -- A binding declared: in place, or appended; and what row 9 counts of it. Assumes nothing.
 use mathlib.Core.Path.{◌≡◌, refl, sym, ap, ◌∙◌}
 use mathlib.Core.List.{List, [], ◌∷◌, ◌++◌, map}
-use mathlib.Core.Bool.{Bool, true, false, ◌||◌, ◌&&◌, not}
+use mathlib.Core.Bool.{Bool, true, false, ◌||◌}
 use mathlib.Core.Option.{Option, none, some}
 use Prim.Native.Nat.{ℕ, suc, ◌+◌, ◌-◌, ◌*◌, ◌≤◌, ◌<◌}
 use native.Mathlib.Omega.{arith}
@@ -11,8 +11,7 @@ use lib.Seq.{get_or-drop, get_or_at, set_at, drop-set-add, take-set-le}
 use Rattle.def_tree.specs.Base.{pick}
 use Rattle.def_tree.specs.Tree.{Tree, Core}
 use Rattle.def_pass.specs.Tree.{count_o}
-use Rattle.def_pass.specs.Scope.{VarInfo, Scope, Stack, VarType, find_in, has_in, is_some, change_in, change, on_bindings, append, fresh, redeclare, with_value, value_o, values_in, recorded_nodes, live, prevent, prevent_one, prevent_inline, prevent_inline_o, find_binding_from_current, value_is, declare, kept, init_of, ident_of, prevented_o, should_prevent_inline_because_of_scope, alias_from, idx_val_o, idx_val, place_or, in_loop, is_param, param_o, barred}
-use Rattle.def_pass.specs.Scope as def
+use Rattle.def_pass.specs.Scope.{VarInfo, Stack, VarType, find_in, has_in, is_some, change_in, change, on_bindings, append, fresh, redeclare, with_value, value_o, values_in, recorded_nodes, live, prevent, prevent_one, prevent_inline, prevent_inline_o, find_binding_from_current, value_is, kept}
 use Rattle.words_scopes.specs.State.{Good, Becomes, binds, stack, bind_at, off, coff, value_of}
 use Rattle.words_scopes.proofs.Split as laws
 use Rattle.words.specs.declared.Run.{Run}
@@ -20,7 +19,7 @@ use Rattle.scope_values.specs.Steps.{over, put_at, run_value}
 use Rattle.words.specs.Layout.{run}
 use Rattle.words.proofs.Nodes.{run_length}
 use Rattle.scope_values.proofs.Count.{depth_is, nodes_b, total-append, length-binds, recorded-is, values-in}
-use Rattle.scope_values.proofs.Listed.{bind-there, change-at, becomes-then}
+use Rattle.scope_values.proofs.Listed.{bind-there, change-at}
 use Rattle.std.proofs.Common.{None}
 use Rattle.scope_redeclare.specs.Own.{Own, OwnAt}
 use Rattle.scope_define.specs.Declare.{put_declared, declare_with}

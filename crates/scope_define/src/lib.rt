@@ -15,9 +15,8 @@ use refusal::Refusal;
 use scope_redeclare::{own_binding, redeclare_as, redeclare_seen, rewrite};
 use scope_values::{passes, record_value, set_run};
 use words::{Run, layout};
-use words_scopes::{Record, append_record, find_binding, prevent_inline, record_at};
-
 pub use words_scopes::kinds::{VarDeclKind, VarType};
+use words_scopes::{Record, append_record, find_binding, prevent_inline, record_at};
 
 // What a declaration starts with: nothing, a value that is recorded, or one that is only seen.
 #[derive(Clone, Copy, Debug, PartialEq, Eq)]
@@ -57,7 +56,14 @@ pub fn define(w: &mut [u32], x: u8)
 {
     if let Some(k) = find_binding(w, x) {
         let r = record_at(w, k);
-        rewrite(w, k, Record { undefined: false, ..r });
+        rewrite(
+            w,
+            k,
+            Record {
+                undefined: false,
+                ..r
+            },
+        );
     }
 }
 

@@ -18,7 +18,7 @@ use Rattle.words_scopes.proofs.Grow.{some-head}
 use Rattle.scope_values.proofs.Count.{length-binds, depth_is}
 use Rattle.scope_values.proofs.Listed.{bind-there}
 use Rattle.std.specs.Bool.{then_some}
-use Rattle.std.proofs.Common.{leb, leb-true, leb-false, Some, None}
+use Rattle.std.proofs.Common.{leb, leb-true, leb-false, None}
 use Rattle.scope_redeclare.specs.Own.{Own, OwnAt}
 
 -- a binding put into the innermost scope

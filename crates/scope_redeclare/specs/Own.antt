@@ -1,5 +1,5 @@
 -- The innermost scope's own binding of an identifier. Assumes nothing: these are definitions.
-use Rattle.std.specs.Prelude.{◌≡◌, List, true, false, ℕ, suc, ◌+◌, ◌*◌, ◌<◌, get_or, Option, Some, None}
+use Rattle.std.specs.Prelude.{◌≡◌, List, false, ℕ, suc, ◌+◌, ◌*◌, ◌<◌, get_or, Option, Some, None}
 use Rattle.std.proofs.Math.Option.{some}
 use Rattle.def_pass.specs.Scope.{find_binding_from_current, is_some}
 use Rattle.words_scopes.specs.State.{stack, heads, binds, bind_at, place}

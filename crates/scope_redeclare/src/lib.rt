@@ -68,7 +68,13 @@ pub fn redeclare_seen(w: &mut [u32], k: usize, prevented: bool, undefined: bool)
 }
 
 // Binding k is declared again, with a run of the tree's nodes as its value, none if it is empty.
-pub fn redeclare_as(w: &mut [u32], k: usize, r: Run, prevented: bool, undefined: bool) -> Result<(), Refusal>
+pub fn redeclare_as(
+    w: &mut [u32],
+    k: usize,
+    r: Run,
+    prevented: bool,
+    undefined: bool,
+) -> Result<(), Refusal>
     requires { (Good w.old) × (k < get_or w.old 1 0) × (Offered w.old r) }
     ensures { Grown w.old w.new (put_at w.old k (redeclare prevented undefined (run_value w.old r) (bind_at w.old k))) result }
 {

@@ -1,5 +1,5 @@
 -- Binding by binding, the oldest first. Assumes nothing.
-use Rattle.std.proofs.Common.{◌≡◌, ◌-◌, ◌%◌, ◌≤◌, length, get_or}
+use Rattle.std.proofs.Common.{◌≡◌, ◌-◌, ◌%◌, ◌≤◌, get_or}
 use Rattle.words_scopes.specs.State.{stack, Past, Becomes}
 use Rattle.scope_child.specs.Hoist.{record_at, hoist_up, end_up}
 use Rattle.scope_child.proofs.hoist_all.Given as goal

@@ -1,5 +1,5 @@
 -- The counts, one by one. Assumes nothing.
-use Rattle.std.proofs.Common.{◌≡◌, ◌∙◌, arith}
+use Rattle.std.proofs.Common.{◌≡◌, arith}
 use Rattle.scope_child.proofs.Ends.{sum-none, sum_more}
 use Rattle.scope_child.proofs.sum_counts.Goals as goal
 

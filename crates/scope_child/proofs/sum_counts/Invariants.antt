@@ -1,5 +1,5 @@
 -- The counts, one by one. Assumes nothing.
-use Rattle.std.proofs.Common.{◌≡◌, ◌+◌, ◌-◌, ◌%◌, ◌≤◌}
+use Rattle.std.proofs.Common.{◌≡◌, ◌+◌, ◌-◌, ◌%◌}
 use Rattle.def_pass.specs.Scope.{counts_in}
 use Rattle.words.specs.Tab.{tab}
 use Rattle.words_scopes.specs.State.{bind_at}

@@ -2,9 +2,9 @@
 use Rattle.std.proofs.Common.{ℕ, ◌+◌, ◌-◌, ◌≡◌, refl, sym, ap, ◌∙◌, subst, arith, get_or, ◌||◌, ltb}
 use Rattle.std.proofs.Math.Option.{Option, none}
 use Rattle.def_tree.specs.Tree.{Tree}
-use Rattle.def_pass.specs.Scope.{Stack, VarInfo, fresh, append, recorded_nodes, live, with_value}
+use Rattle.def_pass.specs.Scope.{Stack, fresh, append, recorded_nodes, live, with_value}
 use Rattle.words_scopes.specs.Kinds.{type_of, alias_of}
-use Rattle.words_scopes.specs.State.{Becomes, recorded, bind_at, stack}
+use Rattle.words_scopes.specs.State.{Becomes, bind_at, stack}
 use Rattle.scope_values.specs.Steps.{put_at, run_value}
 use Rattle.scope_values.proofs.Listed as listed
 use Rattle.scope_values.proofs.Count as count

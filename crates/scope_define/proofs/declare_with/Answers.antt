@@ -1,5 +1,5 @@
 -- The first half, and then the marks. Assumes nothing.
-use Rattle.std.proofs.Common.{◌≡◌, ◌∙◌, refl}
+use Rattle.std.proofs.Common.{◌∙◌}
 use Rattle.std.proofs.lemmas.Result.{err_from_is_err_and}
 use Rattle.def_tree.specs.Base.{pick}
 use Rattle.def_pass.specs.Scope.{kept, prevent_inline}
@@ -36,7 +36,7 @@ returns-in-Some c =
     let st = put_declared a.x (kept (init_at a.v (run a.w.now 16 a.r.at a.r.len))) d.prevented d.undefined (type_of d.kind) (alias_of d.alias) (stack a.w.now) in
     let g = rw (declares.same-declared a.w.now a.r a.v c.requires.2 a.x d.prevented d.undefined (type_of d.kind) (alias_of d.alias) (stack a.w.now)) at c.in_ok-put_declared.ensures in
     let one : Becomes a.w.now c.if-d.w (pick d.looped (prevent_inline a.x st) st) =
-        elim c.if-d.branch [ then-d v ↦ rw (v.w-is, v.if-d.true) (becomes-next (prevent_inline a.x) g.0 v.prevent_inline.ensures) | else-d v ↦ rw (v.w-is, v.if-d.false) g.0 ] in
+    elim c.if-d.branch [ then-d v ↦ rw (v.w-is, v.if-d.true) (becomes-next (prevent_inline a.x) g.0 v.prevent_inline.ensures) | else-d v ↦ rw (v.w-is, v.if-d.false) g.0 ] in
     rw c.in-Some.is (done-under (becomes-next (prevent_inline c.in-Some.y) (becomes-next (prevent_inline a.x) one c.prevent_inline-in-Some.ensures) c.prevent_inline-in-Some-2.ensures))
 
 pub returns-in_default : goal.returns-in_default
@@ -46,5 +46,5 @@ returns-in_default c =
     let st = put_declared a.x (kept (init_at a.v (run a.w.now 16 a.r.at a.r.len))) d.prevented d.undefined (type_of d.kind) (alias_of d.alias) (stack a.w.now) in
     let g = rw (declares.same-declared a.w.now a.r a.v c.requires.2 a.x d.prevented d.undefined (type_of d.kind) (alias_of d.alias) (stack a.w.now)) at c.in_ok-put_declared.ensures in
     let one : Becomes a.w.now c.if-d.w (pick d.looped (prevent_inline a.x st) st) =
-        elim c.if-d.branch [ then-d v ↦ rw (v.w-is, v.if-d.true) (becomes-next (prevent_inline a.x) g.0 v.prevent_inline.ensures) | else-d v ↦ rw (v.w-is, v.if-d.false) g.0 ] in
+    elim c.if-d.branch [ then-d v ↦ rw (v.w-is, v.if-d.true) (becomes-next (prevent_inline a.x) g.0 v.prevent_inline.ensures) | else-d v ↦ rw (v.w-is, v.if-d.false) g.0 ] in
     rw c.in_default.is (done-under one)
