@@ -55,15 +55,11 @@ pub fn define(w: &mut [u32], x: u8)
     ensures { Becomes w.old w.new (change x defined (stack w.old)) }
 {
     if let Some(k) = find_binding(w, x) {
-        let r = record_at(w, k);
-        rewrite(
-            w,
-            k,
-            Record {
-                undefined: false,
-                ..r
-            },
-        );
+        let defined = Record {
+            undefined: false,
+            ..record_at(w, k)
+        };
+        rewrite(w, k, defined);
     }
 }
 

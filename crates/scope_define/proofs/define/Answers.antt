@@ -10,7 +10,7 @@ pub returns-in-Some : goal.returns-in-Some
 returns-in-Some c =
     let w = c.args.w.now in
     let k = c.in-Some.k in
-    let t = c.record_at-r.ensures in
+    let t = c.record_at.ensures in
     let l = rw (t.kind, t.alias, t.reads, t.prevented, t.this_sensitive, t.hoisted) at c.rewrite.ensures.0 in
     listed.listed-becomes (change c.args.x defined (stack w)) (listed.change-at w k c.in-Some.ensures.bound c.args.x defined (sym c.in-Some.ensures.place)) l
 
