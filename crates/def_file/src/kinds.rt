@@ -220,10 +220,8 @@ fn case_row(f: usize) -> Row
 fn new_row(f: usize) -> Row
     ensures { result ≡ new_row f }
 {
-    if f == 1 {
-        return every(1, 1, ANY, Class::Expression);
-    }
-    every(1, 1, 1, Class::Expression)
+    let most = if f == 1 { ANY } else { 1 };
+    every(1, 1, most, Class::Expression)
 }
 
 // 39: form 1 has a name.

@@ -26,8 +26,7 @@ impl Child {
         ensures { result ≡ behind self }
     {
         match self {
-            Child::Binding(j) => j,
-            Child::Other(j) => j,
+            Child::Binding(j) | Child::Other(j) => j,
         }
     }
 }
