@@ -19,7 +19,10 @@ use Rattle.def_file.specs.Read.{Read, bad, script, read}
 use Rattle.def_file.specs.Write.{file}
 use Rattle.laws_roundtrip.specs.Fits.{Bytes}
 use Rattle.file_read.specs.Idents.{Listed}
-use Rattle.file_write.specs.declared.Written.{Written}
+use Rattle.std.specs.Prelude.{Result, Ok, Err}
+use Rattle.refusal.specs.declared.Refusal.{Refusal}
+use Rattle.refusal.specs.declared.Refusal.TheVariants.{Call}
+use Rattle.refusal.specs.Number.{number}
 use Rattle.file_write.specs.Written.{Answer as Said, refused as no_room, wrote, says, in_room, written as writes, left as leaves, result_bytes, Wrote}
 use Rattle.file_write.proofs.Tied.{wrote-file}
 use Rattle.def_pass.specs.Script.{root_of}
@@ -36,7 +39,7 @@ use Rattle.pass_run.specs.declared.Ran.{Ran}
 use Rattle.pass_answers.specs.declared.Inlined.{Inlined}
 use Rattle.pass_run.specs.Run.{outcome}
 use Rattle.pass_run.specs.Inline.{read_runs, Final, FileIs}
-use Rattle.pass_answers.specs.Entry.{enough, numbers, left, InlineIs}
+use Rattle.pass_answers.specs.Entry.{enough, numbers, inlined, left, InlineIs}
 use Rattle.pass_run.proofs.Files.{node-count}
 
 -- the test of row 1, and what passed it
@@ -65,7 +68,7 @@ entry-by n words bs room p e = sym (entry-same n words bs room) ∙ ap {B = Entr
 inline-is : {bs r r' w w' : List ℕ} {c : Inlined} (n : ℕ) (p : Bool) (z : Entry) → enough n (length w) ≡ p → entry n (length w) bs (length r) ≡ z → c ≡ numbers z → r' ≡ left r z → WordsAre w w' p → InlineIs bs r r' w w' n c
 inline-is {bs} {r} {r'} {w} {w'} n p z q e a l h = record { answer = a ∙ ap numbers (sym e); result = l ∙ ap (left r) (sym e); words = subst (WordsAre w w') (sym q) h }
 
-pub first-row : {bs r w : List ℕ} (n : ℕ) → enough n (length w) ≡ false → InlineIs bs r r w w n (record { refused = 1; length = 0; runs = 0; changed = 0 })
+pub first-row : {bs r w : List ℕ} (n : ℕ) → enough n (length w) ≡ false → InlineIs bs r r w w n (inlined (Err Call))
 first-row {bs} {r} {w} n e = inline-is n false (refused 1) e (entry-by n (length w) bs (length r) false e) refl refl refl
 
 -- rows 2 to 9
@@ -77,10 +80,10 @@ no-entry n room m (bad k) e = ap {B = Entry} (λ (i : ℕ). refused i) (sym (num
     number m k e = cc
 no-entry n room m (script s) e = ap (λ (x : OutcomeF). written room s (answer_f s x)) (sym e)
 
-pub middle-row : {bs r w u : List ℕ} {x : Ran} (n m : ℕ) → enough n (length w) ≡ true → FileIs bs w u n x → x ≡ Ran.Refused m → InlineIs bs r r w u n (record { refused = m; length = 0; runs = 0; changed = 0 })
+pub middle-row : {bs r w u : List ℕ} {x : Result Ran Refusal} (n : ℕ) (m : Refusal) → enough n (length w) ≡ true → FileIs bs w u n x → x ≡ Err m → InlineIs bs r r w u n (inlined (Err m))
 middle-row {bs} {r} {w} {u} {x} n m e F q =
-    let G : FileIs bs w u n (Ran.Refused m) = subst (FileIs bs w u n) q F in
-    inline-is n true (refused m) e (entry-by n (length w) bs (length r) true e ∙ no-entry n (length r) m (read bs) G.is) refl refl G.words
+    let G : FileIs bs w u n (Err m) = subst (FileIs bs w u n) q F in
+    inline-is n true (refused (number m)) e (entry-by n (length w) bs (length r) true e ∙ no-entry n (length r) (number m) (read bs) G.is) refl refl G.words
 
 -- a result
 map-raw : (s : Script) (cs : List Core) → map (λ (x : Out). x.raw) (map (back s) cs) ≡ map (λ (c : Core). (back s c).raw) cs
@@ -93,33 +96,33 @@ some-node {w} p =
     omega (arith, count-some t, length-flat t [], ap (λ (xs : List Core). length xs) p.one.is, tree-length w)
 
 -- the answer's numbers, by what writing answered
-abbrev answered : ℕ → Bool → Said → Inlined
-answered k c (wrote n) = record { refused = 0; length = n; runs = k; changed = to_nat c }
-answered k c (no_room m) = record { refused = m; length = 0; runs = 0; changed = 0 }
+abbrev answered : Ran → Said → Inlined
+answered a (wrote n) = record { refused = 0; length = n; runs = a.runs; changed = to_nat a.changed }
+answered a (no_room m) = record { refused = m; length = 0; runs = 0; changed = 0 }
 
 module _ {bs w u : List ℕ} (F : Final bs w u) where
   -- the definition's bytes
   abbrev out : List ℕ
   out = file (record { nodes = map (λ (x : Out). x.raw) (map (back F.script) (tree u)); texts = F.script.texts })
 
-  abbrev ended : ℕ → Bool → ℕ → Entry
-  ended k c room = elim (leb (length out) room) [ true ↦ passed (length out) k c out (map (root_of F.script) (root_marks (stack u))) | false ↦ refused 10 ]
+  abbrev ended : Ran → ℕ → Entry
+  ended a room = elim (leb (length out) room) [ true ↦ passed (length out) a.runs a.changed out (map (root_of F.script) (root_marks (stack u))) | false ↦ refused 10 ]
 
-  some-entry : (n room k : ℕ) (c : Bool) → outcome (Ran.Done k c) u ≡ read_runs n (read bs) → entry_read_f n room (read bs) ≡ ended k c room
+  some-entry : (n room : ℕ) (a : Ran) → outcome (Ok a) u ≡ read_runs n (read bs) → entry_read_f n room (read bs) ≡ ended a room
   unfolding pass_f
-  some-entry n room k c e =
+  some-entry n room a e =
       ap (entry_read_f n room) F.is
       ∙ ap (λ (x : OutcomeF). written room F.script (answer_f F.script x)) (sym (e ∙ ap (read_runs n) F.is))
 
-  module _ (y : Bytes bs) {r r' : List ℕ} {x : Written} (O : Wrote (result_bytes bs u) r r' (writes bs u (length r)) x) where
+  module _ (y : Bytes bs) {r r' : List ℕ} {x : Result ℕ Refusal} (O : Wrote (result_bytes bs u) r r' (writes bs u (length r)) x) where
     wrote-out : Wrote out r r' (in_room (length out) (length r)) x
     wrote-out =
         subst (λ (xs : List Raw). let o = file (record { nodes = xs; texts = F.script.texts }) in Wrote o r r' (in_room (length o) (length r)) x) (sym (map-raw F.script (tree u)))
         (wrote-file bs u F.script F.is (subst (λ (m : ℕ). Listed u m) (node-count bs F.script F.is) F.listed) F.ids y F.listed.long
         (some-node F.planted) F.planted.good.nodes r r' x O)
 
-    module _ {w' : List ℕ} (C : Cleared u w') (n k : ℕ) (c : Bool) (e : enough n (length w) ≡ true) (is : outcome (Ran.Done k c) u ≡ read_runs n (read bs)) where
-      last_row : (z : Written) → x ≡ z → InlineIs bs r r' w w' n (answered k c (says z))
+    module _ {w' : List ℕ} (C : Cleared u w') (n : ℕ) (a : Ran) (e : enough n (length w) ≡ true) (is : outcome (Ok a) u ≡ read_runs n (read bs)) where
+      last_row : (z : Result ℕ Refusal) → x ≡ z → InlineIs bs r r' w w' n (answered a (says z))
       last_row z q = go (leb (length out) (length r)) refl
         where
           cleared : Cleared w w'
@@ -128,21 +131,21 @@ module _ {bs w u : List ℕ} (F : Final bs w u) where
           said : says z ≡ in_room (length out) (length r)
           said = ap says (sym q) ∙ wrote-out.is
 
-          go : (p : Bool) → leb (length out) (length r) ≡ p → InlineIs bs r r' w w' n (answered k c (says z))
+          go : (p : Bool) → leb (length out) (length r) ≡ p → InlineIs bs r r' w w' n (answered a (says z))
           go p h =
               inline-is n true (by p) e
-              (entry-by n (length w) bs (length r) true e ∙ some-entry n (length r) k c is ∙ ap by h)
-              (ap (answered k c) (said ∙ ap room h) ∙ numbers-by p)
+              (entry-by n (length w) bs (length r) true e ∙ some-entry n (length r) a is ∙ ap by h)
+              (ap (answered a) (said ∙ ap room h) ∙ numbers-by p)
               (wrote-out.leaves ∙ ap (λ (b : Bool). leaves out r (room b)) h ∙ left_by p)
               cleared
             where
               by : Bool → Entry
-              by b = elim b [ true ↦ passed (length out) k c out (map (root_of F.script) (root_marks (stack u))) | false ↦ refused 10 ]
+              by b = elim b [ true ↦ passed (length out) a.runs a.changed out (map (root_of F.script) (root_marks (stack u))) | false ↦ refused 10 ]
 
               room : Bool → Said
               room b = elim b [ false ↦ no_room 10 | true ↦ wrote (length out) ]
 
-              numbers-by : (b : Bool) → answered k c (room b) ≡ numbers (by b)
+              numbers-by : (b : Bool) → answered a (room b) ≡ numbers (by b)
               numbers-by true = refl
               numbers-by false = refl
 
@@ -151,16 +154,16 @@ module _ {bs w u : List ℕ} (F : Final bs w u) where
               left_by false = refl
 
 -- from the file on
-module _ {bs w u : List ℕ} {a : Ran} {n k : ℕ} {c : Bool} (f : FileIs bs w u n a) (q : a ≡ Ran.Done k c) where
-  ran : FileIs bs w u n (Ran.Done k c)
+module _ {bs w u : List ℕ} {x : Result Ran Refusal} {n : ℕ} {a : Ran} (f : FileIs bs w u n x) (q : x ≡ Ok a) where
+  ran : FileIs bs w u n (Ok a)
   ran = subst (FileIs bs w u n) q f
 
   pub final : Final bs w u
   final = ran.words
 
-  pub wrote-row : (y : Bytes bs) {r r' w' : List ℕ} {x : Written} (O : Wrote (result_bytes bs u) r r' (writes bs u (length r)) x) → Cleared u w' → enough n (length w) ≡ true → (z : Written) → x ≡ z → InlineIs bs r r' w w' n (answered k c (says z))
-  wrote-row y O C e z h = last_row final y O C n k c e ran.is z h
+  module _ (y : Bytes bs) {r r' w' : List ℕ} {z : Result ℕ Refusal} (O : Wrote (result_bytes bs u) r r' (writes bs u (length r)) z) (C : Cleared u w') (e : enough n (length w) ≡ true) where
+    pub wrote-row : (l : ℕ) → z ≡ Ok l → InlineIs bs r r' w w' n (inlined (Ok (record { length = l; runs = a.runs; changed = a.changed })))
+    wrote-row l h = last_row final y O C n a e ran.is (Ok l) h
 
--- the mark as a number
-pub marked : {bs r r' w w' : List ℕ} {n l k m x : ℕ} → m ≡ x → InlineIs bs r r' w w' n (record { refused = 0; length = l; runs = k; changed = x }) → InlineIs bs r r' w w' n (record { refused = 0; length = l; runs = k; changed = m })
-marked {bs} {r} {r'} {w} {w'} {n} {l} {k} e h = subst (λ (i : ℕ). InlineIs bs r r' w w' n (record { refused = 0; length = l; runs = k; changed = i })) (sym e) h
+    pub short-row : (m : Refusal) → z ≡ Err m → InlineIs bs r r' w w' n (inlined (Err m))
+    short-row m h = last_row final y O C n a e ran.is (Err m) h

@@ -11,7 +11,10 @@ use Rattle.words.specs.Moved.{Cleared}
 use Rattle.def_file.specs.declared.Raw.{Raw}
 use Rattle.def_file.specs.Script.{zero_node}
 use Rattle.def_file.specs.Read.{Read, bad, script, read}
-use Rattle.file_write.specs.declared.Written.{Written}
+use Rattle.std.specs.Prelude.{Result, Ok, Err, Option as Maybe, Some, None}
+use Rattle.refusal.specs.declared.Refusal.{Refusal}
+use Rattle.refusal.specs.declared.Refusal.TheVariants.{Call}
+use Rattle.refusal.specs.Number.{number}
 use Rattle.def_pass.specs.Script.{Root, Answer, root_of, pass_file}
 use Rattle.def_pass.specs.Walk.{Rooted, root_marks}
 use Rattle.laws_flat.specs.WalkF.{OutcomeF, refused_f}
@@ -24,10 +27,10 @@ use Rattle.pass_answers.specs.declared.Roots.{Roots}
 use Rattle.pass_run.specs.Inline.{read_runs, Final, FileIs}
 use Rattle.pass_answers.specs.Entry.{enough}
 use Rattle.pass_roots.specs.Listing.{Known, roots_in, Listing, refused, listed, in_room, left, SaysSo, WroteRoots}
-use Rattle.pass_roots.specs.declared.RootAt.{RootAt}
+use Rattle.pass_roots.specs.declared.Root.{Root as Binding}
 use Rattle.pass_roots.specs.Nth.{nth, nth_is}
 use Rattle.pass_answers.specs.declared.RootBinding.{RootBinding}
-use Rattle.pass_answers.specs.Roots.{said, over_roots, listing, numbers, RootsIs, NthRoot, stopped, given, nth_root, nth_numbers, RootIs}
+use Rattle.pass_answers.specs.Roots.{said, over_roots, listing, numbers, counted, RootsIs, NthRoot, stopped, given, nth_root, nth_numbers, bound, RootIs}
 use Rattle.pass_run.proofs.Files.{is_found, node-count}
 
 -- what is said of the root bindings: how it ends, by row 1, and by rows 2 to 9
@@ -49,68 +52,54 @@ module _ {Z : Type 0} (stop : ℕ → Z) (of : List Root → Z) where
   pub row_one : (n words : ℕ) (bs : List ℕ) → enough n words ≡ false → over_roots stop of n words bs ≡ stop 1
   row_one n words bs e = over_by n words bs false e
 
-  pub row-middle : {bs w u : List ℕ} (n m : ℕ) → enough n (length w) ≡ true → FileIs bs w u n (Ran.Refused m) → over_roots stop of n (length w) bs ≡ stop m
-  row-middle {bs} {w} n m e G = over_by n (length w) bs true e ∙ none_said n m (read bs) G.is
+  pub row-middle : {bs w u : List ℕ} (n : ℕ) (m : Refusal) → enough n (length w) ≡ true → FileIs bs w u n (Err m) → over_roots stop of n (length w) bs ≡ stop (number m)
+  row-middle {bs} {w} n m e G = over_by n (length w) bs true e ∙ none_said n (number m) (read bs) G.is
 
 roots-is : {bs r r' w w' : List ℕ} {c : Roots} (n : ℕ) (p : Bool) (z : Listing) → enough n (length w) ≡ p → listing n (length w) bs (length r) ≡ z → c ≡ numbers z → r' ≡ left r z → WordsAre w w' p → RootsIs bs r r' w w' n c
 roots-is {bs} {r} {r'} {w} {w'} n p z q e a l h = record { answer = a ∙ ap numbers (sym e); roots = l ∙ ap (left r) (sym e); words = subst (WordsAre w w') (sym q) h }
 
-pub first-row : {bs r w : List ℕ} (n : ℕ) → enough n (length w) ≡ false → RootsIs bs r r w w n (record { refused = 1; count = 0 })
+pub first-row : {bs r w : List ℕ} (n : ℕ) → enough n (length w) ≡ false → RootsIs bs r r w w n (counted (Err Call))
 first-row {bs} {r} {w} n e = roots-is n false (refused 1) e (row_one refused (in_room (length r)) n (length w) bs e) refl refl refl
 
 -- rows 2 to 9
-pub middle-row : {bs r w u : List ℕ} {x : Ran} (n m : ℕ) → enough n (length w) ≡ true → FileIs bs w u n x → x ≡ Ran.Refused m → RootsIs bs r r w u n (record { refused = m; count = 0 })
+pub middle-row : {bs r w u : List ℕ} {x : Result Ran Refusal} (n : ℕ) (m : Refusal) → enough n (length w) ≡ true → FileIs bs w u n x → x ≡ Err m → RootsIs bs r r w u n (counted (Err m))
 middle-row {bs} {r} {w} {u} {x} n m e F q =
-    let G : FileIs bs w u n (Ran.Refused m) = subst (FileIs bs w u n) q F in
-    roots-is n true (refused m) e (row-middle refused (in_room (length r)) n m e G) refl refl G.words
+    let G : FileIs bs w u n (Err m) = subst (FileIs bs w u n) q F in
+    roots-is n true (refused (number m)) e (row-middle refused (in_room (length r)) n m e G) refl refl G.words
 
 -- the identifiers are those of the file's nodes
 pub known : {bs w u : List ℕ} → Final bs w u → Known bs u
 known {bs} F = record { nodes = length F.script.nodes; listed = F.listed; room = omega (arith, node-count bs F.script F.is, (is_found bs F.script F.is).head.long) }
 
 -- the answer's numbers, by what writing answered
-abbrev wrote : Written → Roots
-wrote (Written.Done n) = record { refused = 0; count = n }
-wrote (Written.Refused m) = record { refused = m; count = 0 }
-
-says_so : (z : Written) (x : Listing) → SaysSo z x → wrote z ≡ numbers x
-says_so (Written.Done n) (refused m) h = absurd h
-says_so (Written.Done n) (listed rs) h = same 0 n (length rs) h
-  where
-    same : (m i j : ℕ) → i ≡ j → ◌≡◌ {A = Roots} (record { refused = m; count = i }) (record { refused = m; count = j })
-    same m i j e = cc
-says_so (Written.Refused k) (refused m) h = same k m h
-  where
-    same : (i j : ℕ) → i ≡ j → ◌≡◌ {A = Roots} (record { refused = i; count = 0 }) (record { refused = j; count = 0 })
-    same i j e = cc
-says_so (Written.Refused k) (listed rs) h = absurd h
+says_so : (z : Result ℕ Refusal) (x : Listing) → SaysSo z x → counted z ≡ numbers x
+says_so (Ok n) (refused m) h = absurd h
+says_so (Ok n) (listed rs) h = cc
+says_so (Err k) (refused m) h = cc
+says_so (Err k) (listed rs) h = absurd h
 
 -- the binding of a number: the answer's numbers, and the rows
-abbrev pub tells : RootAt → RootBinding
-tells (RootAt.Found text context prevented count) = record { refused = 0; found = 1; context = context; text = text; prevented = to_nat prevented; count = count }
-tells RootAt.Nothing = record { refused = 0; found = 0; context = 0; text = 0; prevented = 0; count = 0 }
-
-tells-so : (r : Option Root) → tells (nth_is r) ≡ nth_numbers (given r)
+tells-so : (r : Option Root) → bound (Ok (nth_is r)) ≡ nth_numbers (given r)
 tells-so none = refl
 tells-so (some r) = refl
 
 root_is : {bs w w' : List ℕ} {c : RootBinding} (n i : ℕ) (p : Bool) (z : NthRoot) → enough n (length w) ≡ p → nth_root n (length w) bs i ≡ z → c ≡ nth_numbers z → WordsAre w w' p → RootIs bs w w' n i c
 root_is {bs} {w} {w'} n i p z q e a h = record { answer = a ∙ ap nth_numbers (sym e); words = subst (WordsAre w w') (sym q) h }
 
-pub nth-first : {bs w : List ℕ} (n i : ℕ) → enough n (length w) ≡ false → RootIs bs w w n i (record { refused = 1; found = 0; context = 0; text = 0; prevented = 0; count = 0 })
+pub nth-first : {bs w : List ℕ} (n i : ℕ) → enough n (length w) ≡ false → RootIs bs w w n i (bound (Err Call))
 nth-first {bs} {w} n i e = root_is n i false (stopped 1) e (row_one stopped (λ rs. given (nth i rs)) n (length w) bs e) refl refl
 
-pub nth-middle : {bs w u : List ℕ} {x : Ran} (n i m : ℕ) → enough n (length w) ≡ true → FileIs bs w u n x → x ≡ Ran.Refused m → RootIs bs w u n i (record { refused = m; found = 0; context = 0; text = 0; prevented = 0; count = 0 })
+pub nth-middle : {bs w u : List ℕ} {x : Result Ran Refusal} (n i : ℕ) (m : Refusal) → enough n (length w) ≡ true → FileIs bs w u n x → x ≡ Err m → RootIs bs w u n i (bound (Err m))
 nth-middle {bs} {w} {u} {x} n i m e F q =
-    let G : FileIs bs w u n (Ran.Refused m) = subst (FileIs bs w u n) q F in
-    root_is n i true (stopped m) e (row-middle stopped (λ rs. given (nth i rs)) n m e G) refl G.words
+    let G : FileIs bs w u n (Err m) = subst (FileIs bs w u n) q F in
+    root_is n i true (stopped (number m)) e (row-middle stopped (λ rs. given (nth i rs)) n m e G) refl G.words
 
 -- all bindings, or row 10
 abbrev as_root : Raw → Bool → ℕ → Root
 as_root x b n = record { key = x; mark = b; count = n }
 
-module _ {bs w u : List ℕ} {a : Ran} {n k : ℕ} {c : Bool} (f : FileIs bs w u n a) (q : a ≡ Ran.Done k c) where
-  ran : FileIs bs w u n (Ran.Done k c)
+module _ {bs w u : List ℕ} {x : Result Ran Refusal} {n : ℕ} {a : Ran} (f : FileIs bs w u n x) (q : x ≡ Ok a) where
+  ran : FileIs bs w u n (Ok a)
   ran = subst (FileIs bs w u n) q f
 
   same-roots : roots_in bs u ≡ map (root_of ran.words.script) (root_marks (stack u))
@@ -128,19 +117,15 @@ module _ {bs w u : List ℕ} {a : Ran} {n k : ℕ} {c : Bool} (f : FileIs bs w u
   pub words_are : {w' : List ℕ} → Cleared u w' → WordsAre w w' true
   words_are C = record { size = C.size ∙ ran.words.kept.size; here = C.here; rest = C.rest ∙ ran.words.kept.rest }
 
-  pub last_row : {r r' w' : List ℕ} {x : Written} → WroteRoots r r' (in_room (length r) (roots_in bs u)) x → Cleared u w' → enough n (length w) ≡ true → (z : Written) → x ≡ z → RootsIs bs r r' w w' n (wrote z)
-  last_row {r} {r'} {w'} {x} O C e z h =
+  pub last_row : {r r' w' : List ℕ} {z : Result ℕ Refusal} → WroteRoots r r' (in_room (length r) (roots_in bs u)) z → Cleared u w' → enough n (length w) ≡ true → RootsIs bs r r' w w' n (counted z)
+  last_row {r} {r'} {w'} {z} O C e =
       roots-is n true (in_room (length r) (roots_in bs u)) e
       (row_last refused (in_room (length r)) e)
-      (ap wrote (sym h) ∙ says_so x (in_room (length r) (roots_in bs u)) O.says)
+      (says_so z (in_room (length r) (roots_in bs u)) O.says)
       O.leaves
       (words_are C)
 
   -- the binding of a number
-  pub nth-row : {w' : List ℕ} {x : RootAt} (i : ℕ) → x ≡ nth_is (nth i (roots_in bs u)) → Cleared u w' → enough n (length w) ≡ true → (z : RootAt) → x ≡ z → RootIs bs w w' n i (tells z)
-  nth-row {w'} {x} i O C e z h =
-      root_is n i true (given (nth i (roots_in bs u))) e (row_last stopped (λ rs. given (nth i rs)) e) (ap tells (sym h ∙ O) ∙ tells-so (nth i (roots_in bs u))) (words_are C)
-
-  -- with the mark as a number
-  pub nth-found : {w' : List ℕ} {x : RootAt} {text context m t : ℕ} {p : Bool} (i : ℕ) → x ≡ nth_is (nth i (roots_in bs u)) → Cleared u w' → enough n (length w) ≡ true → x ≡ RootAt.Found text context p t → m ≡ to_nat p → RootIs bs w w' n i (record { refused = 0; found = 1; context = context; text = text; prevented = m; count = t })
-  nth-found {w'} {x} {text} {context} {m} {t} {p} i O C e h q = subst (λ (v : ℕ). RootIs bs w w' n i (record { refused = 0; found = 1; context = context; text = text; prevented = v; count = t })) (sym q) (nth-row i O C e (RootAt.Found text context p t) h)
+  pub nth-row : {w' : List ℕ} {z : Maybe Binding} (i : ℕ) → z ≡ nth_is (nth i (roots_in bs u)) → Cleared u w' → enough n (length w) ≡ true → RootIs bs w w' n i (bound (Ok z))
+  nth-row i O C e =
+      root_is n i true (given (nth i (roots_in bs u))) e (row_last stopped (λ rs. given (nth i rs)) e) (ap (λ (o : Maybe Binding). bound (Ok o)) O ∙ tells-so (nth i (roots_in bs u))) (words_are C)

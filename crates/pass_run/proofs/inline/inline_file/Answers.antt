@@ -1,4 +1,5 @@
 -- A file is read, or not; then the runs. Assumes nothing.
+use Rattle.std.proofs.Common.{sym, ◌∙◌}
 use Rattle.std.proofs.lemmas.Result.{err_from_is_err_and}
 use Rattle.file_copy.proofs.Ends.{was_read}
 use Rattle.pass_run.proofs.Files as files
@@ -13,8 +14,11 @@ runs-ran-requires c = c.start.ensures.planted
 pub clear-requires : goal.clear-requires
 clear-requires c = c.runs-ran.ensures.ok.planted.good.long
 
-pub returns : goal.returns
-returns c = ?
+pub returns-then-is_err : goal.returns-then-is_err
+returns-then-is_err c = files.stopped c.args.limit (was_read _ c.read.ensures c.in_ok-read.was) c.start.ensures c.runs-ran.ensures (sym c.is_err.ensures.value ∙ c.if-is_err.true) c.clear.ensures
+
+pub returns-else-is_err : goal.returns-else-is_err
+returns-else-is_err c = files.ran c.args.limit (was_read _ c.read.ensures c.in_ok-read.was) c.start.ensures c.runs-ran.ensures (sym c.is_err.ensures.value ∙ c.if-is_err.false)
 
 pub returns-in_err-read : goal.returns-in_err-read
 returns-in_err-read c =
