@@ -16,7 +16,10 @@ use Rattle.def_tree.specs.Tree.{Tree}
 use Rattle.def_pass.specs.Scope.{VarInfo, Scope, Stack, is_fn, is_param, change, defined, sensitive_now, prevent, one_more, read_once, prevent_param, prevent_inline_of_params, on_bindings}
 use Rattle.words.specs.Tab.{tab, tab-ext, length-tab, get_d-tab, same_or_not, below_or_not}
 use Rattle.words.specs.Layout.{yes}
-use Rattle.words_scopes.specs.Kinds.{var_type_of, alias_at}
+use Rattle.words_scopes.specs.declared.kinds.VarDeclKind.TheVariants.{Var, Let, Const}
+use Rattle.words_scopes.specs.declared.kinds.VarType.{VarType as Kind}
+use Rattle.words_scopes.specs.declared.kinds.VarType.TheVariants.{Param, Declared}
+use Rattle.words_scopes.specs.Kinds.{type_of, var_type_of, alias_at}
 use Rattle.words_scopes.specs.State.{value_of, bind_at, Head, head_at, heads_at, heads, flags, binds, consts, split, scope_of, stack, Good, Becomes, Fits, place}
 use Rattle.words_scopes.proofs.Split as laws
 use Rattle.words_scopes.proofs.Words as words
@@ -160,11 +163,11 @@ param-yes b e = rw e refl
 param-no : (b : VarInfo) → is_param b.kind ≡ false → b ≡ prevent_param b
 param-no b e = rw e refl
 
-pub type-other : (n : ℕ) → (n ≡ 0 → ⊥) → is_param (var_type_of n) ≡ false
-type-other zero h = absurd (h refl)
-type-other (suc zero) h = refl
-type-other (suc (suc zero)) h = refl
-type-other (suc (suc (suc n))) h = refl
+pub type-other : (t : Kind) → (t ≡ Param → ⊥) → is_param (type_of t) ≡ false
+type-other Param h = absurd (h refl)
+type-other (Declared Var) h = refl
+type-other (Declared Let) h = refl
+type-other (Declared Const) h = refl
 
 abbrev pub swept_at : ℕ → ℕ → VarInfo → VarInfo
 swept_at lo j b = pick (ltb j lo) b (prevent_param b)

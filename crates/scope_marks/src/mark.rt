@@ -6,10 +6,10 @@ ghost use Rattle.words_scopes.specs.State.{Good, Becomes, stack, heads, flags, b
 ghost use Rattle.scope_find.specs.Look.{HasScope, fn_start, params_from};
 ghost use Rattle.scope_find.specs.Touched.{BarStored};
 
-use scope_find::{first_of, scope_kind};
+use scope_find::{first_of, scope_kind, var_type};
 use words::{layout, set_flag};
 use words_scopes::find_binding;
-use words_scopes::kinds::ScopeKind;
+use words_scopes::kinds::{ScopeKind, VarType};
 
 // What `this` is matters to the innermost binding of x.
 pub fn mark_this_sensitive(w: &mut [u32], x: u8)
@@ -79,7 +79,7 @@ fn prevent_params(w: &mut [u32], lo: usize)
     ensures { Becomes w.old w.new (split (heads w.old) (flags w.old) (params_from lo (binds w.old)) (consts w.old)) }
 {
     for k in lo..w[layout::BINDING_COUNT] as usize {
-        if w[layout::BINDINGS + k * 10 + layout::KIND] == 0 {
+        if var_type(w, k) == VarType::Param {
             w[layout::BINDINGS + k * 10 + layout::PREVENTED] = 1;
         }
     }

@@ -1,13 +1,19 @@
 -- The sweep over the bindings from lo on. Assumes nothing.
-use Rattle.std.proofs.Common.{◌≡◌, ℕ, ◌+◌, ◌*◌, ◌≤◌, ◌<◌, get_or, ap, arith}
+use Rattle.std.proofs.Common.{◌≡◌, ℕ, ◌+◌, ◌*◌, ◌≤◌, ◌<◌, get_or, sym, ap, ◌∙◌, arith, rules}
 use Rattle.def_pass.specs.Scope.{is_param}
-use Rattle.words_scopes.specs.Kinds.{var_type_of}
+use Rattle.words_scopes.specs.declared.kinds.VarType.TheVariants.{Param}
+use Rattle.words_scopes.specs.Kinds.{type_of}
 use Rattle.scope_marks.proofs.Fields as fields
 use Rattle.scope_marks.proofs.mark.prevent_params.Goals as goal
-use Rattle.scope_marks.proofs.mark.prevent_params.Goals.{then-w-k-eq0, else-w-k-eq0}
+use Rattle.scope_marks.proofs.mark.prevent_params.Goals.{then-eq, else-eq}
 
 pub loop-k-init : goal.loop-k-init
 loop-k-init c = fields.swept_none c.args.w.now c.args.lo
+
+pub var_type-requires : goal.var_type-requires
+var_type-requires c =
+    let n : get_or c.loop-k.w 1 0 ≡ get_or c.args.w.now 1 0 = c.loop-k.invariant.kept.counts 1 (omega arith) (omega arith) in
+    (fields.swept-good c.requires.0 c.loop-k.invariant (omega arith) (omega arith), omega arith)
 
 pub loop-k-preserved : goal.loop-k-preserved
 loop-k-preserved c =
@@ -16,9 +22,9 @@ loop-k-preserved c =
     let s = c.loop-k.invariant in
     let h : k < get_or w₀ 1 0 = omega arith in
     let o : c.args.lo ≤ k = omega arith in
-    elim c.if-w-k-eq0.branch [
-      | then-w-k-eq0 t ↦ rw t.w-is (fields.swept-hit c.requires.0 s o h (ap (λ (n : ℕ). is_param (var_type_of n)) t.if-w-k-eq0.true))
-      | else-w-k-eq0 t ↦ rw t.w-is (fields.swept-miss c.requires.0 s o h (fields.type-other (get_or c.loop-k.w (4112 + k * 10 + 1) 0) t.if-w-k-eq0.false))
+    elim c.if-eq.branch [
+      | then-eq t ↦ let e : c.var_type.result ≡ Param = search rules in rw t.w-is (fields.swept-hit c.requires.0 s o h (ap is_param (sym c.var_type.ensures ∙ ap type_of e)))
+      | else-eq t ↦ let e : c.var_type.result ≡ Param → ⊥ = search rules in rw t.w-is (fields.swept-miss c.requires.0 s o h (ap is_param (sym c.var_type.ensures) ∙ fields.type-other c.var_type.result e))
     ]
 
 pub returns : goal.returns
