@@ -1,5 +1,5 @@
 -- The sweep over the bindings from lo on. Assumes nothing.
-use Rattle.std.proofs.Common.{◌≡◌, ℕ, ◌+◌, ◌*◌, ◌≤◌, ◌<◌, get_or, sym, ap, ◌∙◌, arith, rules}
+use Rattle.std.proofs.Common.{◌≡◌, ◌≤◌, ◌<◌, get_or, sym, ap, ◌∙◌, arith, rules}
 use Rattle.def_pass.specs.Scope.{is_param}
 use Rattle.words_scopes.specs.declared.kinds.VarType.TheVariants.{Param}
 use Rattle.words_scopes.specs.Kinds.{type_of}
