@@ -29,7 +29,7 @@ returns-in_err-gone c =
     let m = c.args.name in
     let s = c.args.s in
     let k = type_of c.args.kind in
-    exit (λ r. Did w c.take_init-gone.new.w r (declr_after s.q k (name_of m) s.n s.i s.j (abs w))) c.from_residual.result c.from_residual.ensures.1 (ends.init-stop c.requires.0 m.form m.ident k s c.requires.1 c.requires.2 _ c.in_err-gone.ensures)
+    exit (λ r. Did w c.take_init.new.w r (declr_after s.q k (name_of m) s.n s.i s.j (abs w))) c.from_residual.result c.from_residual.ensures.1 (ends.init-stop c.requires.0 m.form m.ident k s c.requires.1 c.requires.2 _ c.in_err-gone.ensures)
 
 pub returns : goal.returns
 returns c = ends.init-kept c.requires.0 c.args.name.form c.args.name.ident (type_of c.args.kind) c.args.s c.requires.1 c.requires.2 (rw c.if-gone.false at c.in_ok-gone.ensures)

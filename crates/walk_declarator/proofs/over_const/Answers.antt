@@ -10,6 +10,7 @@ use Rattle.def_pass.specs.Scope.{add_const}
 use Rattle.words.specs.Layout.{yes, tree}
 use Rattle.words_scopes.specs.State.{targeted}
 use Rattle.words_nodes.specs.Nodes.{tree_from}
+use Rattle.scope_find.proofs.Facts.{flag-set}
 use Rattle.words_state.specs.State.{rest}
 use Rattle.walk_declarator.proofs.Acts as acts
 use Rattle.walk_declarator.proofs.Parts as parts

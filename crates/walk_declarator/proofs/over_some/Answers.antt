@@ -27,7 +27,7 @@ pub returns-in_err-over_cheap : goal.returns-in_err-over_cheap
 returns-in_err-over_cheap c =
     let w = c.args.w.now in
     let q = ap is_const (sym c.var_decl_kind-kind.ensures) ∙ sym c.is_const.ensures ∙ c.if-is_const.false in
-    acts.moves-exit _ (λ u. ret false) c.from_residual.result c.from_residual.ensures.1 (parts.some-cheap c.args.name.form c.args.name.ident (rest w) (tree_from (tree w) c.args.e) (type_of c.var_decl_kind-kind.result) c.var_decl_kind-kind.ensures q (sym c.is_cheap.ensures ∙ c.if-is_cheap.true)) c.in_err-over_cheap.ensures
+    acts.moves-exit _ (λ u. ret false) c.from_residual-in_err-over_cheap.result c.from_residual-in_err-over_cheap.ensures.1 (parts.some-cheap c.args.name.form c.args.name.ident (rest w) (tree_from (tree w) c.args.e) (type_of c.var_decl_kind-kind.result) c.var_decl_kind-kind.ensures q (sym c.is_cheap.ensures ∙ c.if-is_cheap.true)) c.in_err-over_cheap.ensures
 
 pub returns-then-is_cheap : goal.returns-then-is_cheap
 returns-then-is_cheap c =
