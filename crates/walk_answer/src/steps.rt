@@ -32,7 +32,8 @@ pub fn bare(w: &[u32], i: usize) -> bool
     requires { Here w.now 1 i 0 0 }
     ensures { result ≡ bare_node (node_of w.now i) }
 {
-    arity_at(w, i) == 0 && matches!(kind_at(w, i), 21 | 22)
+    let kind = kind_at(w, i);
+    arity_at(w, i) == 0 && (kind == 21 || kind == 22)
 }
 
 // Does visit_mut_expr do nothing behind the handler of node i: no identifier, no && or ||, no assignment.
@@ -40,5 +41,6 @@ pub fn settled(w: &[u32], i: usize) -> bool
     requires { Here w.now 1 i 0 0 }
     ensures { result ≡ settled_node (node_of w.now i) }
 {
-    !matches!(kind_at(w, i), 21 | 32 | 33)
+    let kind = kind_at(w, i);
+    kind != 21 && kind != 32 && kind != 33
 }

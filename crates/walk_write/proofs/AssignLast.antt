@@ -1,4 +1,5 @@
 -- What is written and recorded after the walk of an assignment's value. Assumes nothing.
+use Rattle.std.proofs.Common.{Result}
 use mathlib.Core.Path.{◌≡◌, refl, sym, ap, ◌∙◌}
 use mathlib.Core.List.{List}
 use mathlib.Core.Bool.{Bool, true, false, ◌||◌}
@@ -20,36 +21,27 @@ use Rattle.words.specs.Layout.{tree, node_of}
 use Rattle.words.proofs.Nodes.{tree-at}
 use Rattle.words_scopes.specs.State.{Becomes, stack}
 use Rattle.scope_values.specs.Steps.{Grown}
-use Rattle.scope_values.specs.declared.Step as recordsStep
+use Rattle.refusal.specs.declared.Refusal.{Refusal}
+use Rattle.refusal.specs.Number.{refused}
+use Rattle.core.specs.Bool.{then_some}
+use Rattle.scope.specs.Given.{value_at}
+use Rattle.walk_declarator.proofs.Parts.{cheap-value}
 use Rattle.words_nodes.specs.Nodes.{Planted, tree_from, forest_from}
 use Rattle.words_nodes.proofs.Loops.{Open, open-past, forest-here, forest-past}
 use Rattle.words_nodes.proofs.Words.{tree-whole, in_tree}
 use Rattle.words_state.specs.State.{rest, abs, Act}
 use Rattle.scope_var_info.specs.Handles.{tree_o, of_binding}
 use Rattle.scope_var_info.proofs.Numbers.{tree-in}
-use Rattle.walk_write.specs.Answers.{number_of, cheap_at}
+use Rattle.walk_write.specs.Answers.{cheap_at}
 use Rattle.walk_write.proofs.Steps.{Step, step-act, act-step, step-as, step-none, step_then, step-stop, step-tree, act-tree, act-count, mark-step, record-step}
 use Rattle.walk_write.proofs.Shapes.{head_of}
 use Rattle.walk_write.proofs.Writing.{num-here}
 use Rattle.walk_write.proofs.Marks.{kind-here}
 
--- the nodes that are recorded
-module _ {w : List ℕ} (g : Planted w) (j : ℕ) (l : j < get_or w 0 0) where
-  abbrev t : Tree
-  t = tree_at (abs w) j
-
-  cheap : ((node_of w j).kind ≡ 22) ⊎ ((node_of w j).kind ≡ 21) → is_cheap t ≡ true
-  cheap o = ap (λ (k : ℕ). eqb k 22 || eqb k 21) (kind-here w j l) ∙ ⊎_elim (λ (e : (node_of w j).kind ≡ 22). rw e refl) (λ (e : (node_of w j).kind ≡ 21). rw e refl) o
-
-  dear : ((node_of w j).kind ≡ 22 → ⊥) → ((node_of w j).kind ≡ 21 → ⊥) → is_cheap t ≡ false
-  dear a b = ap (λ (k : ℕ). eqb k 22 || eqb k 21) (kind-here w j l) ∙ rw (ne_eqb (node_of w j).kind 22 a, ne_eqb (node_of w j).kind 21 b) refl
-
-  pub kept-all : ((node_of w j).kind ≡ 22) ⊎ ((node_of w j).kind ≡ 21) → tree_o (tree w) j ≡ cheap_at w j
-  unfolding tree_at tree_from
-  kept-all o = tree-in w j l ∙ ap (λ (p : Bool). pick p (some t) none) (sym (cheap o))
-
-  pub kept-none : ((node_of w j).kind ≡ 22 → ⊥) → ((node_of w j).kind ≡ 21 → ⊥) → none ≡ cheap_at w j
-  kept-none a b = ap (λ (p : Bool). pick p (some t) none) (sym (dear a b))
+-- the value that is recorded
+pub kept-is : (w : List ℕ) (j : ℕ) (p : Bool) → j < get_or w 0 0 → p ≡ is_cheap (tree_from (tree w) j) → value_at (tree w) (then_some p j) ≡ cheap_at w j
+unfolding tree_at tree_from
+kept-is w j p l e = sym (cheap-value w j p l) ∙ ap (λ (c : Bool). pick c (some (tree_at (abs w) j)) none) e
 
 -- a value recorded for the binding of l
 module _ {w : List ℕ} (g : Planted w) (l r : Tree) (x : ℕ) (q : num l ≡ x) (o : Option VarInfo) (p : find_binding x (stack w) ≡ o) where
@@ -73,7 +65,7 @@ module _ {w : List ℕ} (g : Planted w) (l r : Tree) (x : ℕ) (q : num l ≡ x)
   pub store-held : of_binding var_inline_prevented o ≡ true → Act w w 0 (on_rest (store_value l r) (abs w))
   store-held e = step-act (store_value l r) (step-as (held-is o e ∙ binding-is) (step-none g))
 
-  pub store_kept : {u : List ℕ} {v : Option Tree} (s : recordsStep.Step) (b : VarInfo) → o ≡ some b → of_binding var_inline_prevented o ≡ false → v ≡ pick (is_cheap r) (some r) none → Grown w u (change x (with_value v) (stack w)) s → Act w u (number_of s) (on_rest (store_value l r) (abs w))
+  pub store_kept : {u : List ℕ} {v : Option Tree} (s : Result Unit Refusal) (b : VarInfo) → o ≡ some b → of_binding var_inline_prevented o ≡ false → v ≡ pick (is_cheap r) (some r) none → Grown w u (change x (with_value v) (stack w)) s → Act w u (refused s) (on_rest (store_value l r) (abs w))
   store_kept {u} {v} s b z e c d =
       let f : var_inline_prevented b ≡ false = sym (ap (of_binding var_inline_prevented) z) ∙ e in
       let to_is : grow (change x (with_value v)) (rest w) ≡ to (rest w) = ap (λ (a : ℕ). grow (change a (with_value v)) (rest w)) (sym q) ∙ ap (λ (o : Option Tree). grow (change (num l) (with_value o)) (rest w)) c in

@@ -1,4 +1,5 @@
 -- A function's name, and the binding of a pattern, declared. Assumes nothing.
+use Rattle.std.proofs.Common.{Result, Ok, Err}
 use mathlib.Core.Path.{◌≡◌, refl, sym, ap, ◌∙◌}
 use mathlib.Core.List.{List}
 use mathlib.Core.Bool.{Bool, true, false, not, ◌&&◌}
@@ -21,13 +22,13 @@ use Rattle.words.specs.Layout.{tree, node_of}
 use Rattle.words.proofs.Nodes.{tree-length, tree-at}
 use Rattle.words_scopes.specs.State.{stack}
 use Rattle.scope_values.specs.Steps.{Grown}
-use Rattle.scope_values.specs.declared.Step as recordsStep
-use Rattle.scope_values.specs.declared.Step.TheVariants as recordsCase
+use Rattle.refusal.specs.declared.Refusal.{Refusal}
+use Rattle.refusal.specs.Number.{refused}
 use Rattle.words_nodes.specs.Nodes.{Planted, Replants, tree_from}
 use Rattle.words_nodes.proofs.Words.{tree-whole}
-use Rattle.words_state.specs.State.{mode_of, rest, abs, Act}
+use Rattle.words_state.specs.State.{rest, abs, Act}
 use Rattle.words_state.proofs.Fields.{replants-ok, ok-then}
-use Rattle.walk_write.specs.Answers.{number_of, re_kind}
+use Rattle.walk_write.specs.Answers.{re_kind}
 use Rattle.walk_write.proofs.Steps.{Step, Does, step-act, act-step, step-as, step-none, record-step}
 use Rattle.walk_write.proofs.Marks.{kind-here, when-no, when-yes, phase-on, phase-off}
 use Rattle.walk_write.proofs.Shapes.{child-act}
@@ -65,7 +66,7 @@ module _ {w : List ℕ} (i : ℕ) where
       unfolding declare_name
       declare-off h = child-act i declare_name e (when-no (declare_m t no_init true v_var) g (test ∙ ap not (phase-on w h)))
 
-      pub declare-on : {u : List ℕ} (f x : ℕ) (s : recordsStep.Step) → get_or w 6 0 ≡ 0 → f ≡ (node_of w (i + 1)).form → x ≡ (node_of w (i + 1)).num → Grown w u (declare (ltb 1 f) x no_init false v_var (stack w)) s → Act w u (number_of s) (act (λ t. declare_name (head_t (kids t))) i (abs w))
+      pub declare-on : {u : List ℕ} (f x : ℕ) (s : Result Unit Refusal) → get_or w 6 0 ≡ 0 → f ≡ (node_of w (i + 1)).form → x ≡ (node_of w (i + 1)).num → Grown w u (declare (ltb 1 f) x no_init false v_var (stack w)) s → Act w u (refused s) (act (λ t. declare_name (head_t (kids t))) i (abs w))
       unfolding declare_name declare_m
       declare-on f x s z r q b =
           let to : ℕ → ℕ → Bool → Res St Nothing = λ h y p. grow (declare (ltb 1 h) y no_init p v_var) (rest w) in
@@ -73,9 +74,9 @@ module _ {w : List ℕ} (i : ℕ) where
           (step-as (ap (λ (h : ℕ). to h x false) (r ∙ sym (form-here w (i + 1) l)) ∙ ap (λ (y : ℕ). to (form t) y false) (q ∙ sym (num-here w (i + 1) l)) ∙ ap (λ (p : Bool). to (form t) (num t) p) (sym (changes (is_var (rest w).var_decl_kind) (rest w).inlining))) (record-step g (declare (ltb 1 f) x no_init false v_var) s b)))
 
 -- the binding of a pattern: its node is an identifier, without the flag, while it is recorded
-grown-tree : (w u : List ℕ) (st : Stack) (s : recordsStep.Step) → Grown w u st s → tree u ≡ tree w
-grown-tree w u st recordsCase.Done b = b.0.tree
-grown-tree w u st (recordsCase.Refused n) b = b.2.tree
+grown-tree : (w u : List ℕ) (st : Stack) (s : Result Unit Refusal) → Grown w u st s → tree u ≡ tree w
+grown-tree w u st (Ok _) b = b.0.tree
+grown-tree w u st (Err e) b = b.2.tree
 
 pub unflagged-less : (f : ℕ) {g n : ℕ} → g ≡ unflagged f → f < n → g < n
 unflagged-less f {g} {n} e h = rw e (go (ltb 1 f))
@@ -106,11 +107,11 @@ module _ {w : List ℕ} (g : Planted w) (i : ℕ) (l : i < get_or w 0 0) (k : (n
       let e : length (set (tree w) i (re_kind 21 f (get_or (tree w) i no_core))) ≡ get_or w 0 0 = simp length-set (tree-length w) in
       omega (arith, sym (tree-length w₁) ∙ ap length a.is ∙ e)
 
-  module _ (w₂ : List ℕ) (x : ℕ) (v : VarType) (s : recordsStep.Step) (q : x ≡ (node_of w i).num) (r : Grown w₁ w₂ (declare (ltb 1 b) x (recorded (tree_from (tree w₁) i)) false v (stack w₁)) s) where
+  module _ (w₂ : List ℕ) (x : ℕ) (v : VarType) (s : Result Unit Refusal) (q : x ≡ (node_of w i).num) (r : Grown w₁ w₂ (declare (ltb 1 b) x (recorded (tree_from (tree w₁) i)) false v (stack w₁)) s) where
     abbrev to : M St Nothing
     to = grow (declare (ltb 1 b) x (recorded (as_ident name)) false v)
 
-    declared : Step w₁ w₂ (number_of s) (to (rest w))
+    declared : Step w₁ w₂ (refused s) (to (rest w))
     declared =
         rw (turned-rest g i l (re_kind 21 f (get_or (tree w) i no_core)) a) at (record-step a.planted (declare (ltb 1 b) x (recorded (as_ident name)) false v) s (rw value-is at r))
 
@@ -127,17 +128,17 @@ module _ {w : List ℕ} (g : Planted w) (i : ℕ) (l : i < get_or w 0 0) (k : (n
         let e : node_of w₂ i ≡ c = sym (tree-at w₂ i still-in) ∙ ap (λ (xs : List Core). get_or xs i no_core) (tree-kept ∙ a.is) ∙ get_or-set_same (tree w) i c no_core inside in
         (declared.ok.planted, still-in, inr (ap (λ (d : Core). d.kind) e), omega arith, h)
 
-    pub bound-act : {w₃ : List ℕ} → Replants w₂ w₃ (set (tree w₂) i (re_kind 20 b (get_or (tree w₂) i no_core))) → Act w w₃ (number_of s) (act (λ t. declare_m t (recorded (as_ident t)) false v) i (abs w))
+    pub bound-act : {w₃ : List ℕ} → Replants w₂ w₃ (set (tree w₂) i (re_kind 20 b (get_or (tree w₂) i no_core))) → Act w w₃ (refused s) (act (λ t. declare_m t (recorded (as_ident t)) false v) i (abs w))
     unfolding declare_m
     bound-act {w₃} c =
         let e : tree w₂ ≡ set (tree w) i (re_kind 21 f (get_or (tree w) i no_core)) = tree-kept ∙ a.is in
         let back : tree w₃ ≡ tree w = c.is ∙ ap (λ (xs : List Core). set xs i (re_kind 20 b (get_or xs i no_core))) e ∙ turned-back (tree w) i f b inside (ap (λ (c : Core). c.kind) (tree-at w i l) ∙ k) (ap (λ (c : Core). c.form) (tree-at w i l) ∙ sym eb) in
         let same : rest w₃ ≡ rest w₂ = turned-rest declared.ok.planted i still-in (re_kind 20 b (get_or (tree w₂) i no_core)) c in
         let by : ℕ → ℕ → Bool → Res St Nothing = λ h y p. grow (declare (ltb 1 h) y (recorded (as_ident name)) p v) (rest w) in
-        let d : Step w w₃ (number_of s) (to (rest w)) = record { ok = ok-then (ok-then (replants-ok a) declared.ok) (replants-ok c); does = go back same (to (rest w)) declared.does } in
+        let d : Step w w₃ (refused s) (to (rest w)) = record { ok = ok-then (ok-then (replants-ok a) declared.ok) (replants-ok c); does = go back same (to (rest w)) declared.does } in
         step-act (declare_m name (recorded (as_ident name)) false v) (step-as (ap (λ (h : ℕ). by h x false) form-is ∙ ap (λ (y : ℕ). by (form name) y false) (q ∙ sym (num-here w i l)) ∙ ap (λ (p : Bool). by (form name) (num name) p) (sym (valued (is_var (rest w).var_decl_kind) (rest w).inlining (as_ident name)))) d)
       where
-        go : tree w₃ ≡ tree w → rest w₃ ≡ rest w₂ → (r : Res St Nothing) → Does w₁ w₂ (number_of s) r → Does w w₃ (number_of s) r
+        go : tree w₃ ≡ tree w → rest w₃ ≡ rest w₂ → (r : Res St Nothing) → Does w₁ w₂ (refused s) r → Does w w₃ (refused s) r
         go p o (stop m) h = h
         go p o (done st y) h = (h.0, p, o ∙ h.2)
 
@@ -149,32 +150,22 @@ module _ (w : List ℕ) (i : ℕ) (l : i < get_or w 0 0) where
   pub pat-other : Planted w → ((node_of w i).kind ≡ 20 → ⊥) → Act w w 0 (act (λ t s. when (is_bind t) (pat_by s.pat_mode t) s) i (abs w))
   pat-other g h = step-act (pat (tree_at (abs w) i)) (when-no (pat_by (rest w).pat_mode (tree_at (abs w) i)) g (ap (λ (k : ℕ). eqb k 20) (kind-here w i l) ∙ ne_eqb (node_of w i).kind 20 h))
 
-  mode-is : {m : ℕ} → get_or w 9 0 ≡ m → mode_of m ≡ (rest w).pat_mode
-  unfolding rest
-  mode-is e = ap mode_of (sym e)
-
   module _ (k : (node_of w i).kind ≡ 20) where
     by_mode : {u : List ℕ} {r : ℕ} (m : PatMode) → m ≡ (rest w).pat_mode → Step w u r (pat_by m (tree_at (abs w) i) (rest w)) → Act w u r (act (λ t s. when (is_bind t) (pat_by s.pat_mode t) s) i (abs w))
     by_mode m e d =
         step-act (pat (tree_at (abs w) i)) (when-yes (pat_by (rest w).pat_mode (tree_at (abs w) i)) (ap (λ (k : ℕ). eqb k 20) (kind-here w i l) ∙ eq-eqb (node_of w i).kind 20 k) (step-as (ap (λ (x : PatMode). pat_by x (tree_at (abs w) i) (rest w)) e) d))
 
-    pub pat-assigning : {u : List ℕ} {r : ℕ} → get_or w 9 0 ≡ 0 → Act w u r (act (pat_by assigning) i (abs w)) → Act w u r (act (λ t s. when (is_bind t) (pat_by s.pat_mode t) s) i (abs w))
-    pat-assigning e a = by_mode assigning (mode-is e) (act-step (pat_by assigning (tree_at (abs w) i)) a)
+    pub pat-assigning : {u : List ℕ} {r : ℕ} → assigning ≡ (rest w).pat_mode → Act w u r (act (pat_by assigning) i (abs w)) → Act w u r (act (λ t s. when (is_bind t) (pat_by s.pat_mode t) s) i (abs w))
+    pat-assigning e a = by_mode assigning e (act-step (pat_by assigning (tree_at (abs w) i)) a)
 
-    pub pat-param : {u : List ℕ} {r : ℕ} → get_or w 9 0 ≡ 1 → Act w u r (act (λ t. declare_m t (recorded (as_ident t)) false param) i (abs w)) → Act w u r (act (λ t s. when (is_bind t) (pat_by s.pat_mode t) s) i (abs w))
+    pub pat-param : {u : List ℕ} {r : ℕ} → as_param ≡ (rest w).pat_mode → Act w u r (act (λ t. declare_m t (recorded (as_ident t)) false param) i (abs w)) → Act w u r (act (λ t s. when (is_bind t) (pat_by s.pat_mode t) s) i (abs w))
     unfolding pat_by
-    pat-param e a = by_mode as_param (mode-is e) (act-step (declare_m (tree_at (abs w) i) (recorded (as_ident (tree_at (abs w) i))) false param) a)
+    pat-param e a = by_mode as_param e (act-step (declare_m (tree_at (abs w) i) (recorded (as_ident (tree_at (abs w) i))) false param) a)
 
-    pub pat-catch : {u : List ℕ} {r : ℕ} → get_or w 9 0 ≡ 2 → Act w u r (act (λ t. declare_m t (recorded (as_ident t)) false v_var) i (abs w)) → Act w u r (act (λ t s. when (is_bind t) (pat_by s.pat_mode t) s) i (abs w))
+    pub pat-catch : {u : List ℕ} {r : ℕ} → as_catch ≡ (rest w).pat_mode → Act w u r (act (λ t. declare_m t (recorded (as_ident t)) false v_var) i (abs w)) → Act w u r (act (λ t s. when (is_bind t) (pat_by s.pat_mode t) s) i (abs w))
     unfolding pat_by
-    pat-catch e a = by_mode as_catch (mode-is e) (act-step (declare_m (tree_at (abs w) i) (recorded (as_ident (tree_at (abs w) i))) false v_var) a)
+    pat-catch e a = by_mode as_catch e (act-step (declare_m (tree_at (abs w) i) (recorded (as_ident (tree_at (abs w) i))) false v_var) a)
 
-    pub pat-declaring : Planted w → (get_or w 9 0 ≡ 0 → ⊥) → (get_or w 9 0 ≡ 1 → ⊥) → (get_or w 9 0 ≡ 2 → ⊥) → Act w w 0 (act (λ t s. when (is_bind t) (pat_by s.pat_mode t) s) i (abs w))
+    pub pat-declaring : Planted w → declaring ≡ (rest w).pat_mode → Act w w 0 (act (λ t s. when (is_bind t) (pat_by s.pat_mode t) s) i (abs w))
     unfolding pat_by
-    pat-declaring g x y z = by_mode declaring (sym (mode-other (get_or w 9 0) x y z) ∙ mode-is refl) (step-none g)
-      where
-        mode-other : (n : ℕ) → (n ≡ 0 → ⊥) → (n ≡ 1 → ⊥) → (n ≡ 2 → ⊥) → mode_of n ≡ declaring
-        mode-other zero x y z = absurd (x refl)
-        mode-other (suc zero) x y z = absurd (y refl)
-        mode-other (suc (suc zero)) x y z = absurd (z refl)
-        mode-other (suc (suc (suc n))) x y z = refl
+    pat-declaring g e = by_mode declaring e (step-none g)

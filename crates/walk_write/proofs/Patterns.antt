@@ -3,7 +3,8 @@ use mathlib.Core.Path.{◌≡◌, sym, ap, ◌∙◌}
 use mathlib.Core.List.{List}
 use mathlib.Core.Bool.{false}
 use mathlib.Core.Option.{Option, none, some}
-use Prim.Native.Nat.{ℕ, ◌-◌, ◌≤◌, ◌<◌}
+use Prim.Native.Nat.{ℕ, suc, ◌≤◌, ◌<◌}
+use native.Mathlib.Omega.{arith}
 use lib.ListN.{length, get_or}
 use Rattle.def_tree.specs.Tree.{Tree}
 use Rattle.def_tree.specs.Combine.{Res, done, Nothing, tree_at, act}
@@ -31,8 +32,8 @@ module _ (w : List ℕ) (i x k : ℕ) (l : i < get_or w 0 0) (q : x ≡ (node_of
   unfolding pat_by rest
   by-is o e = ap by (sym (ap (λ (a : ℕ). find_binding_from_current a (stack w)) (num-here w i l ∙ sym q) ∙ p ∙ e))
 
-  pub bound-act : k ≤ length (bindings_of (stack w)) → Planted w → (k ≡ 0 → ⊥) → Act w w 0 (act (pat_by assigning) i (abs w))
-  bound-act m g h = step-act (pat_by assigning t) (step-as (by-is (some (get_or (bindings_of (stack w)) (k - 1) no_bind)) (number-some (stack w) k h m)) (step-none g))
+  pub bound-act : (b : ℕ) → k ≡ suc b → k ≤ length (bindings_of (stack w)) → Planted w → Act w w 0 (act (pat_by assigning) i (abs w))
+  bound-act b e m g = step-act (pat_by assigning t) (step-as (by-is (some (get_or (bindings_of (stack w)) b no_bind)) (ap (numbered (stack w)) e ∙ number-some (stack w) b (omega (arith, e, m)))) (step-none g))
 
   pub unbound-act : {u : List ℕ} {r : ℕ} → k ≡ 0 → Act w u r (act (write false) i (abs w)) → Act w u r (act (pat_by assigning) i (abs w))
   unbound-act z a = step-act (pat_by assigning t) (step-as (by-is none (ap (numbered (stack w)) z)) (act-step (write false t) a))

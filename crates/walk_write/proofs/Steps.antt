@@ -1,4 +1,5 @@
 -- Steps that leave the tree alone, as steps of the walk on the list: from what the functions below ensure, and one after the other. Assumes nothing.
+use Rattle.std.proofs.Common.{Result, Ok, Err, IsErrAnd}
 use mathlib.Core.Path.{◌≡◌, refl, sym, ap, ◌∙◌}
 use mathlib.Core.List.{List}
 use mathlib.Core.Bool.{true, false}
@@ -13,12 +14,13 @@ use Rattle.words.specs.Layout.{tree, beyond}
 use Rattle.words.proofs.Nodes.{tree-length}
 use Rattle.words_scopes.specs.State.{Good, Others, Becomes, stack}
 use Rattle.scope_values.specs.Steps as records
-use Rattle.scope_values.specs.declared.Step as recordsStep
-use Rattle.scope_values.specs.declared.Step.TheVariants as recordsCase
+use Rattle.refusal.specs.declared.Refusal.{Refusal}
+use Rattle.refusal.specs.Number.{number, refused}
+use Rattle.refusal.proofs.Rows.{exit}
 use Rattle.scope_read_write.proofs.Limits.{grow-done, grow-stop}
 use Rattle.words_nodes.specs.Nodes.{Planted}
-use Rattle.walk_write.specs.Answers.{number_of}
-use Rattle.words_state.specs.State.{rest, abs, Ok, Acts, Act}
+use Rattle.words_state.specs.State as state
+use Rattle.words_state.specs.State.{rest, abs, Acts, Act}
 use Rattle.words_state.proofs.Fields.{becomes-turns, ok-self, ok-then}
 
 -- what the words are after a step on the rest of the state
@@ -27,7 +29,7 @@ Does w u n (stop m) = (n ≡ m) × (0 < n)
 Does w u n (done s x) = (n ≡ 0) × (tree u ≡ tree w) × (rest u ≡ s)
 
 pub record Step (w u : List ℕ) (n : ℕ) (r : Res St Nothing) : Type 0 where
-  pub ok : Ok w u
+  pub ok : state.Ok w u
   pub does : Does w u n r
 
 flat-eq : {a b : List Core} {s t : St} → a ≡ b → s ≡ t → ◌≡◌ {A = Flat St} (record { nodes = a; rest = s }) (record { nodes = b; rest = t })
@@ -89,7 +91,7 @@ step-done {w} {u} {n} {r} d z = go r d.does
     go (done s a) x = ap (λ (q : St). done q tt) (sym x.2)
 
 -- after steps that left the tree alone
-pub step-on : {v w u : List ℕ} {n : ℕ} {r : Res St Nothing} → Ok v w → tree w ≡ tree v → Step w u n r → Step v u n r
+pub step-on : {v w u : List ℕ} {n : ℕ} {r : Res St Nothing} → state.Ok v w → tree w ≡ tree v → Step w u n r → Step v u n r
 step-on {v} {w} {u} {n} {r} o t d = record { ok = ok-then o d.ok; does = go r d.does }
   where
     go : (r : Res St Nothing) → Does w u n r → Does v u n r
@@ -120,7 +122,7 @@ module _ {w u : List ℕ} (g : Planted w) where
   unfolding rest
   mark-step f b = let t = becomes-turns g (size_of g.good b.good b.rest) b in record { ok = t.ok; does = (refl, t.nodes, t.is) }
 
-  still-ok : Good u → tree u ≡ tree w → Others w u → beyond u ≡ beyond w → Ok w u
+  still-ok : Good u → tree u ≡ tree w → Others w u → beyond u ≡ beyond w → state.Ok w u
   still-ok h t o b = (becomes-turns g (size_of g.good h b) (record { good = h; is = refl; tree = t; others = o; rest = b })).ok
 
   module _ (f : Stack → Stack) where
@@ -128,11 +130,15 @@ module _ {w u : List ℕ} (g : Planted w) where
     unfolding rest
     grown b e = step-as (sym (grow-done f (rest w) e)) (mark-step f b)
 
-    over : {n : ℕ} → n ≡ 9 → records.over (f (stack w)) ≡ true → Ok w u → Step w u n (grow f (rest w))
+    over : {n : ℕ} → n ≡ 9 → records.over (f (stack w)) ≡ true → state.Ok w u → Step w u n (grow f (rest w))
     unfolding rest
     over z e o = step-as (sym (grow-stop f (rest w) e)) (record { ok = o; does = (z, omega (arith, z)) })
 
     -- by its answer
-    pub record-step : (r : recordsStep.Step) → records.Grown w u (f (stack w)) r → Step w u (number_of r) (grow f (rest w))
-    record-step recordsCase.Done b = grown b.0 b.1
-    record-step (recordsCase.Refused n) b = over b.0 b.1 (still-ok b.2.good b.2.tree b.2.others b.2.rest)
+    pub record-step : (r : Result Unit Refusal) → records.Grown w u (f (stack w)) r → Step w u (refused r) (grow f (rest w))
+    record-step (Ok _) b = grown b.0 b.1
+    record-step (Err e) b = over (ap number b.0) b.1 (still-ok b.2.good b.2.tree b.2.others b.2.rest)
+
+-- an exit by `?`
+pub act-exit : {w u : List ℕ} (e : Refusal) {x : Res (Flat St) Nothing} (r : Result Unit Refusal) → IsErrAnd r (λ y. y ≡ e) → Act w u (number e) x → Act w u (refused r) x
+act-exit {w} {u} e {x} r h d = exit (λ r. Act w u (refused r) x) r h d

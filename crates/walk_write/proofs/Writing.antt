@@ -1,4 +1,5 @@
 -- Names written: one, and those of n trees by a loop over their nodes. Assumes nothing.
+use Rattle.std.proofs.Common.{Result}
 use mathlib.Core.Path.{◌≡◌, refl, sym, ap, ◌∙◌}
 use mathlib.Core.List.{List, []}
 use mathlib.Core.Bool.{Bool, true, false}
@@ -16,13 +17,13 @@ use Rattle.words.proofs.Nodes.{tree-length, tree-at}
 use Rattle.words_scopes.specs.State.{stack}
 use Rattle.scope_find.specs.Answers.{is_name}
 use Rattle.scope_values.specs.Steps.{Grown}
-use Rattle.scope_values.specs.declared.Step as recordsStep
+use Rattle.refusal.specs.declared.Refusal.{Refusal}
+use Rattle.refusal.specs.Number.{refused}
 use Rattle.words_nodes.specs.Nodes.{Planted, tree_from, forest_from}
 use Rattle.words_nodes.proofs.Loops.{Open, open_in, open-past}
 use Rattle.words_nodes.proofs.Words.{tree-whole, in_tree, node-here}
 use Rattle.words_state.specs.State.{rest, abs, Ok, Act}
 use Rattle.words_state.proofs.Fields.{ok-self, ok-then}
-use Rattle.walk_write.specs.Answers.{number_of}
 use Rattle.walk_write.proofs.Steps.{Step, step-act, act-step, step-stop, step-tree, step-done, step-on, step-as, record-step}
 use Rattle.walk_write.proofs.Names.{names-past, names_in}
 
@@ -45,7 +46,7 @@ module _ (w : List ℕ) (i : ℕ) (l : i < get_or w 0 0) where
   pub form-here : form (tree_at (abs w) i) ≡ (node_of w i).form
   form-here = form-at (abs w) i inside ∙ ap (λ (c : Core). c.form) at_here
 
-  pub ident-act : {u : List ℕ} (x : ℕ) (args force : Bool) (r : recordsStep.Step) → Planted w → x ≡ (node_of w i).num → args ≡ is_args (node_of w i).form → Grown w u (add_write x args force (stack w)) r → Act w u (number_of r) (act (write force) i (abs w))
+  pub ident-act : {u : List ℕ} (x : ℕ) (args force : Bool) (r : Result Unit Refusal) → Planted w → x ≡ (node_of w i).num → args ≡ is_args (node_of w i).form → Grown w u (add_write x args force (stack w)) r → Act w u (refused r) (act (write force) i (abs w))
   unfolding write
   ident-act x args force r g p q b =
       let t : Tree = tree_at (abs w) i in

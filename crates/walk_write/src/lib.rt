@@ -31,7 +31,8 @@ fn is_name(w: &[u32], i: usize) -> bool
     requires { (Planted w.now) × (i < size w.now) }
     ensures { result ≡ is_name (node_of w.now i) }
 {
-    matches!(kind_at(w, i), 20 | 21)
+    let kind = kind_at(w, i);
+    kind == 20 || kind == 21
 }
 
 // The form of a name without the flag of request 3.
@@ -169,8 +170,8 @@ pub fn write_unbound(w: &mut [u32], i: usize) -> Result<(), Refusal>
     ensures { Act w.old w.new (refused result) (act (pat_by assigning) i (abs w.old)) }
 {
     let x = ident_at(w, i);
-    if find_binding_from_current(w, x).is_some() {
-        return Ok(());
+    match find_binding_from_current(w, x) {
+        Some(_) => Ok(()),
+        None => write_ident(w, i, false),
     }
-    write_ident(w, i, false)
 }

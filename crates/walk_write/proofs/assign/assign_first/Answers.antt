@@ -1,12 +1,13 @@
 -- By the form, and by what the target is. Assumes nothing.
-use mathlib.Core.Path.{◌≡◌, sym, ◌∙◌}
+use Rattle.refusal.proofs.Rows.{number-some}
+use mathlib.Core.Path.{◌≡◌, refl, sym, ◌∙◌}
 use mathlib.Core.Bool.{false}
 use native.Mathlib.Omega.{arith}
 use Rattle.def_tree.specs.Combine.{forest_at}
 use Rattle.def_pass.specs.Walk.{write_forest}
 use Rattle.words.specs.Layout.{node_of}
 use Rattle.words_state.specs.State.{abs}
-use Rattle.walk_write.proofs.Steps.{act-tree}
+use Rattle.walk_write.proofs.Steps.{act-tree, act-exit}
 use Rattle.walk_write.proofs.AssignFirst.{first-none, first-always, first-stop, first-name, first-again}
 use Rattle.walk_write.proofs.AssignLast.{target-in}
 use Rattle.walk_write.proofs.assign.assign_first.Goals as goal
@@ -20,14 +21,14 @@ returns-then-f-ne0 c = first-always c.requires.0 c.args.f c.args.n c.args.i c.re
 pub kind_at-k-requires : goal.kind_at-k-requires
 kind_at-k-requires c = (c.requires.0.good.long, omega (arith, target-in c.requires.0 c.args.n c.args.i c.requires.1 c.if-n-eq0.false, c.requires.0.good.nodes))
 
-pub returns-then-r-ne0 : goal.returns-then-r-ne0
-returns-then-r-ne0 c = first-stop c.requires.0 c.args.f c.args.n c.args.i c.requires.1 c.if-n-eq0.false c.if-f-ne0.false c.write_trees-r.ensures (omega (arith, c.if-r-ne0.true))
+pub returns-in_err-write_trees : goal.returns-in_err-write_trees
+returns-in_err-write_trees c = act-exit _ c.from_residual.result c.from_residual.ensures.1 (first-stop c.requires.0 c.args.f c.args.n c.args.i c.requires.1 c.if-n-eq0.false c.if-f-ne0.false c.in_err-write_trees.ensures (number-some _))
 
 pub returns-then-k-eq20 : goal.returns-then-k-eq20
-returns-then-k-eq20 c = first-name c.requires.0 c.args.f c.args.n c.args.i c.requires.1 c.if-n-eq0.false c.if-f-ne0.false c.write_trees-r.ensures c.if-r-ne0.false (sym c.kind_at-k.ensures ∙ c.if-k-eq20.true)
+returns-then-k-eq20 c = first-name c.requires.0 c.args.f c.args.n c.args.i c.requires.1 c.if-n-eq0.false c.if-f-ne0.false c.in_ok-write_trees.ensures refl (sym c.kind_at-k.ensures ∙ c.if-k-eq20.true)
 
 pub write_trees-requires-2 : goal.write_trees-requires-2
-write_trees-requires-2 c = (c.write_trees-r.ensures.ok.planted, rw (act-tree (write_forest false (forest_at (abs c.args.w.now) c.args.n c.args.i)) c.write_trees-r.ensures c.if-r-ne0.false) c.requires.1)
+write_trees-requires-2 c = (c.in_ok-write_trees.ensures.ok.planted, rw (act-tree (write_forest false (forest_at (abs c.args.w.now) c.args.n c.args.i)) c.in_ok-write_trees.ensures refl) c.requires.1)
 
 pub returns : goal.returns
-returns c = first-again c.requires.0 c.args.f c.args.n c.args.i c.requires.1 c.if-n-eq0.false c.if-f-ne0.false c.write_trees-r.ensures c.if-r-ne0.false (λ (e : (node_of c.args.w.now c.args.i).kind ≡ 20). c.if-k-eq20.false (c.kind_at-k.ensures ∙ e)) c.write_trees-2.ensures
+returns c = first-again c.requires.0 c.args.f c.args.n c.args.i c.requires.1 c.if-n-eq0.false c.if-f-ne0.false c.in_ok-write_trees.ensures refl (λ (e : (node_of c.args.w.now c.args.i).kind ≡ 20). c.if-k-eq20.false (c.kind_at-k.ensures ∙ e)) c.write_trees-2.ensures
