@@ -27,8 +27,8 @@ returns-in_err-write_trees c = act-exit _ c.from_residual.result c.from_residual
 pub returns-then-k-eq20 : goal.returns-then-k-eq20
 returns-then-k-eq20 c = first-name c.requires.0 c.args.f c.args.n c.args.i c.requires.1 c.if-n-eq0.false c.if-f-ne0.false c.in_ok-write_trees.ensures refl (sym c.kind_at-k.ensures ∙ c.if-k-eq20.true)
 
-pub write_trees-requires-2 : goal.write_trees-requires-2
-write_trees-requires-2 c = (c.in_ok-write_trees.ensures.ok.planted, rw (act-tree (write_forest false (forest_at (abs c.args.w.now) c.args.n c.args.i)) c.in_ok-write_trees.ensures refl) c.requires.1)
+pub write_trees-requires-3 : goal.write_trees-requires-3
+write_trees-requires-3 c = (c.in_ok-write_trees.ensures.ok.planted, rw (act-tree (write_forest false (forest_at (abs c.args.w.now) c.args.n c.args.i)) c.in_ok-write_trees.ensures refl) c.requires.1)
 
 pub returns : goal.returns
-returns c = first-again c.requires.0 c.args.f c.args.n c.args.i c.requires.1 c.if-n-eq0.false c.if-f-ne0.false c.in_ok-write_trees.ensures refl (λ (e : (node_of c.args.w.now c.args.i).kind ≡ 20). c.if-k-eq20.false (c.kind_at-k.ensures ∙ e)) c.write_trees-2.ensures
+returns c = first-again c.requires.0 c.args.f c.args.n c.args.i c.requires.1 c.if-n-eq0.false c.if-f-ne0.false c.in_ok-write_trees.ensures refl (λ (e : (node_of c.args.w.now c.args.i).kind ≡ 20). c.if-k-eq20.false (c.kind_at-k.ensures ∙ e)) c.write_trees-3.ensures
