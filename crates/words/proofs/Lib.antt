@@ -2,4 +2,3 @@
 pub mod Nodes
 pub mod Flags
 pub mod Yes
-mod Moves

@@ -86,7 +86,7 @@ pub fn merge(w: &mut [u32], a: usize, b: usize, n: usize)
     ensures { Merged w.old w.new a b n }
 {
     for i in 0..n {
-        w[b + i] = w[a + i] | w[b + i];
+        w[b + i] |= w[a + i];
     }
 }
 
