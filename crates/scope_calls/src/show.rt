@@ -10,8 +10,7 @@ use scope::{
 };
 use scope_find::{bound_here, in_loop};
 use scope_values::{live, recorded_nodes, stops_at};
-use std::fmt;
-use std::io;
+use std::{fmt, io};
 use words::layout;
 use words_scopes::find_by_walk;
 
@@ -260,12 +259,7 @@ fn show_all(rt: &impl Print, w: &[u32]) -> io::Result<()>
 }
 
 // A line: the number of a refusal, or the scopes; and whether index and walk were alike after each call.
-pub fn show(
-    rt: &impl Print,
-    w: &[u32],
-    done: Result<(), Refusal>,
-    same: bool,
-) -> io::Result<()>
+pub fn show(rt: &impl Print, w: &[u32], done: Result<(), Refusal>, same: bool) -> io::Result<()>
     requires { Planted w.now }
 {
     match done {
