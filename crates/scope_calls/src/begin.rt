@@ -1,5 +1,5 @@
 // Where every sequence begins: a tree to take values from, and an empty root scope.
-ghost use Rattle.std.specs.Prelude.{◌≡◌, ℕ, ◌<◌, ◌≤◌, List, [], ◌∷◌, ◌++◌, length, slice_index};
+ghost use Rattle.std.specs.Prelude.{◌<◌, ◌≤◌, List, [], ◌∷◌, ◌++◌, length, slice_index};
 ghost use Rattle.def_tree.specs.Tree.{Core, core};
 ghost use Rattle.words_nodes.specs.Nodes.{Planted};
 ghost use Rattle.scope_calls.specs.Begun.{Begun};

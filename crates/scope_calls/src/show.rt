@@ -1,5 +1,5 @@
 // The scopes in the words printed, root first, and then what the look-ups answer.
-ghost use Rattle.std.specs.Prelude.{◌<◌, ◌≤◌};
+ghost use Rattle.std.specs.Prelude.{◌≤◌};
 ghost use Rattle.words_nodes.specs.Nodes.{Planted};
 
 use refusal::Refusal;

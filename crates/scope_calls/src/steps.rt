@@ -1,5 +1,4 @@
 // The calls, by their numbers.
-ghost use Rattle.std.specs.Prelude.{◌<◌, ◌≤◌};
 ghost use Rattle.words_nodes.specs.Nodes.{Planted};
 
 use super::values::{node_of, value_of};

@@ -7,18 +7,16 @@ use Prim.Native.Nat.{ℕ, zero, suc, ◌+◌, ◌-◌, ◌*◌, ◌≤◌, ◌<�
 use native.Mathlib.Omega.{arith}
 use lib.ListN.{length, get_or, length-drop}
 use lib.Dec.{eqb}
-use Rattle.std.specs.Prelude.{Option as Maybe, Some, None}
 use Rattle.core.specs.Bool.{then_some}
 use Rattle.def_tree.specs.Base.{pick, to_nat}
 use Rattle.def_tree.specs.Tree.{Tree, Core, kind, num, plant, first_t, count}
 use Rattle.def_pass.specs.Tree.{is_ident}
 use Rattle.def_tree.proofs.Place.{plant-flat}
 use Rattle.def_pass.specs.Scope as def
-use Rattle.def_pass.specs.Scope.{VarInfo, Scope, Stack, VarType, is_some, find_in, find_binding_from_current, alias_from, prevent_inline, prevent_inline_o, place_or, declare, kept, init_of, ident_of, prevented_o, should_prevent_inline_because_of_scope, in_loop, is_param, param_o, is_inline_prevented}
+use Rattle.def_pass.specs.Scope.{VarInfo, Stack, VarType, is_some, find_in, find_binding_from_current, alias_from, prevent_inline, prevent_inline_o, place_or, declare, kept, init_of, ident_of, prevented_o, should_prevent_inline_because_of_scope, in_loop, is_param, is_inline_prevented}
 use Rattle.words.specs.Layout.{tree, run, node_of}
-use Rattle.words.specs.declared.Run.{Run}
 use Rattle.words.proofs.Nodes.{run_length}
-use Rattle.words_scopes.specs.State.{Good, stack, index_in, bind_at, binds, value_of, run_of}
+use Rattle.words_scopes.specs.State.{Good, stack, index_in, binds, value_of, run_of}
 use Rattle.words_scopes.proofs.Split as laws
 use Rattle.scope_values.proofs.Count.{length-binds}
 use Rattle.scope_values.proofs.Listed.{stack-none}

@@ -6,7 +6,6 @@ use mathlib.Core.Option.{Option, some, none}
 use Prim.Native.Nat.{ℕ, ◌-◌}
 use native.Mathlib.Omega.{arith}
 use borrow.Author.Tests.{eqb-true}
-use Rattle.std.specs.Prelude.{Option as Maybe}
 use Rattle.scope_declare.proofs.Init as init
 use Rattle.words.specs.Layout.{tree}
 use Rattle.words_nodes.specs.Nodes.{tree_from}
