@@ -249,7 +249,7 @@ fn arrow_row(f: usize) -> Row
 pub fn row_of(kind: u8, form: u8) -> Row
     ensures { result ≡ row_of kind form }
 {
-    let f = form as usize;
+    let f = usize::from(form);
     match kind {
         // script s*
         1 => every(0, 0, ANY, Class::Statement),

@@ -41,10 +41,7 @@ impl Texts {
     {
         let from = self.bytes + self.start(file, k);
         let to = self.bytes + self.end(file, k);
-        if from <= to && to <= file.len() {
-            return &file[from..to];
-        }
-        &file[0..0]
+        file.get(from..to).unwrap_or(&[])
     }
 
     // Row 5: the ends never fall, and the last (0 with no texts) is the byte count b.

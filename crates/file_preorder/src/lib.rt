@@ -35,7 +35,7 @@ impl Child {
 fn fields_ok(x: Raw, t: usize) -> bool
     ensures { result ≡ fields_ok t x }
 {
-    let k = x.kind as usize;
+    let k = usize::from(x.kind);
     let text = x.text as usize;
     let known = if uses_text(k) { text < t } else { text == 0 };
     known && (uses_bits(k) || x.bits == 0)
@@ -45,11 +45,12 @@ fn fields_ok(x: Raw, t: usize) -> bool
 fn node_ok(x: Raw, c: Class, t: usize) -> bool
     ensures { result ≡ (allows c x.kind x.arity && fields_ok t x && form_ok (row_of x.kind x.form) x.form && count_ok (row_of x.kind x.form) x.arity) }
 {
-    let k = x.kind as usize;
-    let f = x.form as usize;
-    let n = x.arity as usize;
+    let n = usize::from(x.arity);
     let row = row_of(x.kind, x.form);
-    allows(c, k, n) && fields_ok(x, t) && form_ok(row, f) && count_ok(row, n)
+    allows(c, usize::from(x.kind), n)
+        && fields_ok(x, t)
+        && form_ok(row, usize::from(x.form))
+        && count_ok(row, n)
 }
 
 // A script of a file: its nodes, and how many texts they may name.
