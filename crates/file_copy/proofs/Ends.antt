@@ -64,7 +64,6 @@ pub record WasRead (bs w w₁ : List ℕ) : Type 0 where
   pub held : Held bs w₁ script
   pub kept : Kept w w₁
 
-
 pub was_read : {bs w w₁ : List ℕ} {a : Result Header Refusal} (h : Header) → ReadIs bs w w₁ a → a ≡ Ok h → WasRead bs w w₁
 was_read {bs} {w} {w₁} {a} h R z = go (leb 16384 (length w)) (read bs) refl refl
   where

@@ -20,12 +20,7 @@ fn enough(runs: u32, words: usize) -> bool
 }
 
 // Rows 1 to 10. What is written is the result's file.
-pub fn inline(
-    file: &[u8],
-    res: &mut [u8],
-    words: &mut [u32],
-    runs: u32,
-) -> Result<Done, Refusal>
+pub fn inline(file: &[u8], res: &mut [u8], words: &mut [u32], runs: u32) -> Result<Done, Refusal>
     ensures { InlineIs file.now res.old res.new words.old words.new runs (inlined result) }
 {
     if !enough(runs, words.len()) {
@@ -43,12 +38,7 @@ pub fn inline(
 
 // Rows 1 to 10, of the pass over the file. What is written are the root bindings, oldest first, five words for each: text number, context's low
 // and high half, prevented mark, how often an identifier was replaced by its value. Answers how many they are.
-pub fn list(
-    file: &[u8],
-    roots: &mut [u32],
-    words: &mut [u32],
-    runs: u32,
-) -> Result<usize, Refusal>
+pub fn list(file: &[u8], roots: &mut [u32], words: &mut [u32], runs: u32) -> Result<usize, Refusal>
     ensures { RootsIs file.now roots.old roots.new words.old words.new runs (counted result) }
 {
     if !enough(runs, words.len()) {
