@@ -5,10 +5,8 @@ use lib.Dec.{eqb}
 use Rattle.def_tree.specs.Combine.{node_at}
 use Rattle.words_state.specs.State.{abs}
 use Rattle.laws_flat.specs.WalkF.{walks_f}
-use Rattle.laws_flat.proofs.Sim.{sims, sim-after}
 use Rattle.walk_laws.proofs.Heres as heres
 use Rattle.walk_laws.proofs.Ways as ways
-use Rattle.walk_laws.proofs.Idents as idents
 use Rattle.walk.proofs.+walks.Goals as goal
 
 pub after-kind_at-k-requires : goal.after-kind_at-k-requires

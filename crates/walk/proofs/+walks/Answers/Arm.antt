@@ -1,5 +1,4 @@
 -- The goals of arm. Assumes nothing.
-use mathlib.Core.Path.{refl, sym, ◌∙◌}
 use native.Mathlib.Omega.{arith}
 use Rattle.words_scopes.specs.Kinds.{kind_of}
 use Rattle.def_pass.specs.Walk.{opening}

@@ -1,5 +1,4 @@
 -- The goals of arms. Assumes nothing.
-use mathlib.Core.Path.{refl, sym, ◌∙◌}
 use native.Mathlib.Omega.{arith}
 use Rattle.def_tree.proofs.Sims.{sim-each}
 use Rattle.words_scopes.specs.Kinds.{kind_of}

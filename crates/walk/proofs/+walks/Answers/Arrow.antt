@@ -1,5 +1,4 @@
 -- The goals of arrow. Assumes nothing.
-use mathlib.Core.Path.{sym, ◌∙◌}
 use mathlib.Core.Bool.{false}
 use native.Mathlib.Omega.{arith}
 use Rattle.def_pass.specs.Scope.{fn as fn_kind}

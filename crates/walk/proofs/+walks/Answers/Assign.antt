@@ -1,6 +1,5 @@
 -- The goals of assign. Assumes nothing.
 use Prim.Native.Nat.{◌+◌}
-use mathlib.Core.Path.{sym, ◌∙◌}
 use native.Mathlib.Omega.{arith}
 use Rattle.def_tree.specs.Combine.{and_then, ◌>>◌, ret, act_f, skip, many, split_f, on_kids_f, node_at}
 use Rattle.def_tree.proofs.Sims.{sim-each, sim-skip, sim-split}

@@ -1,5 +1,4 @@
 -- The goals of block. Assumes nothing.
-use mathlib.Core.Path.{sym, ◌∙◌}
 use native.Mathlib.Omega.{arith}
 use Rattle.def_pass.specs.Scope.{block as block_kind}
 use Rattle.def_pass.specs.Walk.{opening}

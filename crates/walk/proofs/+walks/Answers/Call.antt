@@ -1,11 +1,10 @@
 -- The goals of call. Assumes nothing.
 use Prim.Native.Nat.{◌+◌, ◌-◌}
-use mathlib.Core.Path.{refl, sym, ◌∙◌}
+use mathlib.Core.Path.{refl}
 use mathlib.Core.Bool.{false, not}
 use mathlib.Core.Option.{some}
 use native.Mathlib.Omega.{arith}
 use Rattle.def_tree.specs.Combine.{◌>>=◌, ◌>>◌, ret, act, act_f, many, split_f}
-use Rattle.words.specs.Layout.{yes}
 use Rattle.def_pass.specs.Scope.{mark_this_sensitive, ident_of}
 use Rattle.def_pass.specs.Walk.{write_forest, when, mark}
 use Rattle.laws_flat.specs.WalkF.{walks_f, visit_mut_call_expr_f}

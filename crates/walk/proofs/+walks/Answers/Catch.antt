@@ -1,6 +1,5 @@
 -- The goals of catch. Assumes nothing.
 use Prim.Native.Nat.{suc, ◌+◌, ◌-◌}
-use mathlib.Core.Path.{refl, sym, ◌∙◌}
 use native.Mathlib.Omega.{arith}
 use Rattle.def_tree.specs.Combine.{each_but_f, on_kids_f}
 use Rattle.def_tree.proofs.Sims.{sim-each}

@@ -1,5 +1,4 @@
 -- The goals of conds. Assumes nothing.
-use mathlib.Core.Path.{refl, sym, ◌∙◌}
 use native.Mathlib.Omega.{arith}
 use Rattle.def_tree.proofs.Sims.{sim-each, sim-within}
 use Rattle.def_pass.specs.Scope.{cond as cond_kind}

@@ -1,12 +1,11 @@
 -- The goals of declr. Assumes nothing.
 use Prim.Native.Nat.{◌+◌}
-use mathlib.Core.Path.{sym, ◌∙◌}
 use native.Mathlib.Omega.{arith}
 use Rattle.def_tree.specs.Combine.{tree_at}
 use Rattle.def_tree.proofs.Sims.{sim-each, sim-skip, sim-split}
 use Rattle.words_state.specs.State.{abs, rest}
 use Rattle.laws_flat.specs.WalkF.{walks_f}
-use Rattle.laws_flat.proofs.Sim.{sims, sim-declr, sim-name}
+use Rattle.laws_flat.proofs.Sim.{sims, sim-name}
 use Rattle.walk_laws.proofs.Heres as heres
 use Rattle.walk_laws.proofs.Ways as ways
 use Rattle.walk_laws.proofs.Declrs as declrs

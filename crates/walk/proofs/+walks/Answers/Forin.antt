@@ -1,6 +1,6 @@
 -- The goals of forin. Assumes nothing.
 use Prim.Native.Nat.{suc, ◌+◌, ◌-◌}
-use mathlib.Core.Path.{refl, sym, ◌∙◌}
+use mathlib.Core.Path.{refl}
 use mathlib.Core.Bool.{true}
 use native.Mathlib.Omega.{arith}
 use Rattle.def_tree.specs.Combine.{◌>>=◌, ◌>>◌, ret, act, act_f, split_f, each_but_f, on_kids_f}

@@ -1,5 +1,4 @@
 -- The goals of fors. Assumes nothing.
-use mathlib.Core.Path.{refl, sym, ◌∙◌}
 use mathlib.Core.Bool.{true}
 use native.Mathlib.Omega.{arith}
 use Rattle.def_tree.specs.Combine.{each_but_f}

@@ -1,10 +1,7 @@
 -- The goals of func. Assumes nothing.
-use Prim.Native.Nat.{suc, ◌+◌}
-use mathlib.Core.Path.{sym, ◌∙◌}
+use Prim.Native.Nat.{suc}
 use native.Mathlib.Omega.{arith}
 use Rattle.def_tree.specs.Combine.{and_then, on_rest, each_but_f}
-use Rattle.words_scopes.specs.Kinds.{kind_of}
-use Rattle.words.specs.Layout.{yes}
 use Rattle.def_pass.specs.Scope.{fn as fn_kind}
 use Rattle.def_pass.specs.Walk.{opening, modify, set_pat_mode, as_param}
 use Rattle.laws_flat.specs.WalkF.{walks_f, visit_mut_function_f}

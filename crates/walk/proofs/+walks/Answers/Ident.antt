@@ -1,10 +1,8 @@
 -- The goals of ident. Assumes nothing.
-use mathlib.Core.Path.{sym}
 use mathlib.Core.Option.{some}
 use native.Mathlib.Omega.{arith}
 use Rattle.words_state.specs.State.{abs}
 use Rattle.laws_flat.specs.WalkF.{walks_f}
-use Rattle.laws_flat.proofs.Sim.{sims, sim-after_ident}
 use Rattle.walk_laws.proofs.Heres as heres
 use Rattle.walk_laws.proofs.Ways as ways
 use Rattle.walk_laws.proofs.Idents as idents

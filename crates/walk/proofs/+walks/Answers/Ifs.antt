@@ -1,6 +1,5 @@
 -- The goals of ifs. Assumes nothing.
 use Prim.Native.Nat.{◌+◌}
-use mathlib.Core.Path.{refl, sym, ◌∙◌}
 use native.Mathlib.Omega.{arith}
 use Rattle.def_tree.specs.Combine.{many, split_f}
 use Rattle.def_pass.specs.Scope.{cond as cond_kind}

@@ -1,6 +1,5 @@
 -- The goals of items. Assumes nothing.
 use Prim.Native.Nat.{◌+◌}
-use mathlib.Core.Path.{sym, ◌∙◌}
 use native.Mathlib.Omega.{arith}
 use Rattle.def_tree.specs.Combine.{split_f}
 use Rattle.laws_flat.specs.WalkF.{walks_f, visit_mut_stmts_f, script_f}

@@ -1,6 +1,5 @@
 -- The goals of logic. Assumes nothing.
 use Prim.Native.Nat.{◌+◌}
-use mathlib.Core.Path.{refl}
 use native.Mathlib.Omega.{arith}
 use lib.Dec.{eqb}
 use Rattle.def_tree.specs.Combine.{skip, many, split_f, node_at}

@@ -1,6 +1,5 @@
 -- The goals of loops. Assumes nothing.
 use Prim.Native.Nat.{◌-◌}
-use mathlib.Core.Path.{sym, ◌∙◌}
 use native.Mathlib.Omega.{arith}
 use Rattle.def_tree.proofs.Sims.{sim-each}
 use Rattle.def_pass.specs.Scope.{loop as loop_kind}

@@ -1,6 +1,6 @@
 -- The goals of name. Assumes nothing.
 use Prim.Native.Nat.{suc, ◌+◌}
-use mathlib.Core.Path.{refl, sym, ◌∙◌}
+use mathlib.Core.Path.{refl}
 use native.Mathlib.Omega.{arith}
 use Rattle.def_tree.specs.Combine.{skips}
 use Rattle.laws_flat.specs.WalkF.{walks_f}

@@ -1,6 +1,5 @@
 -- The goals of params. Assumes nothing.
 use Prim.Native.Nat.{◌-◌}
-use mathlib.Core.Path.{sym, ◌∙◌}
 use native.Mathlib.Omega.{arith}
 use Rattle.def_tree.proofs.Sims.{sim-each}
 use Rattle.laws_flat.specs.WalkF.{walks_f}

@@ -1,5 +1,4 @@
 -- The goals of parts. Assumes nothing.
-use mathlib.Core.Path.{refl, sym, ◌∙◌}
 use native.Mathlib.Omega.{arith}
 use lib.Dec.{eqb}
 use Rattle.def_tree.proofs.Sims.{sim-each, sim-skip, sim-node, sim-if}

@@ -1,5 +1,4 @@
 -- The goals of tail. Assumes nothing.
-use mathlib.Core.Path.{refl}
 use native.Mathlib.Omega.{arith}
 use Rattle.def_tree.specs.Combine.{skip, many}
 use Rattle.def_tree.proofs.Sims.{sim-skip}

@@ -1,6 +1,5 @@
 -- The goals of tries. Assumes nothing.
 use Prim.Native.Nat.{◌+◌}
-use mathlib.Core.Path.{refl, sym}
 use mathlib.Core.Bool.{true}
 use native.Mathlib.Omega.{arith}
 use Rattle.def_tree.specs.Combine.{◌>>◌, act, skip, split_f}

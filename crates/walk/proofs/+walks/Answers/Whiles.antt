@@ -1,6 +1,5 @@
 -- The goals of whiles. Assumes nothing.
 use Prim.Native.Nat.{suc}
-use mathlib.Core.Path.{sym}
 use mathlib.Core.Bool.{true}
 use native.Mathlib.Omega.{arith}
 use Rattle.def_tree.specs.Combine.{each_but_f, on_kids_f}
