@@ -3,15 +3,6 @@ use native.Mathlib.Omega.{arith}
 use Rattle.words_targets.proofs.Targets as laws
 use Rattle.words_targets.proofs.mark_targets.Goals as goal
 
-pub wipe-requires : goal.wipe-requires
-wipe-requires c = omega (arith, c.requires.long)
-
-pub bounds-w-0 : goal.bounds-w-0
-bounds-w-0 c = omega (arith, c.requires.long, c.wipe.ensures.size)
-
-pub overflow_cast-n : goal.overflow_cast-n
-overflow_cast-n c = omega (arith, c.requires.few, c.wipe.ensures.low 0 (omega arith))
-
 pub loop-k-init : goal.loop-k-init
 loop-k-init c = (laws.beside-self c.wipe.new.w, laws.sum-start c.wipe.ensures)
 
@@ -24,9 +15,6 @@ pub loop-k-preserved : goal.loop-k-preserved
 loop-k-preserved c =
     let s = laws.beside-script c.requires (laws.zeroed-beside c.wipe.ensures) in
     (laws.beside-then c.loop-k.invariant.0 c.scan_node.ensures.beside, laws.sum_step c.loop-k.k s c.loop-k.invariant.0 (omega arith) c.loop-k.invariant.1 c.scan_node.ensures)
-
-pub shape_of-w : goal.shape_of-w
-shape_of-w c = omega (arith, c.loop-k.invariant.0.size, c.wipe.ensures.size)
 
 pub returns : goal.returns
 returns c =
