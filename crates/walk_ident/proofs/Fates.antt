@@ -1,5 +1,5 @@
 -- What becomes of an identifier, from the words of its binding; the constant that it names. Assumes nothing.
-use Rattle.core.specs.Option.{option_eq}
+use Rattle.std.specs.Option.{option_eq}
 use Rattle.std.specs.Prelude as std
 use Rattle.std.proofs.Common.{◌≡◌, ℕ, zero, suc, ◌<◌, Bool, true, false, ◌&&◌, eqb, List, get_or, sym, refl, ap, ◌∙◌, arith, ne_eqb}
 use mathlib.Core.Option.{Option, none, some}

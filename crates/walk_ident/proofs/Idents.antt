@@ -1,5 +1,5 @@
 -- The walk's own steps by those of the functions here: an identifier in Analysis, and in Inlining by its fate. Assumes nothing.
-use Rattle.core.specs.Option.{option_eq}
+use Rattle.std.specs.Option.{option_eq}
 use Rattle.std.specs.Prelude as std
 use Rattle.std.proofs.Common.{◌≡◌, ℕ, zero, suc, ◌<◌, Bool, true, false, not, ◌&&◌, ◌||◌, eqb, List, length, get_or, refl, ap, ◌∙◌, arith}
 use mathlib.Core.Option.{Option, none, some}

@@ -13,8 +13,7 @@ ghost use Rattle.walk_ident.specs.Steps.{first_test, first_f};
 use super::lift_value;
 use refusal::Refusal;
 use scope::{
-    find_binding_from_current, first_value, is_inline_prevented, is_undefined,
-    var_inline_prevented,
+    find_binding_from_current, first_value, is_inline_prevented, is_undefined, var_inline_prevented,
 };
 use scope_find::ident_at;
 use words::{arity_at, kind_at};

@@ -23,7 +23,7 @@ use Rattle.words_scopes.specs.State.{Becomes, stack}
 use Rattle.scope_values.specs.Steps.{Grown}
 use Rattle.refusal.specs.declared.Refusal.{Refusal}
 use Rattle.refusal.specs.Number.{refused}
-use Rattle.core.specs.Bool.{then_some}
+use Rattle.std.specs.Bool.{then_some}
 use Rattle.scope.specs.Given.{value_at}
 use Rattle.walk_declarator.proofs.Parts.{cheap-value}
 use Rattle.words_nodes.specs.Nodes.{Planted, tree_from, forest_from}

@@ -1,5 +1,5 @@
 -- A constant is recorded in the first run, with its value if that is cheap. Assumes nothing.
-use Rattle.core.specs.Bool.{then_some}
+use Rattle.std.specs.Bool.{then_some}
 use Rattle.scope.specs.Given.{value_at}
 use Rattle.std.proofs.Common.{◌≡◌, Bool, get_or, sym, ap, ◌∙◌}
 use mathlib.Core.Option.{Option, none, some}

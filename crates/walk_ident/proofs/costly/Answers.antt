@@ -2,7 +2,7 @@
 use Rattle.std.proofs.Common.{Some, Bool, ◌&&◌, not, eqb, get_or, sym, ap, ◌∙◌}
 use Rattle.words_scopes.specs.State.{stack}
 use Rattle.words_scopes.proofs.Split.{no_bind}
-use Rattle.core.specs.Option.{option_eq}
+use Rattle.std.specs.Option.{option_eq}
 use Rattle.def_pass.specs.Scope.{VarInfo, find_binding, value_o}
 use Rattle.scope_find.specs.Look.{kind_o}
 use mathlib.Core.Option.{Option}

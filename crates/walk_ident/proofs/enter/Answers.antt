@@ -24,7 +24,7 @@ returns-in_err-open_scope c =
     let k = kind_of c.args.kind in
     let g = c.in_err-open_scope.ensures in
     exit (λ r. Act w c.open_scope.new.w (refused r) (on_rest (opening k) (abs w))) c.from_residual.result c.from_residual.ensures.1
-        (record { ok = still-ok c.requires c.open_scope.auto.w g.2; acts = laws.acts-stop _ _ (scopes.enter-full w k g.1 ∙ ap (λ (r : Refusal). stop (number r)) (sym g.0)) })
+    (record { ok = still-ok c.requires c.open_scope.auto.w g.2; acts = laws.acts-stop _ _ (scopes.enter-full w k g.1 ∙ ap (λ (r : Refusal). stop (number r)) (sym g.0)) })
 
 pub returns : goal.returns
 returns c =

@@ -8,6 +8,6 @@ returns-then-w-eq0 c = caught-on c.requires.0 c.args.kind c.args.x c.if-kind-eq2
 
 pub returns-else-kind-eq20 : goal.returns-else-kind-eq20
 returns-else-kind-eq20 c = elim c.else-kind-eq20.branch [
-      else-kind-eq20-via-else-kind-eq20 d ↦ caught-other c.requires.0 c.args.kind c.args.x d.if-kind-eq20.false
-    | else-kind-eq20-via-then-kind-eq20+else-w-eq0 d ↦ caught-off c.requires.0 c.args.kind c.args.x d.if-kind-eq20.true d.if-w-eq0.false
-    ]
+  | else-kind-eq20-via-else-kind-eq20 d ↦ caught-other c.requires.0 c.args.kind c.args.x d.if-kind-eq20.false
+  | else-kind-eq20-via-then-kind-eq20+else-w-eq0 d ↦ caught-off c.requires.0 c.args.kind c.args.x d.if-kind-eq20.true d.if-w-eq0.false
+]

@@ -15,10 +15,10 @@ returns-then-arity_at-eq0 c =
     let l = c.requires.1 in
     let a = c.arity_at.ensures in
     elim c.then-arity_at-eq0.branch [
-      then-arity_at-eq0-via-then-arity_at-eq0 d ↦ name-none i g (no-child g i l a d.if-arity_at-eq0.true)
-    | then-arity_at-eq0-via-else-arity_at-eq0+then-kind_at-ne20 d ↦
-        let z = d.if-arity_at-eq0.false in
-        name-other i (child-in g i l a z) (child-here g i l a z) g (λ (e : (node_of c.args.w.now (i + 1)).kind ≡ 20). d.if-kind_at-ne20.true (d.kind_at.ensures ∙ e))
+      | then-arity_at-eq0-via-then-arity_at-eq0 d ↦ name-none i g (no-child g i l a d.if-arity_at-eq0.true)
+      | then-arity_at-eq0-via-else-arity_at-eq0+then-kind_at-ne20 d ↦
+          let z = d.if-arity_at-eq0.false in
+          name-other i (child-in g i l a z) (child-here g i l a z) g (λ (e : (node_of c.args.w.now (i + 1)).kind ≡ 20). d.if-kind_at-ne20.true (d.kind_at.ensures ∙ e))
     ]
 
 pub write_ident-requires : goal.write_ident-requires

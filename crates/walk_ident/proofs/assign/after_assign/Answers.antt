@@ -15,10 +15,10 @@ pub returns-then-arity_at-lt2 : goal.returns-then-arity_at-lt2
 returns-then-arity_at-lt2 c =
     let w = c.args.w.now in
     elim c.then-arity_at-lt2.branch [
-      then-arity_at-lt2-via-then-arity_at-lt2 d ↦ assigns.goes-past c.args.i c.requires.0 (assigns.assign-few c.requires.0 c.args.i c.requires.1 c.args.p (omega (arith, c.arity_at.ensures, d.if-arity_at-lt2.true))) c.skip.ensures.0
-    | then-arity_at-lt2-via-else-arity_at-lt2+then-kind_at-ne20 d ↦
-        let h : 1 < (node_of w c.args.i).arity = omega (arith, c.arity_at.ensures, d.if-arity_at-lt2.false) in
-        assigns.goes-past c.args.i c.requires.0 (assigns.assign_other c.requires.0 c.args.i c.requires.1 h c.args.p (λ e. d.if-kind_at-ne20.true (d.kind_at.ensures ∙ e))) c.skip.ensures.0
+      | then-arity_at-lt2-via-then-arity_at-lt2 d ↦ assigns.goes-past c.args.i c.requires.0 (assigns.assign-few c.requires.0 c.args.i c.requires.1 c.args.p (omega (arith, c.arity_at.ensures, d.if-arity_at-lt2.true))) c.skip.ensures.0
+      | then-arity_at-lt2-via-else-arity_at-lt2+then-kind_at-ne20 d ↦
+          let h : 1 < (node_of w c.args.i).arity = omega (arith, c.arity_at.ensures, d.if-arity_at-lt2.false) in
+          assigns.goes-past c.args.i c.requires.0 (assigns.assign_other c.requires.0 c.args.i c.requires.1 h c.args.p (λ e. d.if-kind_at-ne20.true (d.kind_at.ensures ∙ e))) c.skip.ensures.0
     ]
 
 pub ident_at-x-requires : goal.ident_at-x-requires

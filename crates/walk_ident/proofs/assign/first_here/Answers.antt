@@ -20,9 +20,9 @@ returns-then-not-var_inline_prevented c =
     let e = ap (λ (o : Option VarInfo). first_test o q) c.in-Some.ensures.0 ∙ assigns.first-is o q in
     let p = c.is_inline_prevented.ensures ∙ ap (λ (o : Option Tree). prevented_o o (stack w)) (numbers.tree-in w c.args.j c.requires.1) ∙ ap (λ (t : Tree). is_inline_prevented t (stack w)) (sym (node-from w c.args.j)) in
     elim c.if-is_undefined.branch [
-      then-is_undefined d ↦
-        let u = sym c.is_undefined.ensures ∙ d.if-is_undefined.true in
-        let v : not (of_binding var_inline_prevented o) ≡ true = ap not (sym d.var_inline_prevented.ensures) ∙ sym d.value-is ∙ c.if-not-var_inline_prevented.true in
-        ap not p ∙ sym (e ∙ rw (u, v) refl)
-    | else-is_undefined d ↦ absurd (let y = sym d.value-is ∙ c.if-not-var_inline_prevented.true in cc)
+      | then-is_undefined d ↦
+          let u = sym c.is_undefined.ensures ∙ d.if-is_undefined.true in
+          let v : not (of_binding var_inline_prevented o) ≡ true = ap not (sym d.var_inline_prevented.ensures) ∙ sym d.value-is ∙ c.if-not-var_inline_prevented.true in
+          ap not p ∙ sym (e ∙ rw (u, v) refl)
+      | else-is_undefined d ↦ absurd (let y = sym d.value-is ∙ c.if-not-var_inline_prevented.true in cc)
     ]

@@ -11,9 +11,9 @@ use Rattle.walk_write.proofs.assign.assign_last.Goals.{then-n-eq0-via-then-n-eq0
 
 pub returns-then-n-eq0 : goal.returns-then-n-eq0
 returns-then-n-eq0 c = elim c.then-n-eq0.branch [
-      then-n-eq0-via-then-n-eq0 d ↦ last_none c.requires.0 c.args.n c.args.i d.if-n-eq0.true
-    | then-n-eq0-via-else-n-eq0+then-kind_at-ne20 d ↦ last-no-name c.requires.0 c.args.n c.args.i c.requires.1 d.if-n-eq0.false (λ (e : (node_of c.args.w.now c.args.i).kind ≡ 20). d.if-kind_at-ne20.true (d.kind_at.ensures ∙ e))
-    ]
+  | then-n-eq0-via-then-n-eq0 d ↦ last_none c.requires.0 c.args.n c.args.i d.if-n-eq0.true
+  | then-n-eq0-via-else-n-eq0+then-kind_at-ne20 d ↦ last-no-name c.requires.0 c.args.n c.args.i c.requires.1 d.if-n-eq0.false (λ (e : (node_of c.args.w.now c.args.i).kind ≡ 20). d.if-kind_at-ne20.true (d.kind_at.ensures ∙ e))
+]
 
 pub kind_at-requires : goal.kind_at-requires
 kind_at-requires c = (c.requires.0.good.long, omega (arith, target-in c.requires.0 c.args.n c.args.i c.requires.1 c.if-n-eq0.false, c.requires.0.good.nodes))

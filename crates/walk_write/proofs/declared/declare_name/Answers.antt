@@ -18,13 +18,13 @@ returns-then-arity_at-eq0 c =
     let l = c.requires.1 in
     let a = c.arity_at.ensures in
     elim c.then-arity_at-eq0.branch [
-      then-arity_at-eq0-via-then-arity_at-eq0 d ↦ declare-none i g (no-child g i l a d.if-arity_at-eq0.true)
-    | then-arity_at-eq0-via-else-arity_at-eq0+then-kind_at-ne20 d ↦
-        let z = d.if-arity_at-eq0.false in
-        declare-other i g (child-in g i l a z) (child-here g i l a z) (λ (e : (node_of c.args.w.now (i + 1)).kind ≡ 20). d.if-kind_at-ne20.true (d.kind_at.ensures ∙ e))
-    | then-arity_at-eq0-via-else-arity_at-eq0+else-kind_at-ne20+then-w-ne0 d ↦
-        let z = d.if-arity_at-eq0.false in
-        declare-off i g (child-in g i l a z) (child-here g i l a z) (sym d.kind_at.ensures ∙ d.if-kind_at-ne20.false) d.if-w-ne0.true
+      | then-arity_at-eq0-via-then-arity_at-eq0 d ↦ declare-none i g (no-child g i l a d.if-arity_at-eq0.true)
+      | then-arity_at-eq0-via-else-arity_at-eq0+then-kind_at-ne20 d ↦
+          let z = d.if-arity_at-eq0.false in
+          declare-other i g (child-in g i l a z) (child-here g i l a z) (λ (e : (node_of c.args.w.now (i + 1)).kind ≡ 20). d.if-kind_at-ne20.true (d.kind_at.ensures ∙ e))
+      | then-arity_at-eq0-via-else-arity_at-eq0+else-kind_at-ne20+then-w-ne0 d ↦
+          let z = d.if-arity_at-eq0.false in
+          declare-off i g (child-in g i l a z) (child-here g i l a z) (sym d.kind_at.ensures ∙ d.if-kind_at-ne20.false) d.if-w-ne0.true
     ]
 
 pub ident_at-x-requires : goal.ident_at-x-requires
