@@ -44,7 +44,8 @@ fn play(rt: &impl Print, w: &mut [u32], s: &[u8], from: usize) -> io::Result<usi
     requires { (16384 ≤ length w.old) × (from < length s.now) × (length s.now ≤ 65536) }
     ensures { (IfOk result (λ i. from < i)) × (16384 ≤ length w.new) }
 {
-    let mut done = begin(w);
+    begin(w);
+    let mut done = Ok(());
     let mut same = true;
     let mut i = from;
     // A call has four bytes.

@@ -4,7 +4,7 @@ use Rattle.scope_calls.proofs.Keep as keep
 use Rattle.scope_calls.proofs.play.Goals as goal
 
 pub loop-w-init : goal.loop-w-init
-loop-w-init g c = (c.begin-done.ensures, refl, omega arith, omega arith)
+loop-w-init g c = (c.begin.ensures, refl, omega arith, omega arith)
 
 pub next-done-requires : goal.next-done-requires
 next-done-requires g c = let l = keep.inside c.byte.ensures c.loop-w-test.true in (c.loop-w.invariant.0, omega (arith, l, c.requires.2))
@@ -28,7 +28,7 @@ pub overflow_add-result : goal.overflow_add-result
 overflow_add-result g c = omega (arith, c.loop-w.invariant.3, c.requires.2)
 
 pub shape_of-w : goal.shape_of-w
-shape_of-w g c = c.loop-w.invariant.1 ∙ c.begin-done.auto.w
+shape_of-w g c = c.loop-w.invariant.1 ∙ c.begin.auto.w
 
 pub returns : goal.returns
 returns g c = (omega (arith, c.loop-w.invariant.2), c.loop-w.invariant.0.good.long)
