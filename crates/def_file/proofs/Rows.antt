@@ -1,11 +1,11 @@
--- The rows of the kinds. Assumes nothing.
-use Rattle.std.proofs.Common.{◌≡◌, ℕ, zero, suc, ◌≤◌, ◌<◌, refl, ap, arith}
-use Rattle.def_file.specs.declared.kinds.Row.{Row}
-use Rattle.def_file.specs.Kinds.{row_of, no_row, rows}
+-- The rows of the kinds: a number that is no kind's has none. Assumes nothing.
+use Rattle.std.proofs.Common.{◌≡◌, ℕ, ◌<◌, ◌≤◌, refl, sym, ap, arith}
+use mathlib.Core.Logic.{◌⊎◌, inl, inr}
 use lib.ListN.{get_or-eq_default}
+use Rattle.def_file.specs.declared.kinds.Row.{Row}
+use Rattle.def_file.specs.Kinds.{rows, row_of, no_row}
 
--- neither 0 nor a number from 45 on is a kind
-pub row-none : (k f : ℕ) → (0 < k → 45 ≤ k) → row_of k f ≡ no_row
+pub none : (k f : ℕ) → (k ≡ 0) ⊎ (44 < k) → no_row ≡ row_of k f
 unfolding row_of
-row-none zero f h = refl
-row-none (suc k) f h = ap (λ (r : ℕ → Row). r f) (get_or-eq_default rows (λ f. no_row) (h (omega arith)))
+none k f (inl e) = rw e refl
+none k f (inr h) = let past : 45 ≤ k = omega arith in sym (ap (λ (r : ℕ → Row). r f) (get_or-eq_default rows (λ f. no_row) past))

@@ -3,3 +3,4 @@ pub mod Script
 pub mod Read
 pub mod Write
 pub mod Core
+pub mod Named

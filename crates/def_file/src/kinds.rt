@@ -1,7 +1,10 @@
-// The kinds 1 to 44 of document 01, "The tree file", with their forms, and what may stand below each. Kinds and forms are that
-// document's own numbers and no enum: what each asks is a table by these numbers.
-ghost use Rattle.std.specs.Prelude.{◌≡◌, ◌&&◌, ◌||◌, eqb, leb, ◌<◌, ◌≤◌};
-ghost use Rattle.def_file.specs.Kinds.{allows, is_stmt, is_expr, every, led, ended, for_row, try_row, case_row, new_row, function_row, head_row, arrow_row, no_row, row_of, form_ok, count_ok, child_of, uses_text, uses_bits};
+// The kinds 1 to 44 of document 01, "The tree file", with their forms, and what may stand below each.
+// Forms by number: this table is what defines them.
+ghost use Rattle.def_file.specs.Named.{Coded};
+ghost use Rattle.std.specs.Prelude.{ℕ, ◌≡◌, ◌<◌};
+ghost use Rattle.def_file.specs.Kinds.{allows, every, led, ended, for_row, try_row, case_row, new_row, function_row, head_row, arrow_row, row_of, form_ok, count_ok, child_of};
+
+use crate::kind::Kind;
 
 // What may stand at a place.
 #[derive(Clone, Copy, Debug, PartialEq, Eq)]
@@ -34,6 +37,29 @@ pub enum Class {
     Head,
 }
 
+impl Class {
+    // May a node of a kind with n children stand at the place.
+    pub fn allows(self, kind: Kind, n: usize) -> bool
+        ensures { (k : ℕ) → Coded kind k → result ≡ allows self k n }
+    {
+        match self {
+            Class::Root => kind == Kind::Script,
+            Class::Statement => kind.is_stmt(),
+            Class::Expression => kind.is_expr(),
+            Class::Binding => kind == Kind::BindingIdent,
+            Class::Block => kind == Kind::Block,
+            Class::Declarator => kind == Kind::VarDeclarator,
+            Class::Catch => kind == Kind::CatchClause,
+            Class::Case => kind == Kind::SwitchCase,
+            Class::Property => kind == Kind::Prop,
+            Class::Updated => matches!(kind, Kind::Ident | Kind::Member | Kind::Computed),
+            Class::Assigned => matches!(kind, Kind::BindingIdent | Kind::Member | Kind::Computed),
+            Class::Start => kind == Kind::VarDecl || kind.is_expr(),
+            Class::Head => kind == Kind::BindingIdent || kind == Kind::VarDecl && n == 1,
+        }
+    }
+}
+
 // What a kind asks of a node: its least and greatest form, its least and greatest number of children, and what these may be: an only
 // child, else the first, the last and those between.
 #[derive(Clone, Copy, Debug, PartialEq, Eq)]
@@ -48,41 +74,51 @@ pub struct Row {
     pub last: Class,
 }
 
-// Any count: the field for it has two bytes.
-const ANY: usize = 65535;
+impl Row {
+    // No such kind: no form will do.
+    const NONE: Row = Row {
+        from: 1,
+        to: 0,
+        least: 0,
+        most: 0,
+        only: Class::Expression,
+        first: Class::Expression,
+        rest: Class::Expression,
+        last: Class::Expression,
+    };
 
-fn is_stmt(k: usize) -> bool
-    ensures { result ≡ is_stmt k }
-{
-    matches!(k, 2..=5 | 7..=16 | 18 | 43 | 44)
-}
+    // A form, and a number of children, against the row.
+    pub fn form_ok(self, f: usize) -> bool
+        ensures { result ≡ form_ok self f }
+    {
+        (self.from..=self.to).contains(&f)
+    }
 
-fn is_expr(k: usize) -> bool
-    ensures { result ≡ is_expr k }
-{
-    matches!(k, 21..=28 | 30..=42)
-}
+    pub fn count_ok(self, n: usize) -> bool
+        ensures { result ≡ count_ok self n }
+    {
+        (self.least..=self.most).contains(&n)
+    }
 
-// May a node of kind k with n children stand at a place.
-pub fn allows(c: Class, k: usize, n: usize) -> bool
-    ensures { result ≡ allows c k n }
-{
-    match c {
-        Class::Root => k == 1,
-        Class::Statement => is_stmt(k),
-        Class::Expression => is_expr(k),
-        Class::Binding => k == 20,
-        Class::Block => k == 2,
-        Class::Declarator => k == 6,
-        Class::Catch => k == 17,
-        Class::Case => k == 19,
-        Class::Property => k == 29,
-        Class::Updated => matches!(k, 21 | 37 | 38),
-        Class::Assigned => matches!(k, 20 | 37 | 38),
-        Class::Start => k == 5 || is_expr(k),
-        Class::Head => k == 20 || (k == 5 && n == 1),
+    // What child i of n may be.
+    pub fn child(self, n: u16, i: u16) -> Class
+        ensures { result ≡ child_of self n i }
+    {
+        if n == 1 {
+            return self.only;
+        }
+        if i == 0 {
+            return self.first;
+        }
+        if usize::from(i) + 1 == usize::from(n) {
+            return self.last;
+        }
+        self.rest
     }
 }
+
+// Any count: the field for it has two bytes.
+const ANY: usize = 65535;
 
 // Forms 0 to `to`, `least` to `most` children, all of one class.
 fn every(to: usize, least: usize, most: usize, c: Class) -> Row
@@ -129,22 +165,6 @@ fn ended(to: usize, least: usize, most: usize, c: Class, z: Class) -> Row
         first: c,
         rest: c,
         last: z,
-    }
-}
-
-// No such kind: no form will do.
-fn no_row() -> Row
-    ensures { result ≡ no_row }
-{
-    Row {
-        from: 1,
-        to: 0,
-        least: 0,
-        most: 0,
-        only: Class::Expression,
-        first: Class::Expression,
-        rest: Class::Expression,
-        last: Class::Expression,
     }
 }
 
@@ -246,141 +266,99 @@ fn arrow_row(f: usize) -> Row
 
 // What a kind asks of a node of a form.
 #[tactic(auto, unfolding(crate::specs::Kinds::row_of))]
-pub fn row_of(kind: u8, form: u8) -> Row
-    ensures { result ≡ row_of kind form }
+pub fn row_of(kind: Kind, form: u8) -> Row
+    ensures { (k : ℕ) → Coded kind k → result ≡ row_of k form }
 {
     let f = usize::from(form);
     match kind {
         // script s*
-        1 => every(0, 0, ANY, Class::Statement),
+        Kind::Script => every(0, 0, ANY, Class::Statement),
         // block s*
-        2 => every(0, 0, ANY, Class::Statement),
+        Kind::Block => every(0, 0, ANY, Class::Statement),
         // empty
-        3 => every(0, 0, 0, Class::Expression),
+        Kind::Empty => every(0, 0, 0, Class::Expression),
         // e
-        4 => every(0, 1, 1, Class::Expression),
+        Kind::ExprStmt => every(0, 1, 1, Class::Expression),
         // declaration 6 (one or more; form 0 var, 1 let, 2 const)
-        5 => every(2, 1, ANY, Class::Declarator),
+        Kind::VarDecl => every(2, 1, ANY, Class::Declarator),
         // declarator b [e]
-        6 => led(0, 1, 2, Class::Binding, Class::Expression),
+        Kind::VarDeclarator => led(0, 1, 2, Class::Binding, Class::Expression),
         // function b b* 2
-        7 => ended(0, 2, ANY, Class::Binding, Class::Block),
+        Kind::FnDecl => ended(0, 2, ANY, Class::Binding, Class::Block),
         // return [e]
-        8 => every(0, 0, 1, Class::Expression),
+        Kind::Return => every(0, 0, 1, Class::Expression),
         // if e s [s]
-        9 => led(0, 2, 3, Class::Expression, Class::Statement),
+        Kind::If => led(0, 2, 3, Class::Expression, Class::Statement),
         // while e s
-        10 => led(0, 2, 2, Class::Expression, Class::Statement),
+        Kind::While => led(0, 2, 2, Class::Expression, Class::Statement),
         // do e s
-        11 => led(0, 2, 2, Class::Expression, Class::Statement),
+        Kind::DoWhile => led(0, 2, 2, Class::Expression, Class::Statement),
         // for
-        12 => for_row(f),
+        Kind::For => for_row(f),
         // for-in
-        13 => head_row(),
+        Kind::ForIn => head_row(),
         // for-of
-        14 => head_row(),
+        Kind::ForOf => head_row(),
         // throw e
-        15 => every(0, 1, 1, Class::Expression),
+        Kind::Throw => every(0, 1, 1, Class::Expression),
         // try
-        16 => try_row(f),
+        Kind::Try => try_row(f),
         // catch [b] 2
-        17 => ended(0, 1, 2, Class::Binding, Class::Block),
+        Kind::CatchClause => ended(0, 1, 2, Class::Binding, Class::Block),
         // switch e 19*
-        18 => led(0, 1, ANY, Class::Expression, Class::Case),
+        Kind::Switch => led(0, 1, ANY, Class::Expression, Class::Case),
         // case
-        19 => case_row(f),
+        Kind::SwitchCase => case_row(f),
         // binding
-        20 => every(0, 0, 0, Class::Expression),
+        Kind::BindingIdent => every(0, 0, 0, Class::Expression),
         // identifier
-        21 => every(0, 0, 0, Class::Expression),
+        Kind::Ident => every(0, 0, 0, Class::Expression),
         // null
-        22 => every(0, 0, 0, Class::Expression),
+        Kind::Null => every(0, 0, 0, Class::Expression),
         // boolean (form 0, 1)
-        23 => every(1, 0, 0, Class::Expression),
+        Kind::Bool => every(1, 0, 0, Class::Expression),
         // number
-        24 => every(0, 0, 0, Class::Expression),
+        Kind::Number => every(0, 0, 0, Class::Expression),
         // string
-        25 => every(0, 0, 0, Class::Expression),
+        Kind::Str => every(0, 0, 0, Class::Expression),
         // this
-        26 => every(0, 0, 0, Class::Expression),
+        Kind::This => every(0, 0, 0, Class::Expression),
         // array e*
-        27 => every(0, 0, ANY, Class::Expression),
+        Kind::Array => every(0, 0, ANY, Class::Expression),
         // object 29*
-        28 => every(0, 0, ANY, Class::Property),
+        Kind::Object => every(0, 0, ANY, Class::Property),
         // property, e
-        29 => every(0, 1, 1, Class::Expression),
+        Kind::Prop => every(0, 1, 1, Class::Expression),
         // unary e (0 void, 1 typeof, 2 !, 3 -, 4 +, 5 ~, 6 delete)
-        30 => every(6, 1, 1, Class::Expression),
+        Kind::Unary => every(6, 1, 1, Class::Expression),
         // update (0 `++x`, 1 `--x`, 2 `x++`, 3 `x--`) of 21, 37 or 38
-        31 => every(3, 1, 1, Class::Updated),
+        Kind::Update => every(3, 1, 1, Class::Updated),
         // binary e e (0 `&&`, 1 `||`, then 2 to 24)
-        32 => every(24, 2, 2, Class::Expression),
+        Kind::Bin => every(24, 2, 2, Class::Expression),
         // assign (0 `=`, then 1 to 15) 20, 37 or 38, e
-        33 => led(15, 2, 2, Class::Assigned, Class::Expression),
+        Kind::Assign => led(15, 2, 2, Class::Assigned, Class::Expression),
         // conditional e e e
-        34 => every(0, 3, 3, Class::Expression),
+        Kind::Cond => every(0, 3, 3, Class::Expression),
         // call e e*
-        35 => every(0, 1, ANY, Class::Expression),
+        Kind::Call => every(0, 1, ANY, Class::Expression),
         // new
-        36 => new_row(f),
+        Kind::New => new_row(f),
         // member e, text
-        37 => every(0, 1, 1, Class::Expression),
+        Kind::Member => every(0, 1, 1, Class::Expression),
         // member e e
-        38 => every(0, 2, 2, Class::Expression),
+        Kind::Computed => every(0, 2, 2, Class::Expression),
         // function expression
-        39 => function_row(f),
+        Kind::FnExpr => function_row(f),
         // arrow
-        40 => arrow_row(f),
+        Kind::Arrow => arrow_row(f),
         // parenthesis e
-        41 => every(0, 1, 1, Class::Expression),
+        Kind::Paren => every(0, 1, 1, Class::Expression),
         // sequence e e*
-        42 => every(0, 1, ANY, Class::Expression),
+        Kind::Seq => every(0, 1, ANY, Class::Expression),
         // break
-        43 => every(0, 0, 0, Class::Expression),
+        Kind::Break => every(0, 0, 0, Class::Expression),
         // continue
-        44 => every(0, 0, 0, Class::Expression),
-        _ => no_row(),
+        Kind::Continue => every(0, 0, 0, Class::Expression),
+        Kind::Invalid(_) => Row::NONE,
     }
-}
-
-// A form, and a number of children, against a row.
-pub fn form_ok(r: Row, f: usize) -> bool
-    ensures { result ≡ form_ok r f }
-{
-    (r.from..=r.to).contains(&f)
-}
-
-pub fn count_ok(r: Row, n: usize) -> bool
-    ensures { result ≡ count_ok r n }
-{
-    (r.least..=r.most).contains(&n)
-}
-
-// What child i of n may be.
-pub fn child(r: Row, n: u16, i: u16) -> Class
-    ensures { result ≡ child_of r n i }
-{
-    if n == 1 {
-        return r.only;
-    }
-    if i == 0 {
-        return r.first;
-    }
-    if usize::from(i) + 1 == usize::from(n) {
-        return r.last;
-    }
-    r.rest
-}
-
-// Is the text number of a node of kind k used; its 8 bytes.
-pub fn uses_text(k: usize) -> bool
-    ensures { result ≡ uses_text k }
-{
-    matches!(k, 20 | 21 | 25 | 29 | 37)
-}
-
-pub fn uses_bits(k: usize) -> bool
-    ensures { result ≡ uses_bits k }
-{
-    matches!(k, 20 | 21 | 24)
 }

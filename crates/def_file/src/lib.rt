@@ -1,9 +1,20 @@
 // The tree file of document 01: its nodes and their kinds. Reading and writing stand in the crate `file_read`.
 #![tactic(auto)]
 
+ghost use Rattle.std.specs.Prelude.{◌≡◌};
+
+pub mod form;
+pub mod kind;
 pub mod kinds;
 
-// A node as the file holds it. `bits`: context or number.
+// What tells identifiers apart.
+#[derive(Clone, Copy, Debug, PartialEq, Eq)]
+pub struct Ident {
+    pub text: u32,
+    pub context: u64,
+}
+
+// A node as the file holds it: the file's bytes, read before it is known that they are kinds and forms. `bits`: context or number.
 #[derive(Clone, Copy, Debug, PartialEq, Eq)]
 pub struct Raw {
     pub kind: u8,
@@ -22,4 +33,14 @@ impl Raw {
         text: 0,
         bits: 0,
     };
+
+    // The identifier of a binding or an identifier.
+    pub fn ident(self) -> Ident
+        ensures { (result.text ≡ self.text) × (result.context ≡ self.bits) }
+    {
+        Ident {
+            text: self.text,
+            context: self.bits,
+        }
+    }
 }

@@ -10,7 +10,7 @@ use file_write::write;
 use refusal::Refusal;
 use words::clear;
 
-// A refusal's number, or 0 and the length of what was written.
+// A refusal's number, or 0 and the length of what was written: numbers, since C reads it.
 #[repr(C)]
 #[derive(Clone, Copy, Debug, PartialEq, Eq)]
 pub struct Copied {

@@ -1,4 +1,6 @@
-// A tree file read and written back for C callers: the function of crates/file_copy, under its name and with its promise, in an archive.
+// A tree file read and written back for C callers: the function of crates/file_copy, under its name and with its promise, in an archive. What it
+// answers is a struct that C reads, so that a refusal is a number in it. A static library exports what stands in its own crate, so that the function
+// stands here again.
 #![tactic(auto)]
 
 ghost use Rattle.file_copy.specs.Copy.{CopyIs};

@@ -14,6 +14,7 @@ fn bytes_at<const N: usize>(b: &[u8], i: usize) -> [u8; N]
     bytes
 }
 
+// The three fields differ in their type: the integers have from_le_bytes and share no trait with it.
 fn u16_at(b: &[u8], i: usize) -> u16
     requires { i + 2 ≤ length b.now }
     ensures { result ≡ number 2 (drop i b.now) }
@@ -47,4 +48,12 @@ pub fn raw_at(b: &[u8], i: usize) -> Raw
         text: u32_at(b, i + 4),
         bits: u64_at(b, i + 8),
     }
+}
+
+// Node k of a file: the nodes stand behind a header of 32 bytes.
+pub fn node_at(file: &[u8], k: usize) -> Raw
+    requires { 32 + 16 * k + 16 ≤ length file.now }
+    ensures { result ≡ raw_of (drop (32 + 16 * k) file.now) }
+{
+    raw_at(file, 32 + 16 * k)
 }

@@ -5,7 +5,8 @@ ghost use Rattle.file_fields.specs.Text.{Stored, Placed, start_of, text_in, text
 
 use crate::fields::u32_at;
 
-// Where a file's texts stand: as many ends as there are texts from byte `ends` on, and the texts' bytes from byte `bytes` on.
+// Where a file's texts stand: as many ends as there are texts from byte `ends` on, and the texts' bytes from byte `bytes` on. Without the file, since
+// the places are worked out for a file that is still to be written too.
 #[derive(Clone, Copy, Debug, PartialEq, Eq)]
 pub struct Texts {
     pub ends: usize,

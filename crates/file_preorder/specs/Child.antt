@@ -49,7 +49,6 @@ pub record Room (bs : List ℕ) (n : ℕ) : Type 0 where
 
 -- the node at index `at` fits the place p
 pub record Fitting (bs : List ℕ) (n t at : ℕ) (p : Place) : Type 0 where
-  pub room : Room bs n
   pub shallow : p.left ≤ 200
   pub less : at < n
   pub fits : node_ok t p (get_or (nodes_of bs n) at zero_node) ≡ true

@@ -9,11 +9,12 @@ ghost use Rattle.def_file.specs.Read.{fields_ok, fills};
 ghost use Rattle.file_preorder.specs.Child.{behind, place, root_place, nodes_of, Room, Fitting, Filled};
 
 use def_file::Raw;
-use def_file::kinds::{Class, allows, child, count_ok, form_ok, row_of, uses_bits, uses_text};
-use file_fields::fields::raw_at;
+use def_file::kind::Kind;
+use def_file::kinds::{Class, row_of};
+use file_fields::fields::node_at;
 use refusal::Refusal;
 
-// What was read with all below it, a binding or another node, and the index behind it.
+// What was read with all below it, a binding or another node, and the index behind it. No Option and no Result: something was read in both cases.
 #[derive(Clone, Copy, Debug, PartialEq, Eq)]
 pub enum Child {
     Binding(usize),
@@ -35,22 +36,24 @@ impl Child {
 fn fields_ok(x: Raw, t: usize) -> bool
     ensures { result ≡ fields_ok t x }
 {
-    let k = usize::from(x.kind);
+    let kind = Kind::from(x.kind);
     let text = x.text as usize;
-    let known = if uses_text(k) { text < t } else { text == 0 };
-    known && (uses_bits(k) || x.bits == 0)
+    let known = if kind.uses_text() {
+        text < t
+    } else {
+        text == 0
+    };
+    known && (kind.uses_bits() || x.bits == 0)
 }
 
 // A node that fills a place of a class, in a script with t texts.
 fn node_ok(x: Raw, c: Class, t: usize) -> bool
     ensures { result ≡ (allows c x.kind x.arity && fields_ok t x && form_ok (row_of x.kind x.form) x.form && count_ok (row_of x.kind x.form) x.arity) }
 {
+    let kind = Kind::from(x.kind);
     let n = usize::from(x.arity);
-    let row = row_of(x.kind, x.form);
-    allows(c, usize::from(x.kind), n)
-        && fields_ok(x, t)
-        && form_ok(row, usize::from(x.form))
-        && count_ok(row, n)
+    let row = row_of(kind, x.form);
+    c.allows(kind, n) && fields_ok(x, t) && row.form_ok(usize::from(x.form)) && row.count_ok(n)
 }
 
 // A script of a file: its nodes, and how many texts they may name.
@@ -59,8 +62,10 @@ struct Nodes<'a> {
     file: &'a [u8],
     count: usize,
     texts: usize,
+    ghost room: { Room file.now count },
 }
 
+// A place is its class and the levels left: each call has another of both, so that a struct of the two would be made anew for each.
 impl Nodes<'_> {
     // The children of the node at index `at`, which fills a place of class c with `left` levels.
     #[cycle(children_declarator_node)]
@@ -68,19 +73,19 @@ impl Nodes<'_> {
         requires { Fitting self.file.now self.count self.texts at (place c left) }
         ensures { Filled self.entry.texts (nodes_of self.entry.file.now self.entry.count) (place c left) at result }
     {
-        let x = raw_at(self.file, 32 + 16 * at);
-        let row = row_of(x.kind, x.form);
+        let x = node_at(self.file, at);
+        let kind = Kind::from(x.kind);
+        let row = row_of(kind, x.form);
         let count = x.arity;
         let mut next = at + 1;
         for i in 0..count {
-            let class = child(row, count, i);
+            let class = row.child(count, i);
             let answer = self.node(next, class, left - 1)?;
             next = answer.behind();
         }
-        if x.kind == 20 {
-            Ok(Child::Binding(next))
-        } else {
-            Ok(Child::Other(next))
+        match kind {
+            Kind::BindingIdent => Ok(Child::Binding(next)),
+            _ => Ok(Child::Other(next)),
         }
     }
 
@@ -90,7 +95,7 @@ impl Nodes<'_> {
         requires { Fitting self.file.now self.count self.texts at (place c left) × ((get_or (nodes_of self.file.now self.count) at zero_node).kind ≡ 6) }
         ensures { Filled self.entry.texts (nodes_of self.entry.file.now self.entry.count) (place c left) at result }
     {
-        let x = raw_at(self.file, 32 + 16 * at);
+        let x = node_at(self.file, at);
         let name = self.node(at + 1, Class::Binding, left - 1)?;
         let Child::Binding(next) = name else {
             return Err(Refusal::Nodes);
@@ -105,20 +110,19 @@ impl Nodes<'_> {
     // The node at index `at` and all below it, at a place of class c with `left` levels.
     #[cycle(children_declarator_node)]
     fn node(self, at: usize, c: Class, left: usize) -> Result<Child, Refusal>
-        requires { Room self.file.now self.count × (left ≤ 200) }
+        requires { left ≤ 200 }
         ensures { Filled self.entry.texts (nodes_of self.entry.file.now self.entry.count) (place c left) at result }
     {
         if self.count <= at || left == 0 {
             return Err(Refusal::Nodes);
         }
-        let x = raw_at(self.file, 32 + 16 * at);
+        let x = node_at(self.file, at);
         if !node_ok(x, c, self.texts) {
             return Err(Refusal::Nodes);
         }
-        if x.kind == 6 {
-            self.declarator(at, c, left)
-        } else {
-            self.children(at, c, left)
+        match Kind::from(x.kind) {
+            Kind::VarDeclarator => self.declarator(at, c, left),
+            _ => self.children(at, c, left),
         }
     }
 }

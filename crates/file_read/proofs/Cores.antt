@@ -15,10 +15,11 @@ use lib.ListN.{length, get_or, drop, take, set, length-set, length-append, take-
 use lib.Seq.{take-suc, take-length, get_or-set_same, get_or-set_other}
 use Rattle.def_tree.specs.Base.{pick, to_nat}
 use Rattle.def_tree.specs.Tree.{Core, core, no_core}
-use Rattle.words.specs.Tab.{tab, tab-suc, tab-ext}
-use Rattle.words.specs.Layout.{node_of, tree}
+use Rattle.words.specs.Tab.{tab}
+use Rattle.words.specs.Layout.{tree}
 use Rattle.words.specs.Moved.{Zeroed}
-use Rattle.words.proofs.Nodes.{core-same, unpack-kind, unpack-form, unpack-arity, beyond-same}
+use Rattle.words.specs.Node.{Apart}
+use Rattle.words.proofs.Nodes.{tree-length, beyond-same}
 use Rattle.def_file.specs.declared.Raw.{Raw}
 use Rattle.def_file.specs.declared.kinds.Class.TheVariants.{Root}
 use Rattle.def_file.specs.declared.kinds.Row.{Row}
@@ -28,7 +29,7 @@ use Rattle.def_file.specs.Core.{core_node, core_from, core_nodes}
 use Rattle.def_file.specs.Read.{raw_of, Place, fields_ok, node_ok, below, fills, nodes_ok}
 use Rattle.file_read.specs.Idents.{ids_of, Listed, Texted}
 use Rattle.file_read.specs.Head.{places}
-use Rattle.file_read.specs.Load.{Appended, script_of, Loaded, Loading, Kept}
+use Rattle.file_read.specs.Load.{script_of, Loaded, Loading, Kept}
 use Rattle.file_fields.specs.Text.{text_in}
 use Rattle.file_fields.proofs.Raws.{nodes-length, node-raw}
 use Rattle.file_fields.proofs.Strings.{count-texts, text-is}
@@ -247,46 +248,9 @@ module _ (s : Script) (k : ℕ) (h : k < length s.nodes) where
   pub ids_more : length (enter (enter_all [] (take k s.nodes)) (get_or s.nodes k zero_node)) ≤ length (idents s)
   ids_more = rw (all_ids, ← ids_next) (keeps-all (get_or s.nodes k zero_node) (enter_all [] (take (k + 1) s.nodes)) (drop (k + 1) s.nodes)).more
 
--- three words stored: a node behind the k nodes, and the count
-module _ (w : List ℕ) (k kind form arity num : ℕ) (long : 16384 ≤ length w) (less : k < 1024) (count : get_or w 0 0 ≡ k) (hk : kind < 64) (hf : form < 32) (ha : arity < 65536) where
-  abbrev v : ℕ
-  v = kind + 64 * (form + 32 * arity)
-
-  abbrev w' : List ℕ
-  w' = set (set (set w (16 + k * 2) v) (16 + k * 2 + 1) num) 0 (k + 1)
-
-  put-size : length w' ≡ length w
-  put-size = simp length-set
-
-  put_other : (j : ℕ) → (j ≡ 0 → ⊥) → (j ≡ 16 + k * 2 → ⊥) → (j ≡ 16 + k * 2 + 1 → ⊥) → get_or w' j 0 ≡ get_or w j 0
-  put_other j a b c = get_or-set_other (set (set w (16 + k * 2) v) (16 + k * 2 + 1) num) 0 j (k + 1) 0 a ∙ get_or-set_other (set w (16 + k * 2) v) (16 + k * 2 + 1) j num 0 c ∙ get_or-set_other w (16 + k * 2) j v 0 b
-
-  put_count : get_or w' 0 0 ≡ k + 1
-  put_count = get_or-set_same (set (set w (16 + k * 2) v) (16 + k * 2 + 1) num) 0 (k + 1) 0 (simp length-set (omega arith))
-
-  put-head : get_or w' (16 + k * 2) 0 ≡ v
-  put-head = get_or-set_other (set (set w (16 + k * 2) v) (16 + k * 2 + 1) num) 0 (16 + k * 2) (k + 1) 0 (λ e. omega (arith, e)) ∙ get_or-set_other (set w (16 + k * 2) v) (16 + k * 2 + 1) (16 + k * 2) num 0 (λ e. omega (arith, e)) ∙ get_or-set_same w (16 + k * 2) v 0 (omega arith)
-
-  put-num : get_or w' (16 + k * 2 + 1) 0 ≡ num
-  put-num = get_or-set_other (set (set w (16 + k * 2) v) (16 + k * 2 + 1) num) 0 (16 + k * 2 + 1) (k + 1) 0 (λ e. omega (arith, e)) ∙ get_or-set_same (set w (16 + k * 2) v) (16 + k * 2 + 1) num 0 (simp length-set (omega arith))
-
-  put-node : node_of w' k ≡ core kind form arity num
-  put-node = rw (put-head, put-num, unpack-kind kind form arity hk hf, unpack-form kind form arity hk hf, unpack-arity kind form arity hk hf ha) refl
-
-  pub put-tree : tree w' ≡ tree w ++ (core kind form arity num ∷ [])
-  unfolding tree
-  put-tree =
-      ap (λ (n : ℕ). tab n (λ j. node_of w' j)) put_count ∙ tab-suc k (λ j. node_of w' j)
-      ∙ ap₂ {C = List Core} (λ xs y. xs ++ (y ∷ [])) (tab-ext k (λ j. node_of w' j) (λ j. node_of w j) (λ j l. core-same w w' (16 + j * 2) (16 + j * 2) (put_other (16 + j * 2) (λ e. omega (arith, e)) (λ e. omega (arith, e)) (λ e. omega (arith, e))) (put_other (16 + j * 2 + 1) (λ e. omega (arith, e)) (λ e. omega (arith, e)) (λ e. omega (arith, e)))) ∙ ap (λ (n : ℕ). tab n (λ j. node_of w j)) (sym count)) put-node
-
-  pub appended : Appended w w' (core kind form arity num)
-  appended = record {
-    size = put-size;
-    count = put_count ∙ omega arith;
-    tree = put-tree;
-    first = λ j l h. put_other j (λ e. omega (arith, e)) (λ e. omega (arith, e)) (λ e. omega (arith, e));
-    last = λ j l. put_other j (λ e. omega (arith, e)) (λ e. omega (arith, e)) (λ e. omega (arith, e));
-  }
+-- a node more in the tree
+abbrev Added : List ℕ → List ℕ → Core → Type 0
+Added w w' c = (tree w' ≡ tree w ++ (c ∷ [])) × Apart w w'
 
 -- the kinds of literals, and those of neither a literal nor a name
 lit-kinds : (x : Raw) → 22 ≤ x.kind → x.kind ≤ 25 → is_lit x ≡ true
@@ -334,25 +298,25 @@ module _ {bs w : List ℕ} {n t k : ℕ} (L : Loading bs w n t k) where
   pub loading-name : has_id x ≡ true → text_in bs (places n t).ends (places n t).bytes x.text ≡ text_at s x.text
   loading-name h = sym (text-is L.readable.placed x.text (loading-text h))
 
-  pub loaded-more : {w₁ w₂ : List ℕ} {c : Core} → c ≡ core_node s (k + 1) x → tree w₁ ≡ tree w → get_or w₁ 0 0 ≡ get_or w 0 0 → ids_of bs w₁ ≡ enter (ids_of bs w) x → Listed w₁ n → Texted bs w₁ → Appended w₁ w₂ c → Loaded bs w₂ n t (k + 1)
-  loaded-more {w₁} {w₂} e a b i l v p =
-      let four : get_or w₂ 4 0 ≡ get_or w₁ 4 0 = p.first 4 (omega arith) (omega arith) in
-      let list : (i : ℕ) → i < get_or w₁ 4 0 → get_or w₂ (15504 + i) 0 ≡ get_or w₁ (15504 + i) 0 = λ i h. p.last (15504 + i) (omega arith) in
+  pub loaded-more : {w₁ w₂ : List ℕ} {c : Core} → c ≡ core_node s (k + 1) x → tree w₁ ≡ tree w → get_or w₁ 0 0 ≡ get_or w 0 0 → ids_of bs w₁ ≡ enter (ids_of bs w) x → Listed w₁ n → Texted bs w₁ → Added w₁ w₂ c → Loaded bs w₂ n t (k + 1)
+  loaded-more {w₁} {w₂} {c} e a b i l v p =
+      let four : get_or w₂ 4 0 ≡ get_or w₁ 4 0 = p.1.low 4 (omega arith) (omega arith) in
+      let list : (i : ℕ) → i < get_or w₁ 4 0 → get_or w₂ (15504 + i) 0 ≡ get_or w₁ (15504 + i) 0 = λ i h. p.1.high (15504 + i) (omega arith) in
       record {
-        count = p.count ∙ ap (λ (m : ℕ). m + 1) (b ∙ L.loaded.count);
-        tree = p.tree ∙ ap₂ {C = List Core} (λ xs y. xs ++ (y ∷ [])) (a ∙ L.loaded.tree) e ∙ sym (core-next s k long-nodes);
+        count = sym (tree-length w₂) ∙ ap (λ (xs : List Core). length xs) p.0 ∙ length-append (tree w₁) (c ∷ []) ∙ omega (arith, tree-length w₁, b, L.loaded.count);
+        tree = p.0 ∙ ap₂ {C = List Core} (λ xs y. xs ++ (y ∷ [])) (a ∙ L.loaded.tree) e ∙ sym (core-next s k long-nodes);
         ids = ids-same bs w₁ w₂ four list ∙ i ∙ ap (λ (is : List Raw). enter is x) L.loaded.ids ∙ sym (ids_next s k long-nodes);
-        listed = listed_same w₁ w₂ n p.size four list l;
-        texted = texted-same bs w₁ w₂ four (λ j h. p.last j (omega arith)) v;
+        listed = listed_same w₁ w₂ n p.1.size four list l;
+        texted = texted-same bs w₁ w₂ four (λ j h. p.1.high j (omega arith)) v;
       }
 
-  loaded-as : {w₂ : List ℕ} {c : Core} → c ≡ core_node s (k + 1) x → has_id x ≡ false → Appended w w₂ c → Loaded bs w₂ n t (k + 1)
+  loaded-as : {w₂ : List ℕ} {c : Core} → c ≡ core_node s (k + 1) x → has_id x ≡ false → Added w w₂ c → Loaded bs w₂ n t (k + 1)
   loaded-as e z p = loaded-more e refl refl (sym (enter-none (ids_of bs w) x z)) L.loaded.listed L.loaded.texted p
 
-  pub loaded-lit : {w₂ : List ℕ} → 22 ≤ x.kind → x.kind ≤ 25 → Appended w w₂ (core 22 0 0 (k + 1)) → Loaded bs w₂ n t (k + 1)
+  pub loaded-lit : {w₂ : List ℕ} → 22 ≤ x.kind → x.kind ≤ 25 → Added w w₂ (core 22 0 0 (k + 1)) → Loaded bs w₂ n t (k + 1)
   loaded-lit h l p = let lit = lit-kinds x h l in loaded-as (sym (core-lit s (k + 1) x lit)) (lit-no-id x (is_T (is_lit x) lit)) p
 
-  pub loaded-plain : {w₂ : List ℕ} {kind form arity : ℕ} → kind ≡ x.kind → form ≡ x.form → arity ≡ x.arity → (20 ≤ x.kind → 26 ≤ x.kind) → Appended w w₂ (core kind form arity (k + 1)) → Loaded bs w₂ n t (k + 1)
+  pub loaded-plain : {w₂ : List ℕ} {kind form arity : ℕ} → kind ≡ x.kind → form ≡ x.form → arity ≡ x.arity → (20 ≤ x.kind → 26 ≤ x.kind) → Added w w₂ (core kind form arity (k + 1)) → Loaded bs w₂ n t (k + 1)
   loaded-plain q f a h p = let z = plain-kinds x h in loaded-as (rw (q, f, a) (sym (core-plain s (k + 1) x z.0 z.1))) z.1 p
 
   -- the number that its identifier has in the end

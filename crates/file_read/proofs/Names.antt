@@ -1,5 +1,5 @@
 -- Identifiers and the list of them in the words. Assumes nothing.
-use mathlib.Core.Path.{◌≡◌, refl, sym, ap, ap₂, ◌∙◌, subst}
+use mathlib.Core.Path.{◌≡◌, refl, ap, ap₂, ◌∙◌, subst}
 use mathlib.Core.Bool.{Bool, true, false, ◌&&◌, ◌||◌}
 use mathlib.Core.List.{List, [], ◌∷◌, ◌++◌}
 use mathlib.Core.Logic.{◌⊎◌, inl, inr, ⊎_elim}
@@ -7,24 +7,16 @@ use Prim.Native.Nat.{ℕ, zero, suc, ◌+◌, ◌≤◌, ◌<◌}
 use native.Mathlib.Nat.{eq-or-lt_of_le}
 use native.Mathlib.Numerals.{add-one}
 use native.Mathlib.Omega.{arith}
-use borrow.Author.Tests.{eq-eqb, ne_eqb}
+use borrow.Author.Tests.{ne_eqb}
 use lib.Dec.{T, eqb, eqb_refl}
 use lib.ListN.{length, get_or, drop, set, length-set}
-use lib.Seq.{drop-cons, drop-drop, get_or-set_same, get_or-set_other}
+use lib.Seq.{drop-cons, get_or-set_same, get_or-set_other}
 use Rattle.def_tree.specs.Base.{pick}
 use Rattle.words.specs.Tab.{same_or_not, tab, tab-suc, tab-ext, length-tab, get_d-tab}
 use Rattle.def_file.specs.declared.Raw.{Raw}
 use Rattle.def_file.specs.Script.{zero_node, has_id, same_id, known, enter, place_of}
-use Rattle.def_file.specs.Read.{number, u32, raw_of}
 use Rattle.file_read.specs.Idents.{numbered, ids_of, Listed, Texted, FirstSet}
 use Rattle.file_fields.proofs.Tests.{T-is}
-
--- an identifier's fields in the file
-pub text-field : (bs : List ℕ) (a : ℕ) → (raw_of (drop a bs)).text ≡ u32 bs (a + 4)
-text-field bs a = ap (number 4) (drop-drop 4 a bs)
-
-pub bits-field : (bs : List ℕ) (a : ℕ) → (raw_of (drop a bs)).bits ≡ number 8 (drop (a + 8) bs)
-bits-field bs a = ap (number 8) (drop-drop 8 a bs)
 
 pub same_refl : (x : Raw) → same_id x x ≡ true
 same_refl x = rw (T-is (eqb x.text x.text) (eqb_refl x.text), T-is (eqb x.bits x.bits) (eqb_refl x.bits)) refl
@@ -222,13 +214,6 @@ module _ (bs w : List ℕ) (n m : ℕ) (L : Listed w n) (room : get_or w 4 0 < 2
           (λ (z : get_or w (15760 + t) 0 ≡ 0 → ⊥). let h : 0 < get_or w (15760 + t) 0 = omega (arith, z) in (omega (arith, kept t h), omega (arith, kept t h, X.high t small)))
           (same_or_not (get_or w (15760 + t) 0) 0)
 
--- two nodes have one identifier: by their texts' numbers, then by their contexts
-module _ (bs : List ℕ) (a b : ℕ) {p q : ℕ} (ep : p ≡ u32 bs (a + 4)) (eq : q ≡ u32 bs (b + 4)) where
-  texts-eqb : eqb (raw_of (drop a bs)).text (raw_of (drop b bs)).text ≡ eqb p q
-  texts-eqb = ap₂ {C = Bool} eqb (text-field bs a ∙ sym ep) (text-field bs b ∙ sym eq)
-
-  pub same_by : p ≡ q → same_id (raw_of (drop a bs)) (raw_of (drop b bs)) ≡ eqb (number 8 (drop (a + 8) bs)) (number 8 (drop (b + 8) bs))
-  same_by h = ap₂ {C = Bool} ◌&&◌ (texts-eqb ∙ eq-eqb p q h) (ap₂ {C = Bool} eqb (bits-field bs a) (bits-field bs b))
-
-  pub same_not : (p ≡ q → ⊥) → same_id (raw_of (drop a bs)) (raw_of (drop b bs)) ≡ false
-  same_not h = ap {B = Bool} (λ (c : Bool). c && eqb (raw_of (drop a bs)).bits (raw_of (drop b bs)).bits) (texts-eqb ∙ ne_eqb p q h)
+-- two nodes have one identifier, by the fields of theirs
+pub same_as : (x y : Raw) {p q r s : ℕ} → p ≡ x.text → q ≡ x.bits → r ≡ y.text → s ≡ y.bits → same_id x y ≡ (eqb p r && eqb q s)
+same_as x y e f g h = rw (e, f, g, h) refl

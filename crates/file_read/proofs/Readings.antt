@@ -4,7 +4,7 @@ use mathlib.Core.Bool.{Bool, true, false, ◌&&◌}
 use mathlib.Core.List.{List, [], ◌∷◌}
 use Prim.Native.Nat.{ℕ, ◌+◌, ◌-◌, ◌*◌, ◌≤◌}
 use native.Mathlib.Omega.{arith}
-use borrow.Author.Tests.{le-leb, lt-leb}
+use borrow.Author.Tests.{le-leb}
 use lib.Dec.{leb}
 use lib.ListN.{length, drop, take}
 use lib.Seq.{take-length}
@@ -141,9 +141,3 @@ module _ {bs : List ℕ} {h : Header} (C : CheckIs bs (Ok h)) where
 
       same : h ≡ counts_of bs s₀
       same = triple (sym (nodes-length h.nodes (drop 32 bs))) (sym (count-texts C.1.placed)) C.0.bytes
-
-  pub loaded-over : {w w' : List ℕ} {m : Refusal} → Done bs w w' h.nodes h.texts (Err m) → LoadIs bs w w' (Err m)
-  loaded-over d = rw d.next.0 (load_is (bad 7) (row7 false (lt-leb (length (idents s₀)) 256 d.next.1)) refl tt d.kept)
-
-pub loaded-not : {bs w : List ℕ} {m : Refusal} → CheckIs bs (Err m) → LoadIs bs w w (Err m)
-loaded-not {m = m} e = load_is (bad (number m)) e refl tt (record { size = refl; rest = refl })

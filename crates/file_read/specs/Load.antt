@@ -1,23 +1,14 @@
 -- What loading a script's core into the words promises. Assumes nothing: these are definitions.
-use Rattle.std.specs.Prelude.{◌≡◌, true, List, [], ◌∷◌, ◌++◌, ℕ, ◌+◌, ◌*◌, ◌≤◌, ◌<◌, length, get_or, drop, take, Result, Ok, Err}
+use Rattle.std.specs.Prelude.{◌≡◌, true, List, [], ℕ, ◌+◌, ◌*◌, ◌≤◌, ◌<◌, length, get_or, drop, take, Result, Ok, Err}
 use Rattle.refusal.specs.declared.Refusal.{Refusal}
 use Rattle.refusal.specs.declared.Refusal.TheVariants as Row
-use Rattle.def_tree.specs.Tree.{Core}
-use Rattle.words.specs.Layout.{Agree, tree, beyond}
+use Rattle.words.specs.Layout.{tree, beyond}
 use Rattle.def_file.specs.Script.{Script, has_id, enter_all, idents}
 use Rattle.def_file.specs.Core.{core_nodes}
 use Rattle.def_file.specs.Read.{nodes_from, raw_of, nodes_ok}
 use Rattle.file_fields.specs.Text.{texts_of, Placed}
 use Rattle.file_read.specs.Head.{places}
 use Rattle.file_read.specs.Idents.{ids_of, Listed, Texted}
-
--- a node more in the tree; the words of the scopes and identifiers as they were
-pub record Appended (w w' : List ℕ) (c : Core) : Type 0 where
-  pub size : length w' ≡ length w
-  pub count : get_or w' 0 0 ≡ get_or w 0 0 + 1
-  pub tree : tree w' ≡ tree w ++ (c ∷ [])
-  pub first : Agree 1 16 w w'
-  pub last : (j : ℕ) → 2064 ≤ j → get_or w' j 0 ≡ get_or w j 0
 
 -- the script of a file of n nodes and t texts
 abbrev pub script_of : List ℕ → ℕ → ℕ → Script

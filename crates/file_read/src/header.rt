@@ -28,27 +28,35 @@ impl Header {
             count: self.texts,
         }
     }
-}
 
-// Row 3: 1 to 1,024 nodes, at most 256 texts, at most 4,096 text bytes.
-fn counts_ok(h: Header) -> bool
-    ensures { result ≡ (leb 1 h.nodes && leb h.nodes 1024 && leb h.texts 256 && leb h.bytes 4096) }
-{
-    (1..=1024).contains(&h.nodes) && h.texts <= 256 && h.bytes <= 4096
-}
+    // How long the file is.
+    pub fn total(self) -> usize
+        requires { (self.nodes ≤ 1024) × (self.texts ≤ 256) × (self.bytes ≤ 4096) }
+        ensures { result ≡ 32 + 16 * self.nodes + 4 * self.texts + self.bytes }
+    {
+        self.places().bytes + self.bytes
+    }
 
-// Row 4: each offset, and the length, is the sum of its parts; the length is that of the bytes given.
-fn sums_ok(file: &[u8], h: Header) -> bool
-    requires { (32 ≤ length file.now) × (h.nodes ≤ 1024) × (h.texts ≤ 256) × (h.bytes ≤ 4096) }
-    ensures { result ≡ (eqb (u32 file.now 4) (length file.now) && eqb (u32 file.now 12) 32 && eqb (u32 file.now 20) (32 + 16 * h.nodes) && eqb (u32 file.now 24) (32 + 16 * h.nodes + 4 * h.texts) && eqb (u32 file.now 4) (32 + 16 * h.nodes + 4 * h.texts + h.bytes)) }
-{
-    let total = word(file, 4);
-    let at = h.places();
-    total == file.len()
-        && word(file, 12) == 32
-        && word(file, 20) == at.ends
-        && word(file, 24) == at.bytes
-        && total == at.bytes + h.bytes
+    // Row 3: 1 to 1,024 nodes, at most 256 texts, at most 4,096 text bytes.
+    fn counts_ok(self) -> bool
+        ensures { result ≡ (leb 1 self.nodes && leb self.nodes 1024 && leb self.texts 256 && leb self.bytes 4096) }
+    {
+        (1..=1024).contains(&self.nodes) && self.texts <= 256 && self.bytes <= 4096
+    }
+
+    // Row 4: each offset, and the length, is the sum of its parts; the length is that of the bytes given.
+    fn sums_ok(self, file: &[u8]) -> bool
+        requires { (32 ≤ length file.now) × (self.nodes ≤ 1024) × (self.texts ≤ 256) × (self.bytes ≤ 4096) }
+        ensures { result ≡ (eqb (u32 file.now 4) (length file.now) && eqb (u32 file.now 12) 32 && eqb (u32 file.now 20) (32 + 16 * self.nodes) && eqb (u32 file.now 24) (32 + 16 * self.nodes + 4 * self.texts) && eqb (u32 file.now 4) (32 + 16 * self.nodes + 4 * self.texts + self.bytes)) }
+    {
+        let total = word(file, 4);
+        let at = self.places();
+        total == file.len()
+            && word(file, 12) == 32
+            && word(file, 20) == at.ends
+            && word(file, 24) == at.bytes
+            && total == self.total()
+    }
 }
 
 fn word(file: &[u8], i: usize) -> usize
@@ -69,10 +77,10 @@ pub fn read_header(file: &[u8]) -> Result<Header, Refusal>
         texts: word(file, 16),
         bytes: word(file, 28),
     };
-    if !counts_ok(h) {
+    if !h.counts_ok() {
         return Err(Refusal::Counts);
     }
-    if !sums_ok(file, h) {
+    if !h.sums_ok(file) {
         return Err(Refusal::Layout);
     }
     Ok(h)

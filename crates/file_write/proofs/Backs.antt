@@ -1,12 +1,12 @@
 -- A node and an identifier by their numbers, and the bytes of all nodes. Assumes nothing.
 use mathlib.Core.Path.{◌≡◌, refl, sym, ap, ◌∙◌}
-use mathlib.Core.Bool.{true, false, ◌&&◌, ◌||◌}
+use mathlib.Core.Bool.{true, ◌&&◌}
 use mathlib.Core.List.{List, [], ◌∷◌, ◌++◌, map, map-append, append-nil}
 use Prim.Native.Nat.{ℕ, zero, suc, ◌+◌, ◌*◌, ◌≤◌, ◌<◌}
 use native.Mathlib.Omega.{arith}
-use borrow.Author.Tests.{lt-ltb, le-ltb, leb-true}
-use lib.Dec.{leb, eqb}
-use lib.ListN.{length, get_or, get_or-eq_default}
+use borrow.Author.Tests.{lt-ltb, le-ltb}
+use lib.Dec.{leb}
+use lib.ListN.{get_or}
 use lib.Seq.{sets}
 use Rattle.def_tree.specs.Tree.{Core}
 use Rattle.def_file.specs.declared.Raw.{Raw}
@@ -16,9 +16,8 @@ use Rattle.def_file.specs.Write.{raw_bytes, node_bytes}
 use Rattle.words.specs.Tab.{tab, tab-suc, length-tab}
 use Rattle.words.specs.Layout.{node_of, tree}
 use Rattle.file_read.specs.Idents.{numbered}
-use Rattle.laws_roundtrip.proofs.Texts.{both}
 use Rattle.laws_roundtrip.proofs.Nodes.{node-bytes-length}
-use Rattle.file_write.specs.Back.{node_in, ident_in, text_in, named, plain, back_in}
+use Rattle.file_write.specs.Back.{node_in, ident_in}
 use Rattle.file_write.proofs.Stores.{first, then}
 
 module _ (bs : List ℕ) where

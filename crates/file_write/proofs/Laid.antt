@@ -5,6 +5,8 @@ use Prim.Native.Nat.{ℕ, ◌+◌, ◌-◌, ◌*◌, ◌≤◌, ◌<◌}
 use native.Mathlib.Nat.{zero-add}
 use native.Mathlib.Omega.{arith}
 use borrow.Author.Tests.{le-leb, lt-leb}
+use lib.Dec.{leb}
+use mathlib.Core.Bool.{false, ◌&&◌}
 use lib.ListN.{length, get_or, take, drop, length-append, length-drop, drop_of_length-le, length-map}
 use lib.Seq.{sets, paste, sets-eq, take_at, drop_at, take_all, drop-drop}
 use Rattle.def_file.specs.Read.{Read, bad, u32, header}
@@ -77,18 +79,13 @@ bytes-total bs w e = simp length-append (omega (arith, nodes-length bs w, length
 
 -- the answers
 module _ (bs w : List ℕ) (room : ℕ) where
-  pub fit_none : get_or w 0 0 ≡ 0 → fitted bs w room ≡ refused 9
+  pub fit-not : (leb 1 (get_or w 0 0) && leb (get_or w 0 0) 1024) ≡ false → fitted bs w room ≡ refused 9
   unfolding fitted
-  fit_none e = rw (e, fitted) refl
+  fit-not e = rw (e, fitted) refl
 
-  module _ (e : 1 ≤ get_or w 0 0) where
-    pub fit-many : 1024 < get_or w 0 0 → fitted bs w room ≡ refused 9
-    unfolding fitted
-    fit-many h = rw (le-leb 1 (get_or w 0 0) e, lt-leb (get_or w 0 0) 1024 h, fitted) refl
-
-    pub fit-room : get_or w 0 0 ≤ 1024 → fitted bs w room ≡ in_room (total bs w) room
-    unfolding fitted
-    fit-room h = rw (le-leb 1 (get_or w 0 0) e, le-leb (get_or w 0 0) 1024 h, fitted) refl
+  pub fit-room : 1 ≤ get_or w 0 0 → get_or w 0 0 ≤ 1024 → fitted bs w room ≡ in_room (total bs w) room
+  unfolding fitted
+  fit-room e h = rw (le-leb 1 (get_or w 0 0) e, le-leb (get_or w 0 0) 1024 h, fitted) refl
 
 pub too_short : (n room : ℕ) → room < n → in_room n room ≡ refused 10
 too_short n room h = rw (lt-leb n room h, in_room) refl

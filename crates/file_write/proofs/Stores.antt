@@ -1,15 +1,14 @@
 -- Stores of bytes, over the width, and copies. Assumes nothing.
 use mathlib.Core.Path.{◌≡◌, refl, sym, ap, ap₂, ◌∙◌}
 use mathlib.Core.List.{List, [], ◌∷◌, ◌++◌}
-use Prim.Native.Nat.{ℕ, zero, suc, ◌+◌, ◌*◌, ◌/◌, ◌%◌, ◌^◌, ◌≤◌, ◌<◌}
+use Prim.Native.Nat.{ℕ, zero, suc, ◌+◌, ◌/◌, ◌%◌, ◌^◌, ◌<◌}
 use native.Mathlib.Nat.{pow-suc, add-zero, div-one, div-div-eq-div-mul}
 use native.Mathlib.Omega.{arith}
-use lib.ListN.{length, set, take, drop}
-use lib.Seq.{sets, sets-eq, drop-drop}
-use borrow.Rule.Slice.PartMut.{put_mid}
+use lib.ListN.{length, set}
+use lib.Seq.{sets}
 use Rattle.std.specs.Int.{byte_at, bytes_low_first}
-use Rattle.std.proofs.Common.{append_assoc}
 use Rattle.def_file.specs.Write.{bytes}
+pub use Rattle.words.proofs.Stored.{stretch}
 
 -- a second run of stores right behind the first
 sets_more : (l vs us : List ℕ) (i j : ℕ) → j ≡ i + length vs → sets (sets l i vs) j us ≡ sets l i (vs ++ us)
@@ -25,12 +24,6 @@ first l i vs e = record { is = e }
 
 pub then : {l : List ℕ} {i : ℕ} {vs l₁ l₂ : List ℕ} → Stored l i vs l₁ → (j : ℕ) (us : List ℕ) → l₂ ≡ sets l₁ j us → j ≡ i + length vs → Stored l i (vs ++ us) l₂
 then {l} {i} {vs} {l₁} {l₂} s j us q e = record { is = q ∙ ap (λ (x : List ℕ). sets x j us) s.is ∙ sets_more l vs us i j e }
-
--- a stretch stored at once
-pub stretch : (l vs : List ℕ) (i k : ℕ) → k ≡ length vs → i + length vs ≤ length l → put_mid i k l vs ≡ sets l i vs
-stretch l vs i k e h =
-    ap (λ (r : List ℕ). take i l ++ (vs ++ r)) (drop-drop k i l ∙ ap (λ (n : ℕ). drop (i + n) l) e)
-    ∙ sym (append_assoc (take i l) vs (drop (i + length vs) l)) ∙ sym (sets-eq vs l i h)
 
 -- the bytes of a number, as std's methods give them
 low-first : (i k n : ℕ) → bytes_low_first i k n ≡ bytes k (n / 256 ^ i)

@@ -7,7 +7,7 @@ mod put;
 ghost use Rattle.std.specs.Prelude.{length};
 ghost use Rattle.file_write.specs.Written.{Counted, Wrote, fitted, written, result_bytes};
 
-use crate::nodes::put_nodes;
+use crate::nodes::Source;
 use crate::put::{copy, put_head};
 use file_read::header::{Header, read_header};
 use refusal::Refusal;
@@ -23,23 +23,24 @@ fn write_counted(
     requires { Counted file.now words.now header }
     ensures { Wrote (result_bytes file.now words.now) res.old res.new (fitted file.now words.now (length res.old)) result }
 {
-    let n = header.nodes;
-    let t = header.texts;
-    let b = header.bytes;
-    let m = words[layout::NODE_COUNT] as usize;
-    if m == 0 {
+    let nodes = words[layout::NODE_COUNT] as usize;
+    if !(1..=1024).contains(&nodes) {
         return Err(Refusal::Room);
     }
-    if 1024 < m {
-        return Err(Refusal::Room);
-    }
-    let total = 32 + 16 * m + 4 * t + b;
+    let head = Header { nodes, ..header };
+    let total = head.total();
     if res.len() < total {
         return Err(Refusal::Buffer);
     }
-    put_head(res, m as u32, t as u32, b as u32);
-    put_nodes(file, n, words, &mut res[32..]);
-    copy(file, 32 + 16 * n, res, 32 + 16 * m, 4 * t + b);
+    put_head(res, head);
+    let source = Source {
+        file,
+        words,
+        nodes: header.nodes,
+    };
+    source.put_nodes(&mut res[32..]);
+    let ends = head.places().ends;
+    copy(file, header.places().ends, res, ends, total - ends);
     Ok(total)
 }
 

@@ -5,14 +5,8 @@ ghost use Rattle.std.proofs.Math.Seq.{paste};
 ghost use Rattle.def_file.specs.Write.{bytes, raw_bytes, head_bytes};
 
 use def_file::Raw;
-
-// The bytes of a field.
-fn put<const N: usize>(b: &mut [u8], i: usize, field: [u8; N])
-    requires { i + N ≤ length b.old }
-    ensures { b.new ≡ sets b.old i field.entry }
-{
-    b[i..i + N].copy_from_slice(&field);
-}
+use file_read::header::Header;
+use words::put;
 
 // A node's 16 bytes.
 pub fn put_raw(b: &mut [u8], i: usize, x: Raw)
@@ -25,25 +19,31 @@ pub fn put_raw(b: &mut [u8], i: usize, x: Raw)
     put(b, i + 8, x.bits.to_le_bytes());
 }
 
-// The header of a file of n nodes, t texts and s text bytes.
-pub fn put_head(b: &mut [u8], n: u32, t: u32, s: u32)
-    requires { (32 ≤ length b.old) × (n ≤ 1024) × (t ≤ 256) × (s ≤ 4096) }
-    ensures { b.new ≡ sets b.old 0 (head_bytes n t s) }
+// A number of the header.
+fn put_number(b: &mut [u8], i: usize, n: usize)
+    requires { (i + 4 ≤ length b.old) × (n ≤ 100000) }
+    ensures { b.new ≡ sets b.old i (bytes 4 n) }
 {
-    let nodes = 32;
-    let ends = nodes + 16 * n;
-    let texts = ends + 4 * t;
-    put(b, 0, 1u32.to_le_bytes());
-    put(b, 4, (texts + s).to_le_bytes());
-    put(b, 8, n.to_le_bytes());
-    put(b, 12, nodes.to_le_bytes());
-    put(b, 16, t.to_le_bytes());
-    put(b, 20, ends.to_le_bytes());
-    put(b, 24, texts.to_le_bytes());
-    put(b, 28, s.to_le_bytes());
+    put(b, i, (n as u32).to_le_bytes());
 }
 
-// Copies n bytes of one slice, from `from` on, to another, from `at` on.
+// The header of a file.
+pub fn put_head(b: &mut [u8], header: Header)
+    requires { (32 ≤ length b.old) × (header.nodes ≤ 1024) × (header.texts ≤ 256) × (header.bytes ≤ 4096) }
+    ensures { b.new ≡ sets b.old 0 (head_bytes header.nodes header.texts header.bytes) }
+{
+    let at = header.places();
+    put_number(b, 0, 1);
+    put_number(b, 4, header.total());
+    put_number(b, 8, header.nodes);
+    put_number(b, 12, 32);
+    put_number(b, 16, header.texts);
+    put_number(b, 20, at.ends);
+    put_number(b, 24, at.bytes);
+    put_number(b, 28, header.bytes);
+}
+
+// Copies n bytes of one slice, from `from` on, to another, from `at` on: a name for copy_from_slice, for its law in the contract.
 pub fn copy(src: &[u8], from: usize, dst: &mut [u8], at: usize, n: usize)
     requires { (from + n ≤ length src.now) × (at + n ≤ length dst.old) }
     ensures { dst.new ≡ paste dst.old at (drop from src.now) n }

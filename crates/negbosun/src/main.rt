@@ -2,8 +2,6 @@
 // node of the result, and a line for each root binding (document 01). Given an argument, it says what it takes, and reads nothing.
 #![tactic(auto)]
 
-ghost use Rattle.std.specs.Prelude.{◌*◌, ◌≤◌, length};
-
 use file_fields::fields::u32_at;
 use input::read_full;
 use pass::{inline, list};
@@ -15,18 +13,12 @@ use tree_print::{ROOM, WORDS, print_nodes};
 // Five words for each of at most 256 root bindings.
 const ROOTS: usize = 1280;
 
-// The first n root bindings: text, context as 16 digits, mark, count.
-fn print_roots(rt: &impl Print, roots: &[u32], n: usize) -> io::Result<()>
-    requires { (n ≤ 256) × (5 * n ≤ length roots.now) }
-{
-    for k in 0..n {
+// The root bindings, of five words each: text, context as 16 digits, mark, count.
+fn print_roots(rt: &impl Print, roots: &[u32]) -> io::Result<()> {
+    for root in roots.chunks_exact(5) {
         println!(rt;
             "root {} {:08x}{:08x} {} {}",
-            roots[5 * k],
-            roots[5 * k + 2],
-            roots[5 * k + 1],
-            roots[5 * k + 3],
-            roots[5 * k + 4]
+            root[0], root[2], root[1], root[3], root[4]
         )?;
     }
     Ok(())
@@ -36,7 +28,7 @@ fn print_roots(rt: &impl Print, roots: &[u32], n: usize) -> io::Result<()>
 fn show_roots(rt: &impl Print, file: &[u8], words: &mut [u32]) -> io::Result<()> {
     let mut roots = [0; ROOTS];
     match list(file, &mut roots, words, 16) {
-        Ok(count) => print_roots(rt, &roots, count.min(256)),
+        Ok(count) => print_roots(rt, &roots[..5 * count.min(256)]),
         Err(_) => Ok(()),
     }
 }

@@ -1,10 +1,9 @@
 -- The ends of the C function of the pass: row 1, rows 2 to 9, row 10, and the whole result. Assumes nothing.
 use mathlib.Core.Path.{◌≡◌, refl, sym, ap, ◌∙◌, subst}
-use mathlib.Core.Bool.{Bool, true, false, ◌&&◌}
+use mathlib.Core.Bool.{Bool, true, false}
 use mathlib.Core.List.{List, [], ◌∷◌, map}
 use Prim.Native.Nat.{ℕ, ◌≤◌}
 use native.Mathlib.Omega.{arith}
-use borrow.Author.Tests.{leb-true}
 use lib.Dec.{leb}
 use lib.ListN.{length, get_or}
 use Rattle.def_tree.specs.Base.{to_nat}
@@ -32,6 +31,7 @@ use Rattle.laws_flat.specs.WalkF.{OutcomeF, refused_f}
 use Rattle.laws_flat.specs.PassF.{answer_f, pass_f, entry_read_f, entry_f}
 use Rattle.laws_flat.proofs.File.{entry-same}
 use Rattle.words_scopes.specs.State.{stack}
+use Rattle.words_scopes.proofs.Split.{tested}
 use Rattle.words_nodes.specs.Nodes.{Planted}
 use Rattle.words_nodes.proofs.Trees.{count-some, length-flat}
 use Rattle.file_copy.specs.Copy.{WordsAre}
@@ -41,24 +41,6 @@ use Rattle.pass_run.specs.Run.{outcome}
 use Rattle.pass_run.specs.Inline.{read_runs, Final, FileIs}
 use Rattle.pass_answers.specs.Entry.{enough, numbers, inlined, left, InlineIs}
 use Rattle.pass_run.proofs.Files.{node-count}
-
--- the test of row 1, and what passed it
-differ : false ≡ true → ⊥
-differ q = let y : ◌≡◌ {A = ℕ} 0 1 = cc in omega arith
-
-pub refuses : {c : Bool} (b : Bool) → b ≡ c → b ≡ false → c ≡ false
-refuses b e h = sym e ∙ h
-
-pub admits : {c : Bool} (b : Bool) → b ≡ c → b ≡ true → c ≡ true
-admits b e h = sym e ∙ h
-
-pub long : (n words : ℕ) → enough n words ≡ true → 16384 ≤ words
-long n words e = go (leb 1 n) (leb n 16) e
-  where
-    go : (p q : Bool) → (p && q && leb 16384 words) ≡ true → 16384 ≤ words
-    go true true e = leb-true 16384 words e
-    go true false e = absurd (differ e)
-    go false q e = absurd (differ e)
 
 -- how it ends, by row 1
 entry-by : (n words : ℕ) (bs : List ℕ) (room : ℕ) (p : Bool) → enough n words ≡ p → entry n words bs room ≡ elim p [ false ↦ refused 1 | true ↦ entry_read_f n room (read bs) ]
@@ -84,6 +66,25 @@ pub middle-row : {bs r w u : List ℕ} {x : Result Ran Refusal} (n : ℕ) (m : R
 middle-row {bs} {r} {w} {u} {x} n m e F q =
     let G : FileIs bs w u n (Err m) = subst (FileIs bs w u n) q F in
     inline-is n true (refused (number m)) e (entry-by n (length w) bs (length r) true e ∙ no-entry n (length r) (number m) (read bs) G.is) refl refl G.words
+
+-- rows 1 to 9, by how they ended
+err-ok : {m : Refusal} {a : Ran} → ◌≡◌ {A = Result Ran Refusal} (Err m) (Ok a) → ⊥
+err-ok q = let y : ◌≡◌ {A = ℕ} 0 1 = cc in omega arith
+
+pub err-same : {m k : Refusal} → ◌≡◌ {A = Result Ran Refusal} (Err m) (Err k) → m ≡ k
+err-same q = cc
+
+module _ {bs w u : List ℕ} {n : ℕ} {x : Result Ran Refusal} (first : enough n (length w) ≡ false → (x ≡ Err Call) × (u ≡ w)) (rest : enough n (length w) ≡ true → FileIs bs w u n x) where
+  pub ran-enough : {a : Ran} → x ≡ Ok a → enough n (length w) ≡ true
+  ran-enough q = tested (enough n (length w)) (λ e. e) (λ e. absurd (err-ok (sym (first e).0 ∙ q)))
+
+  pub ran-file : {a : Ran} → x ≡ Ok a → FileIs bs w u n x
+  ran-file q = rest (ran-enough q)
+
+  pub refused-row : {r : List ℕ} (m : Refusal) → x ≡ Err m → InlineIs bs r r w u n (inlined (Err m))
+  refused-row m q = tested (enough n (length w))
+      (λ e. middle-row n m e (rest e) q)
+      (λ e. let f = first e in let s : m ≡ Call = err-same (sym q ∙ f.0) in rw (s, f.1) (first-row n e))
 
 -- a result
 map-raw : (s : Script) (cs : List Core) → map (λ (x : Out). x.raw) (map (back s) cs) ≡ map (λ (c : Core). (back s c).raw) cs

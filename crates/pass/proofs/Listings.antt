@@ -21,6 +21,8 @@ use Rattle.laws_flat.specs.WalkF.{OutcomeF, refused_f}
 use Rattle.laws_flat.specs.PassF.{answer_f, pass_f, pass_read_f, pass_file_f}
 use Rattle.laws_flat.proofs.File.{file-same}
 use Rattle.words_scopes.specs.State.{stack}
+use Rattle.words_scopes.proofs.Split.{tested}
+use Rattle.pass.proofs.Entries.{err-same}
 use Rattle.file_copy.specs.Copy.{WordsAre}
 use Rattle.pass_run.specs.declared.Ran.{Ran}
 use Rattle.pass_answers.specs.declared.Roots.{Roots}
@@ -67,9 +69,16 @@ middle-row {bs} {r} {w} {u} {x} n m e F q =
     let G : FileIs bs w u n (Err m) = subst (FileIs bs w u n) q F in
     roots-is n true (refused (number m)) e (row-middle refused (in_room (length r)) n m e G) refl refl G.words
 
+-- rows 1 to 9
+pub no-rows : {bs r w u : List ℕ} {n : ℕ} {x : Result Ran Refusal} → (enough n (length w) ≡ false → (x ≡ Err Call) × (u ≡ w)) → (enough n (length w) ≡ true → FileIs bs w u n x)
+    → (m : Refusal) → x ≡ Err m → RootsIs bs r r w u n (counted (Err m))
+no-rows {w = w} {n = n} first rest m q = tested (enough n (length w))
+    (λ e. middle-row n m e (rest e) q)
+    (λ e. let f = first e in let s : m ≡ Call = err-same (sym q ∙ f.0) in rw (s, f.1) (first-row n e))
+
 -- the identifiers are those of the file's nodes
 pub known : {bs w u : List ℕ} → Final bs w u → Known bs u
-known {bs} F = record { nodes = length F.script.nodes; listed = F.listed; room = omega (arith, node-count bs F.script F.is, (is_found bs F.script F.is).head.long) }
+known {bs} F = record { long = F.listed.long; few = F.listed.few; low = F.listed.low; room = λ i h. omega (arith, F.listed.high i h, node-count bs F.script F.is, (is_found bs F.script F.is).head.long) }
 
 -- the answer's numbers, by what writing answered
 says_so : (z : Result ℕ Refusal) (x : Listing) → SaysSo z x → counted z ≡ numbers x
@@ -93,6 +102,12 @@ pub nth-middle : {bs w u : List ℕ} {x : Result Ran Refusal} (n i : ℕ) (m : R
 nth-middle {bs} {w} {u} {x} n i m e F q =
     let G : FileIs bs w u n (Err m) = subst (FileIs bs w u n) q F in
     root_is n i true (stopped (number m)) e (row-middle stopped (λ rs. given (nth i rs)) n m e G) refl G.words
+
+pub no-nth : {bs w u : List ℕ} {n : ℕ} {x : Result Ran Refusal} → (enough n (length w) ≡ false → (x ≡ Err Call) × (u ≡ w)) → (enough n (length w) ≡ true → FileIs bs w u n x)
+    → (i : ℕ) (m : Refusal) → x ≡ Err m → RootIs bs w u n i (bound (Err m))
+no-nth {w = w} {n = n} first rest i m q = tested (enough n (length w))
+    (λ e. nth-middle n i m e (rest e) q)
+    (λ e. let f = first e in let s : m ≡ Call = err-same (sym q ∙ f.0) in rw (s, f.1) (nth-first n i e))
 
 -- all bindings, or row 10
 abbrev as_root : Raw → Bool → ℕ → Root

@@ -1,13 +1,16 @@
 // The whole pass over a tree file, from its bytes to the result's, as C functions.
 #![tactic(auto)]
 
-ghost use Rattle.std.specs.Prelude.{◌≡◌};
+ghost use Rattle.std.specs.Prelude.{◌≡◌, true, false, length, Err};
+ghost use Rattle.refusal.specs.declared.Refusal.TheVariants.{Call};
+ghost use Rattle.pass_run.specs.Inline.{FileIs};
 ghost use Rattle.pass_answers.specs.Entry.{enough, inlined, InlineIs};
 ghost use Rattle.pass_answers.specs.Roots.{counted, bound, RootsIs, RootIs};
 
 use file_write::write;
 use pass_answers::{Done, Inlined, RootBinding, Roots};
 use pass_roots::{Root, root_at, write_roots};
+use pass_run::Ran;
 use pass_run::inline::inline_file;
 use refusal::Refusal;
 use words::clear;
@@ -16,17 +19,25 @@ use words::clear;
 fn enough(runs: u32, words: usize) -> bool
     ensures { result ≡ enough runs words }
 {
-    (1 <= runs) & (runs <= 16) & (16384 <= words)
+    (1..=16).contains(&runs) && 16384 <= words
+}
+
+// Rows 1 to 9: the pass over the file, in the words. The three functions below begin with it and end with `clear`: two lines that are left in each.
+fn run(file: &[u8], words: &mut [u32], runs: u32) -> Result<Ran, Refusal>
+    ensures refused { enough runs (length words.old) ≡ false → (result ≡ Err Call) × (words.new ≡ words.old) }
+    ensures ran { enough runs (length words.old) ≡ true → FileIs file.now words.old words.new runs result }
+{
+    if !enough(runs, words.len()) {
+        return Err(Refusal::Call);
+    }
+    inline_file(file, words, runs)
 }
 
 // Rows 1 to 10. What is written is the result's file.
 pub fn inline(file: &[u8], res: &mut [u8], words: &mut [u32], runs: u32) -> Result<Done, Refusal>
     ensures { InlineIs file.now res.old res.new words.old words.new runs (inlined result) }
 {
-    if !enough(runs, words.len()) {
-        return Err(Refusal::Call);
-    }
-    let ran = inline_file(file, words, runs)?;
+    let ran = run(file, words, runs)?;
     let written = write(file, words, res);
     clear(words);
     Ok(Done {
@@ -41,10 +52,7 @@ pub fn inline(file: &[u8], res: &mut [u8], words: &mut [u32], runs: u32) -> Resu
 pub fn list(file: &[u8], roots: &mut [u32], words: &mut [u32], runs: u32) -> Result<usize, Refusal>
     ensures { RootsIs file.now roots.old roots.new words.old words.new runs (counted result) }
 {
-    if !enough(runs, words.len()) {
-        return Err(Refusal::Call);
-    }
-    inline_file(file, words, runs)?;
+    run(file, words, runs)?;
     let written = write_roots(file, words, roots);
     clear(words);
     written
@@ -54,10 +62,7 @@ pub fn list(file: &[u8], roots: &mut [u32], words: &mut [u32], runs: u32) -> Res
 pub fn find(file: &[u8], words: &mut [u32], runs: u32, n: u32) -> Result<Option<Root>, Refusal>
     ensures { RootIs file.now words.old words.new runs n (bound result) }
 {
-    if !enough(runs, words.len()) {
-        return Err(Refusal::Call);
-    }
-    inline_file(file, words, runs)?;
+    run(file, words, runs)?;
     let root = root_at(file, words, n as usize);
     clear(words);
     Ok(root)

@@ -16,9 +16,10 @@ pub struct Done {
     pub changed: bool,
 }
 
-// A refusal's number; or 0, the result's length, the runs done, and 1 if the last one left the mark.
+// A refusal's number; or 0, the result's length, the runs done, and 1 if the last one left the mark. This and the two structs below have numbers for
+// refusals and flags, and one form for all cases, since C reads them.
 #[repr(C)]
-#[derive(Clone, Copy, Debug, PartialEq, Eq)]
+#[derive(Clone, Copy, Debug, Default, PartialEq, Eq)]
 pub struct Inlined {
     pub refused: u32,
     pub length: usize,
@@ -39,9 +40,7 @@ impl From<Result<Done, Refusal>> for Inlined {
             },
             Err(refusal) => Inlined {
                 refused: u32::from(refusal),
-                length: 0,
-                runs: 0,
-                changed: 0,
+                ..Inlined::default()
             },
         }
     }
@@ -49,7 +48,7 @@ impl From<Result<Done, Refusal>> for Inlined {
 
 // A refusal's number; or 0, and how many root bindings there are.
 #[repr(C)]
-#[derive(Clone, Copy, Debug, PartialEq, Eq)]
+#[derive(Clone, Copy, Debug, Default, PartialEq, Eq)]
 pub struct Roots {
     pub refused: u32,
     pub count: usize,
@@ -63,7 +62,7 @@ impl From<Result<usize, Refusal>> for Roots {
             Ok(count) => Roots { refused: 0, count },
             Err(refusal) => Roots {
                 refused: u32::from(refusal),
-                count: 0,
+                ..Roots::default()
             },
         }
     }
@@ -72,7 +71,7 @@ impl From<Result<usize, Refusal>> for Roots {
 // A refusal's number; or 0, and 1 if there is a root binding of the number asked for: then its context, text number and prevented mark, and how
 // often an identifier was replaced by its value.
 #[repr(C)]
-#[derive(Clone, Copy, Debug, PartialEq, Eq)]
+#[derive(Clone, Copy, Debug, Default, PartialEq, Eq)]
 pub struct RootBinding {
     pub refused: u32,
     pub found: u32,
@@ -95,21 +94,10 @@ impl From<Result<Option<Root>, Refusal>> for RootBinding {
                 prevented: u32::from(root.prevented),
                 count: root.count,
             },
-            Ok(None) => RootBinding {
-                refused: 0,
-                found: 0,
-                context: 0,
-                text: 0,
-                prevented: 0,
-                count: 0,
-            },
+            Ok(None) => RootBinding::default(),
             Err(refusal) => RootBinding {
                 refused: u32::from(refusal),
-                found: 0,
-                context: 0,
-                text: 0,
-                prevented: 0,
-                count: 0,
+                ..RootBinding::default()
             },
         }
     }

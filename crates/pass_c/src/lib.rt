@@ -1,4 +1,6 @@
-// The whole pass over a tree file for C callers: the functions of crates/pass, under their names and with their promises, in an archive.
+// The whole pass over a tree file for C callers: the functions of crates/pass, under their names and with their promises, in an archive. What they
+// answer are structs that C reads, so that a refusal and a flag are numbers in them. A static library exports what stands in its own crate, so that
+// the functions stand here again.
 #![tactic(auto)]
 
 ghost use Rattle.pass_answers.specs.Entry.{InlineIs};

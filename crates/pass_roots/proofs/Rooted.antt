@@ -9,18 +9,15 @@ use native.Mathlib.Nat.{eq-or-lt_of_le}
 use native.Mathlib.Omega.{arith}
 use borrow.Author.Tests.{le-leb, lt-leb}
 use lib.Dec.{leb}
-use lib.ListN.{length, get_or, take, drop, set}
+use lib.ListN.{length, get_or, take, drop}
 use lib.Seq.{sets, sets-eq, length-take-le}
-use mir.Val.{bool_byte}
-use Rattle.def_tree.specs.Base.{to_nat}
 use Rattle.def_tree.specs.Tree.{Tree}
 use Rattle.words.specs.Tab.{tab, tab-zero, tab-suc, length-tab, take-tab, get_d-tab, get_d-tab-out}
 use Rattle.words.specs.Layout.{yes}
 use Rattle.def_file.specs.declared.Raw.{Raw}
 use Rattle.def_file.specs.Script.{zero_node}
 use Rattle.file_read.specs.Idents.{numbered, ids_of}
-use Rattle.std.specs.Prelude.{Result, Ok, Err, Some, None}
-use Rattle.refusal.specs.declared.Refusal.{Refusal}
+use Rattle.std.specs.Prelude.{Ok, Err, Some, None}
 use Rattle.refusal.specs.declared.Refusal.TheVariants.{Buffer}
 use Rattle.file_write.proofs.Stores.{first, then}
 use Rattle.def_pass.specs.Scope.{VarInfo}
@@ -210,8 +207,3 @@ module _ (bs w : List ℕ) (c : ℕ) (h : root_marks (stack w) ≡ marks_to w c)
 
   pub nth_in : n < c → Some (given (root_at bs w n)) ≡ nth_is (nth n (roots_in bs w))
   nth_in l = sym (ap (λ (rs : List Root). nth_is (nth n rs)) (roots-tab bs w c h) ∙ ap nth_is (nth-tab c (λ k. root_at bs w k) n l))
-
--- the mark's number
-pub flag_as : (b : Bool) → bool_byte b ≡ to_nat b
-flag_as true = refl
-flag_as false = refl

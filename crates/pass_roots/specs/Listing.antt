@@ -1,10 +1,10 @@
 -- The root bindings: how they stand in the words, and what is written of each. Assumes nothing: these are definitions.
-use Rattle.std.specs.Prelude.{◌≡◌, true, false, List, [], ◌∷◌, ◌++◌, map, ℕ, ◌+◌, ◌*◌, ◌/◌, ◌%◌, ◌≤◌, leb, length, get_or, drop, Result, Ok, Err}
+use Rattle.std.specs.Prelude.{◌≡◌, true, false, List, [], ◌∷◌, ◌++◌, map, ℕ, ◌+◌, ◌*◌, ◌/◌, ◌%◌, ◌≤◌, ◌<◌, leb, length, get_or, drop, Result, Ok, Err}
 use Rattle.def_tree.specs.Base.{to_nat}
 use Rattle.words.specs.Tab.{tab}
 use Rattle.words.specs.Layout.{yes}
 use Rattle.def_file.specs.Script.{zero_node}
-use Rattle.file_read.specs.Idents.{ids_of, Listed}
+use Rattle.file_read.specs.Idents.{ids_of}
 use Rattle.refusal.specs.declared.Refusal.{Refusal}
 use Rattle.refusal.specs.Number.{number}
 use Rattle.def_pass.specs.Script.{Root}
@@ -26,9 +26,10 @@ roots_in bs w = map (λ (r : Rooted). record { key = get_or (ids_of bs w) r.0 ze
 
 -- the words list identifiers of nodes of the file
 pub record Known (bs w : List ℕ) : Type 0 where
-  pub nodes : ℕ
-  pub listed : Listed w nodes
-  pub room : 32 + 16 * nodes ≤ length bs
+  pub long : 16384 ≤ length w
+  pub few : get_or w 4 0 ≤ 256
+  pub low : (i : ℕ) → i < get_or w 4 0 → 0 < get_or w (15504 + i) 0
+  pub room : (i : ℕ) → i < get_or w 4 0 → 32 + 16 * get_or w (15504 + i) 0 ≤ length bs
 
 -- a binding as it is answered
 abbrev pub given : Root → Binding

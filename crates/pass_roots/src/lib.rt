@@ -12,7 +12,7 @@ ghost use Rattle.pass_roots.specs.Listing.{Known, marks_to, root_at, given, word
 ghost use Rattle.pass_roots.specs.Nth.{nth, nth_is};
 
 use def_file::Raw;
-use file_fields::fields::raw_at;
+use file_fields::fields::node_at;
 use refusal::Refusal;
 use words::layout;
 
@@ -23,6 +23,22 @@ pub struct Root {
     pub context: u64,
     pub prevented: bool,
     pub count: u32,
+}
+
+// One binding's words: text number, context's low and high half, mark, count. The halves are a remainder and a quotient, since a cast asks that
+// the number fits.
+impl From<Root> for [u32; 5] {
+    ghost from_gives = { λ b a. a ≡ words_of b };
+
+    fn from(root: Root) -> [u32; 5] {
+        [
+            root.text,
+            (root.context % 4294967296) as u32,
+            (root.context / 4294967296) as u32,
+            u32::from(root.prevented),
+            root.count,
+        ]
+    }
 }
 
 // How many bindings the root has: those before the second scope's.
@@ -36,54 +52,50 @@ fn root_count(w: &[u32]) -> usize
     w[layout::INNER_FIRST] as usize
 }
 
-// Identifier i, by the first node that has it; the number 0 where there is none.
-fn ident(file: &[u8], words: &[u32], i: usize) -> Raw
-    requires { Known file.now words.now }
-    ensures { result ≡ get_or (ids_of file.now words.now) i zero_node }
-{
-    if words[layout::IDENT_COUNT] as usize <= i {
-        return Raw::ZERO;
+// A file that was read, and the words of the pass over it.
+#[derive(Clone, Copy, Debug, PartialEq, Eq)]
+struct Passed<'a> {
+    file: &'a [u8],
+    words: &'a [u32],
+    ghost known: { Known file.now words.now },
+}
+
+impl Passed<'_> {
+    // Identifier i, by the first node that has it; the number 0 where there is none. Every entry names a node, so that none is tested here, as
+    // `ident_in` of `file_write` does, which asks for less.
+    fn ident(self, i: usize) -> Raw
+        ensures { result ≡ get_or (ids_of self.entry.file.now self.entry.words.now) i zero_node }
+    {
+        if self.words[layout::IDENT_COUNT] as usize <= i {
+            return Raw::ZERO;
+        }
+        let m = self.words[layout::IDENTS + i] as usize;
+        node_at(self.file, m - 1)
     }
-    let m = words[layout::IDENTS + i] as usize;
-    raw_at(file, 32 + 16 * (m - 1))
-}
 
-// Binding k.
-fn read_root(file: &[u8], words: &[u32], k: usize) -> Root
-    requires { Known file.now words.now × (k < 256) }
-    ensures { result ≡ given (root_at file.now words.now k) }
-{
-    let x = ident(file, words, words[layout::BINDINGS + k * 10] as usize);
-    Root {
-        text: x.text,
-        context: x.bits,
-        prevented: words[layout::BINDINGS + k * 10 + layout::PREVENTED] != 0,
-        count: words[layout::COUNTS + k],
+    // Binding k.
+    fn read_root(self, k: usize) -> Root
+        requires { k < 256 }
+        ensures { result ≡ given (root_at self.entry.file.now self.entry.words.now k) }
+    {
+        let x = self.ident(self.words[layout::BINDINGS + k * 10] as usize);
+        Root {
+            text: x.text,
+            context: x.bits,
+            prevented: self.words[layout::BINDINGS + k * 10 + layout::PREVENTED] != 0,
+            count: self.words[layout::COUNTS + k],
+        }
     }
-}
 
-// One binding: text number, context's low and high half, mark, count.
-fn put_root(roots: &mut [u32], at: usize, root: Root)
-    requires { at + 5 ≤ length roots.old }
-    ensures { roots.new ≡ sets roots.old at (words_of root) }
-{
-    roots[at..at + 5].copy_from_slice(&[
-        root.text,
-        (root.context % 4294967296) as u32,
-        (root.context / 4294967296) as u32,
-        u32::from(root.prevented),
-        root.count,
-    ]);
-}
-
-// The first n bindings.
-fn put_roots(file: &[u8], words: &[u32], roots: &mut [u32], n: usize)
-    requires { Known file.now words.now × (n ≤ 256) × (5 * n ≤ length roots.old) }
-    ensures { roots.new ≡ sets roots.old 0 (root_list (tab n (λ k. root_at file.now words.now k))) }
-{
-    for k in 0..n {
-        let root = read_root(file, words, k);
-        put_root(roots, 5 * k, root);
+    // The first n bindings.
+    fn put_roots(self, roots: &mut [u32], n: usize)
+        requires { (n ≤ 256) × (5 * n ≤ length roots.old) }
+        ensures { roots.new ≡ sets roots.old 0 (root_list (tab n (λ k. root_at self.entry.file.now self.entry.words.now k))) }
+    {
+        for k in 0..n {
+            let root = self.read_root(k);
+            roots[5 * k..5 * k + 5].copy_from_slice(&<[u32; 5]>::from(root));
+        }
     }
 }
 
@@ -96,7 +108,7 @@ pub fn write_roots(file: &[u8], words: &[u32], roots: &mut [u32]) -> Result<usiz
     if roots.len() < 5 * n {
         return Err(Refusal::Buffer);
     }
-    put_roots(file, words, roots, n);
+    Passed { file, words }.put_roots(roots, n);
     Ok(n)
 }
 
@@ -108,5 +120,5 @@ pub fn root_at(file: &[u8], words: &[u32], n: usize) -> Option<Root>
     if root_count(words) <= n {
         return None;
     }
-    Some(read_root(file, words, n))
+    Some(Passed { file, words }.read_root(n))
 }

@@ -2,7 +2,7 @@
 use mathlib.Core.Path.{◌≡◌, refl, sym, ap, ap₂, ◌∙◌}
 use mathlib.Core.Bool.{true, false}
 use mathlib.Core.List.{List, [], ◌∷◌}
-use Prim.Native.Nat.{ℕ}
+use Prim.Native.Nat.{ℕ, zero, suc, ◌<◌}
 use native.Mathlib.Omega.{arith}
 use lib.ListN.{length, get_or}
 use lib.Dec.{leb}
@@ -12,7 +12,7 @@ use Rattle.words.specs.Moved.{Put, Zeroed}
 use Rattle.words.proofs.Nodes.{tree-length, tree-same, beyond-same}
 use Rattle.def_tree.specs.Tree.{Core}
 use Rattle.def_pass.specs.Scope.{Stack, fn, v_var, new_scope}
-use Rattle.def_pass.specs.Walk.{St, declaring, set_nodes}
+use Rattle.def_pass.specs.Walk.{St, assigning, as_param, as_catch, declaring, set_nodes}
 use Rattle.laws_flat.specs.PassF.{start_f, targets_l, flagged_l}
 use Rattle.words_scopes.specs.State.{Good, Becomes, heads, heads_at, stack, targeted}
 use Rattle.words_scopes.proofs.Index.{beside_none}
@@ -26,14 +26,22 @@ use Rattle.refusal.specs.declared.Refusal.TheVariants.{Depth}
 use Rattle.scope_values.specs.Steps.{Limited}
 use Rattle.words_scopes.specs.declared.kinds.ScopeKind.{ScopeKind}
 use Rattle.words_scopes.specs.Kinds.{var_type_of, kind_of}
+use Rattle.words_scopes.proofs.Vars.{var-word}
 use Rattle.words_nodes.specs.Nodes.{Planted, Replants}
-use Rattle.words_state.specs.State.{mode_of, rest, Ok as Fine}
+use Rattle.words_state.specs.declared.PatFoldingMode.TheVariants.{VarDecl}
+use Rattle.words_state.specs.State.{mode_of, IsModeWord, rest, Ok as Fine}
 use Rattle.words_state.proofs.Fields.{st-eq, becomes-rest, becomes-ok, count_kept, replants-rest}
 use Rattle.words_twice.specs.Twice.{Plain}
 use Rattle.words_twice.proofs.Steps.{flagged-long}
 use Rattle.pass_run.specs.Start.{Loaded, Fields, Started}
 
-pub fields : {w u v y z : List ℕ} (k m : ℕ) → var_type_of k ≡ v_var → mode_of m ≡ declaring → Zeroed w u 1 3 → Put u v 5 (0 ∷ 0 ∷ 1 ∷ k ∷ m ∷ []) → Zeroed v y 10 4 → Zeroed y z 7568 256 → Fields w z
+declaring-word : (n : ℕ) → mode_of n ≡ declaring → n < 4 → n ≡ 3
+declaring-word zero h l = absurd (let z : assigning ≡ declaring = h in cc)
+declaring-word (suc zero) h l = absurd (let z : as_param ≡ declaring = h in cc)
+declaring-word (suc (suc zero)) h l = absurd (let z : as_catch ≡ declaring = h in cc)
+declaring-word (suc (suc (suc n))) h l = omega arith
+
+pub fields : {w u v y z : List ℕ} (k m : ℕ) → var_type_of k ≡ v_var → IsModeWord VarDecl m → Zeroed w u 1 3 → Put u v 5 (0 ∷ 0 ∷ 1 ∷ k ∷ m ∷ []) → Zeroed v y 10 4 → Zeroed y z 7568 256 → Fields w z
 fields {w} {u} {v} {y} {z} k m e h a b c d = record {
   size = d.size ∙ c.size ∙ b.size ∙ a.size;
   nodes = d.low 0 (omega arith) ∙ c.low 0 (omega arith) ∙ b.low 0 (omega arith) ∙ a.low 0 (omega arith);
@@ -44,8 +52,8 @@ fields {w} {u} {v} {y} {z} k m e h a b c d = record {
   changed = d.low 5 (omega arith) ∙ c.low 5 (omega arith) ∙ b.here 0 (omega arith);
   inlining = d.low 6 (omega arith) ∙ c.low 6 (omega arith) ∙ b.here 1 (omega arith);
   is_first_run = d.low 7 (omega arith) ∙ c.low 7 (omega arith) ∙ b.here 2 (omega arith);
-  var_decl_kind = ap var_type_of (d.low 8 (omega arith) ∙ c.low 8 (omega arith) ∙ b.here 3 (omega arith)) ∙ e;
-  pat_mode = ap mode_of (d.low 9 (omega arith) ∙ c.low 9 (omega arith) ∙ b.here 4 (omega arith)) ∙ h;
+  var_decl_kind = d.low 8 (omega arith) ∙ c.low 8 (omega arith) ∙ b.here 3 (omega arith) ∙ var-word k e;
+  pat_mode = d.low 9 (omega arith) ∙ c.low 9 (omega arith) ∙ b.here 4 (omega arith) ∙ declaring-word m h.0 h.1;
   in_test = d.low 10 (omega arith) ∙ c.here 0 (omega arith);
   conds = d.low 11 (omega arith) ∙ c.here 1 (omega arith);
   ended = d.low 12 (omega arith) ∙ c.here 2 (omega arith);
@@ -106,7 +114,7 @@ module _ {w u : List ℕ} (l : Loaded w) (f : Fields w u) where
 
     field : st ≡ new_scope (fn false) ∷ [] → targeted w ≡ targets_l (tree w) → rest v ≡ start_f (get_or w 0 0) (targets_l (tree w))
     unfolding rest
-    field e q = becomes-rest planted (count_kept b) b ∙ st-eq e (ap yes f.changed) (ap yes f.inlining) (ap yes f.is_first_run) f.var_decl_kind f.pat_mode (ap yes f.in_test) f.conds f.nodes (targeted-same w u (λ j p h. f.high j (omega arith)) ∙ q) f.ended f.replaced
+    field e q = becomes-rest planted (count_kept b) b ∙ st-eq e (ap yes f.changed) (ap yes f.inlining) (ap yes f.is_first_run) (ap var_type_of f.var_decl_kind) (ap mode_of f.pat_mode) (ap yes f.in_test) f.conds f.nodes (targeted-same w u (λ j p h. f.high j (omega arith)) ∙ q) f.ended f.replaced
 
     begun : st ≡ new_scope (fn false) ∷ [] → targeted w ≡ targets_l (tree w) → Opened w v
     begun e q = record {

@@ -1,13 +1,12 @@
 -- A run, and runs one after the other. Assumes nothing.
-use mathlib.Core.Path.{◌≡◌, refl, sym, ap, ap₂, ◌∙◌, subst}
+use mathlib.Core.Path.{◌≡◌, refl, sym, ap, ap₂, ◌∙◌}
 use mathlib.Core.Bool.{Bool, true, false}
 use mathlib.Core.List.{List}
-use Prim.Native.Nat.{ℕ, zero, suc, ◌+◌, ◌-◌, ◌≤◌, ◌<◌}
+use Prim.Native.Nat.{ℕ, suc, ◌+◌, ◌-◌, ◌<◌}
 use native.Mathlib.Omega.{arith}
-use lib.ListN.{get_or}
 use Rattle.def_tree.specs.Tree.{Core}
 use Rattle.def_tree.specs.Combine.{Res, done, and_then, Flat}
-use Rattle.words.specs.Layout.{yes, tree}
+use Rattle.words.specs.Layout.{tree}
 use Rattle.def_pass.specs.Walk.{St, root_marks, set_inlining, set_changed, set_is_first_run}
 use Rattle.laws_flat.specs.WalkF.{walks_f, own_f, run_f, runs_f, again_f, on_st, OutcomeF, result_f}
 use Rattle.words_nodes.specs.Nodes.{Planted}
@@ -100,22 +99,18 @@ module _ {w u v z : List ℕ} {x : Result ℕ Refusal} (n k : ℕ) (g : Going w 
     plus : suc k ≡ k + 1
     plus = omega arith
 
-    marked : (b : Bool) → yes (get_or z 5 0) ≡ b
+    marked : (b : Bool) → (rest z).changed ≡ b
         → runs_f n 0 (abs w) ≡ elim b [ true ↦ runs_f (n - (k + 1)) (suc k) (on_st (set_is_first_run false) (abs z)) | false ↦ result_f (suc k) false (tree z) (root_marks (stack z)) ]
     unfolding rest
     marked b q =
         more-as (Ok j) e
         ∙ ap (λ (c : Bool). elim c [ true ↦ runs_f (n - (k + 1)) (suc k) (on_st (set_is_first_run false) (abs z)) | false ↦ result_f (suc k) false (tree z) (root_marks (stack z)) ]) q
 
-    pub going-last : get_or z 5 0 ≡ 0 → RunsIs w z (Ok (record { runs = k + 1; changed = false })) (runs_f n 0 (abs w))
-    going-last q = record { ok = so-far-runs; is = sym (marked false (ap yes q) ∙ ap (λ (i : ℕ). result_f i false (tree z) (root_marks (stack z))) plus) }
+    pub going-last : (rest z).changed ≡ false → RunsIs w z (Ok (record { runs = k + 1; changed = false })) (runs_f n 0 (abs w))
+    going-last q = record { ok = so-far-runs; is = sym (marked false q ∙ ap (λ (i : ℕ). result_f i false (tree z) (root_marks (stack z))) plus) }
 
-    pub going_on : {z' : List ℕ} → (get_or z 5 0 ≡ 0 → ⊥) → Turns z z' (set_is_first_run false (rest z)) → Going w z' n (k + 1)
+    pub going_on : {z' : List ℕ} → (rest z).changed ≡ true → Turns z z' (set_is_first_run false (rest z)) → Going w z' n (k + 1)
     going_on {z'} q t' = record {
       ok = ok-then so-far-runs t'.ok;
-      is = marked true (some (get_or z 5 0) q) ∙ ap₂ {C = OutcomeF} (λ (i : ℕ) (st : Flat St). runs_f (n - (k + 1)) i st) plus (sym (turned t'));
+      is = marked true q ∙ ap₂ {C = OutcomeF} (λ (i : ℕ) (st : Flat St). runs_f (n - (k + 1)) i st) plus (sym (turned t'));
     }
-      where
-        some : (m : ℕ) → (m ≡ 0 → ⊥) → yes m ≡ true
-        some zero h = absurd (h refl)
-        some (suc m) h = refl

@@ -1,13 +1,10 @@
 -- The words of a script that was read become the state before the first run. Assumes nothing: these are definitions.
 use Rattle.std.specs.Prelude.{◌≡◌, List, ℕ, ◌+◌, ◌≤◌, ◌<◌, length, get_or}
 use Rattle.words.specs.Layout.{Agree, tree, beyond}
-use Rattle.def_pass.specs.Scope.{v_var}
-use Rattle.def_pass.specs.Walk.{declaring}
 use Rattle.laws_flat.specs.PassF.{start_f, targets_l, flagged_l}
-use Rattle.words_scopes.specs.Kinds.{var_type_of}
 use Rattle.words_scopes.specs.State.{Names}
 use Rattle.words_nodes.specs.Nodes.{One, Planted}
-use Rattle.words_state.specs.State.{mode_of, rest}
+use Rattle.words_state.specs.State.{rest}
 use Rattle.words_twice.specs.Twice.{Plain}
 
 -- one tree stands in the words, its bindings have room for a flag, and nothing is known of the others
@@ -29,8 +26,8 @@ pub record Fields (w u : List ℕ) : Type 0 where
   pub changed : get_or u 5 0 ≡ 0
   pub inlining : get_or u 6 0 ≡ 0
   pub is_first_run : get_or u 7 0 ≡ 1
-  pub var_decl_kind : var_type_of (get_or u 8 0) ≡ v_var
-  pub pat_mode : mode_of (get_or u 9 0) ≡ declaring
+  pub var_decl_kind : get_or u 8 0 ≡ 1
+  pub pat_mode : get_or u 9 0 ≡ 3
   pub in_test : get_or u 10 0 ≡ 0
   pub conds : get_or u 11 0 ≡ 0
   pub ended : get_or u 12 0 ≡ 0

@@ -12,10 +12,9 @@ ghost use Rattle.pass_run.specs.Run.{RunsIs};
 
 use refusal::Refusal;
 use walk::program;
-use words::layout;
-use words_state::{set_changed, set_inlining, set_is_first_run};
+use words_state::{changed, set_changed, set_inlining, set_is_first_run};
 
-// Runs done, and whether the last one left the mark.
+// Runs done, and whether the last one left the mark. pass_answers has both again in what it takes: neither crate stands on the other.
 #[derive(Clone, Copy, Debug, PartialEq, Eq)]
 pub struct Ran {
     pub runs: u32,
@@ -43,7 +42,7 @@ pub fn runs(w: &mut [u32], n: u32) -> Result<Ran, Refusal>
     for k in 0..n {
         set_changed(w, false);
         visit_mut_program(w)?;
-        if w[layout::CHANGED] == 0 {
+        if !changed(w) {
             return Ok(Ran {
                 runs: k + 1,
                 changed: false,

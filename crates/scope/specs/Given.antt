@@ -6,7 +6,7 @@ use Rattle.def_pass.specs.Scope as def
 use Rattle.words.specs.Layout.{run}
 use Rattle.words_scopes.specs.State.{value_of, run_of}
 use Rattle.scope_define.specs.declared.Init.{Init}
-use Rattle.scope_declare.specs.Inits.{init_from}
+use Rattle.scope_define.specs.declared.Init.TheVariants.{NoInit, Recorded, Seen}
 use Rattle.scope_var_info.specs.Handles.{tree_o}
 
 -- a value that is given: none, or the tree at a node
@@ -15,9 +15,14 @@ value_at xs None = none
 value_at xs (Some i) = tree_o xs i
 
 -- an init that is given, which is none without a tree
-abbrev pub init_o : Init → Option Tree → def.Init
-init_o v none = def.no_init
-init_o v (some t) = init_from v t
+abbrev pub init_by : (Tree → def.Init) → Option Tree → def.Init
+init_by v none = def.no_init
+init_by v (some t) = v t
+
+abbrev pub init_o : List Core → Init → def.Init
+init_o xs NoInit = def.no_init
+init_o xs (Recorded i) = init_by def.recorded (tree_o xs i)
+init_o xs (Seen i) = init_by def.seen (tree_o xs i)
 
 -- the nodes of a value that is given
 pub record Runs (w : List ℕ) (v : Option Tree) (at m : ℕ) : Type 0 where

@@ -9,10 +9,9 @@ ghost use Rattle.words.specs.Layout.{tree};
 ghost use Rattle.words_scopes.specs.State.{Good, stack, targeted};
 ghost use Rattle.words_scopes.specs.Kinds.{type_of};
 ghost use Rattle.scope_values.specs.Steps.{Grown};
-ghost use Rattle.words_nodes.specs.Nodes.{Planted, tree_from, size};
+ghost use Rattle.words_nodes.specs.Nodes.{Planted, size};
 ghost use Rattle.words_state.specs.State.{rest};
 ghost use Rattle.scope_declare.specs.Inits.{init_from, Sited, has_none};
-ghost use Rattle.scope_var_info.specs.Handles.{tree_o};
 ghost use Rattle.scope.specs.Given.{init_o, value_at, Runs};
 ghost use Rattle.scope.specs.Steps.{named, done_of, Moves};
 
@@ -21,49 +20,51 @@ pub use scope_child::{close, open_scope};
 use scope_declare::no_value;
 pub use scope_define::Init;
 pub use scope_find::{
-    has_constant, ident_prevented, read_cnt, read_prevents_inlining, scope_for,
+    Name, has_constant, ident_prevented, name_at, read_cnt, read_prevents_inlining, scope_for,
     should_prevent_inline_because_of_scope, write_prevents_inline,
 };
 pub use scope_marks::mark::{mark_this_sensitive, prevent_inline_of_params, store_inline_barrier};
-pub use scope_read_write::{add_read, add_write};
+pub use scope_read_write::{Write, add_read, add_write};
 use scope_var_info::in_tree;
 pub use scope_var_info::{
     find_binding, find_binding_from_current, find_constant, has_same_this, idx_val,
     is_inline_prevented, is_param, is_undefined, put_constant, put_value, value_ident, value_kind,
     value_len, var_inline_prevented,
 };
-use words::{Run, layout};
+use words::Run;
 use words_nodes::skip;
 pub use words_scopes::kinds::{Scope, ScopeKind, VarDeclKind, VarType};
 pub use words_scopes::prevent_inline;
-use words_state::var_decl_kind;
+use words_state::{inlining, var_decl_kind};
 
 // The init of a declaration, none if its tree is not in the state.
-fn sited(w: &[u32], v: Init, i: usize) -> Init
+fn sited(w: &[u32], v: Init) -> Init
     requires { Good w.now }
-    ensures { (Sited result i (size w.now)) × (init_from result (tree_from (tree w.now) i) ≡ init_o v (tree_o (tree w.now) i)) }
+    ensures { (Sited result (size w.now)) × (init_from (tree w.now) result ≡ init_o (tree w.now) v) }
 {
+    let Some(i) = v.node() else {
+        return Init::NoInit;
+    };
     if in_tree(w, i) {
         return v;
     }
     Init::NoInit
 }
 
-// declare, with its is_undefined given: the init is nothing, or the tree at i; `again`: the binding is flagged (request 3).
+// declare, with its is_undefined given; `again`: the binding is flagged (request 3).
 pub fn declare(
     w: &mut [u32],
     again: bool,
     x: u8,
     v: Init,
-    i: usize,
     undefined: bool,
     kind: VarType,
 ) -> Result<(), Refusal>
     requires { Planted w.old }
-    ensures { Grown w.old w.new (declare again x (init_o v (tree_o (tree w.old) i)) undefined (type_of kind) (stack w.old)) result }
+    ensures { Grown w.old w.new (declare again x (init_o (tree w.old) v) undefined (type_of kind) (stack w.old)) result }
 {
-    let e = sited(w, v, i);
-    scope_declare::declare(w, again, x, e, i, undefined, kind)
+    let e = sited(w, v);
+    scope_declare::declare(w, again, x, e, undefined, kind)
 }
 
 // declare's is_undefined.
@@ -71,32 +72,28 @@ fn undefined_now(w: &[u32], v: Init, is_change: bool) -> bool
     requires { Good w.now }
     ensures { result ≡ (is_var (rest w.now).var_decl_kind && not is_change && has_none v && (rest w.now).inlining) }
 {
-    var_decl_kind(w) == VarType::Declared(VarDeclKind::Var)
-        && !is_change
-        && no_value(v)
-        && w[layout::INLINING] != 0
+    var_decl_kind(w).is_var() && !is_change && no_value(v) && inlining(w)
 }
 
 // Inlining::declare, of a name with its form.
 pub fn declare_m(
     w: &mut [u32],
-    f: u32,
-    x: u8,
+    name: Name,
     v: Init,
-    i: usize,
     is_change: bool,
     kind: VarType,
 ) -> Result<(), Refusal>
     requires { Planted w.old }
-    ensures { Moves w.old w.new (declare_m (named f x) (init_o v (tree_o (tree w.old) i)) is_change (type_of kind) (rest w.old)) (done_of result (rest w.new)) }
+    ensures { Moves w.old w.new (declare_m (named name.form name.ident) (init_o (tree w.old) v) is_change (type_of kind) (rest w.old)) (done_of result (rest w.new)) }
 {
-    let e = sited(w, v, i);
+    let e = sited(w, v);
     let undefined = undefined_now(w, e, is_change);
-    scope_declare::declare(w, 1 < f, x, e, i, undefined, kind)
+    scope_declare::declare(w, name.twice(), name.ident, e, undefined, kind)
 }
 
 // constants.insert: x is a constant of the current scope, with the tree at a node as its value, if one is given; without it if that is an
-// identifier that the script as read targets (request 8).
+// identifier that the script as read targets (request 8). record_value and first_value differ in the call alone: one function that takes the
+// call as a closure is longer, by its contract.
 pub fn add_const(w: &mut [u32], x: u8, v: Option<usize>) -> Result<(), Refusal>
     requires { Planted w.old }
     ensures { Grown w.old w.new (add_const (targeted w.old) x (value_at (tree w.old) v) (stack w.old)) result }

@@ -1,19 +1,26 @@
 // Where every sequence begins: a tree to take values from, and an empty root scope.
 ghost use Rattle.std.specs.Prelude.{◌<◌, ◌≤◌, List, [], ◌∷◌, ◌++◌, length, slice_index};
 ghost use Rattle.def_tree.specs.Tree.{Core, core};
+ghost use Rattle.def_file.specs.Named.{number_of};
 ghost use Rattle.words_nodes.specs.Nodes.{Planted};
 ghost use Rattle.scope_calls.specs.Begun.{Begun};
 
+use def_file::kind::Kind;
 use scope::{Scope, ScopeKind, open_scope};
-use words::clear;
-use words_nodes::add_node;
+use words::{Node, add_node, clear};
 
 // One more node.
-fn grow(w: &mut [u32], kind: u32, arity: u32, num: u32)
-    requires { (16384 ≤ length w.old) × (slice_index w.old 0 < 1024) × (kind < 64) × (arity < 65536) }
-    ensures { (xs : List Core) → Begun w.old xs → Begun w.new (xs ++ (core kind 0 arity num ∷ [])) }
+fn grow(w: &mut [u32], kind: Kind, arity: u32, num: u32)
+    requires { (16384 ≤ length w.old) × (slice_index w.old 0 < 1024) × (number_of kind < 64) × (arity < 65536) }
+    ensures { (xs : List Core) → Begun w.old xs → Begun w.new (xs ++ (core (number_of kind) 0 arity num ∷ [])) }
 {
-    add_node(w, kind, 0, arity, num);
+    let x = Node {
+        kind,
+        form: 0,
+        arity,
+        num,
+    };
+    add_node(w, x);
 }
 
 // An array of all values: identifiers 0 and 1, a literal, a member of 0, an array of a literal and 1, a call of 2.
@@ -22,17 +29,17 @@ fn plant(w: &mut [u32])
     ensures { Planted w.new }
 {
     clear(w);
-    grow(w, 27, 6, 0);
-    grow(w, 21, 0, 0);
-    grow(w, 21, 0, 1);
-    grow(w, 22, 0, 3);
-    grow(w, 37, 1, 4);
-    grow(w, 21, 0, 0);
-    grow(w, 27, 2, 0);
-    grow(w, 22, 0, 7);
-    grow(w, 21, 0, 1);
-    grow(w, 35, 1, 0);
-    grow(w, 21, 0, 2);
+    grow(w, Kind::Array, 6, 0);
+    grow(w, Kind::Ident, 0, 0);
+    grow(w, Kind::Ident, 0, 1);
+    grow(w, Kind::LITERAL, 0, 3);
+    grow(w, Kind::Member, 1, 4);
+    grow(w, Kind::Ident, 0, 0);
+    grow(w, Kind::Array, 2, 0);
+    grow(w, Kind::LITERAL, 0, 7);
+    grow(w, Kind::Ident, 0, 1);
+    grow(w, Kind::Call, 1, 0);
+    grow(w, Kind::Ident, 0, 2);
 }
 
 pub fn begin(w: &mut [u32])

@@ -48,7 +48,7 @@ fn play(rt: &impl Print, w: &mut [u32], s: &[u8], from: usize) -> io::Result<usi
     let mut done = Ok(());
     let mut same = true;
     let mut i = from;
-    // A call has four bytes.
+    // A while: the index behind the last call is the answer, and the byte 0 there ends the sequence.
     while byte(s, i) != 0 {
         done = next(w, s, i, done);
         same = alike(w, same);
@@ -58,6 +58,7 @@ fn play(rt: &impl Print, w: &mut [u32], s: &[u8], from: usize) -> io::Result<usi
     Ok(i + 1)
 }
 
+// Plays all sequences. Where the next one begins is known once one was played, so that the index moves by its length.
 fn play_all(rt: &impl Print, w: &mut [u32], s: &[u8]) -> io::Result<()>
     requires { 16384 ≤ length w.old }
 {

@@ -4,8 +4,8 @@ ghost use Rattle.words_nodes.specs.Nodes.{Planted};
 
 use refusal::Refusal;
 use scope::{
-    find_binding, find_binding_from_current, find_constant, has_same_this, ident_prevented,
-    idx_val, is_inline_prevented, read_cnt, read_prevents_inlining, scope_for,
+    find_binding, find_binding_from_current, find_constant, has_constant, has_same_this,
+    ident_prevented, idx_val, is_inline_prevented, read_cnt, read_prevents_inlining, scope_for,
     should_prevent_inline_because_of_scope, var_inline_prevented, write_prevents_inline,
 };
 use scope_find::{bound_here, in_loop};
@@ -40,35 +40,41 @@ fn put_some<D: fmt::Display + Drop>(rt: &impl Print, n: Option<D>) -> io::Result
     }
 }
 
-// Word i, 0 past the end.
+// Word i, to be printed; 0 past the end, which no table of a state in order reaches, so that it is no sign of absence.
 fn word(w: &[u32], i: usize) -> u32 {
     w.get(i).copied().unwrap_or(0)
 }
 
-// A word of binding k, of constant k, of scope k, of node k of the store at a word.
-fn of_binding(w: &[u32], k: u32, f: u32) -> u32 {
-    word(w, layout::BINDINGS + k as usize * 10 + f as usize)
-}
+// A table of records: where it begins, and how many words a record has.
+#[derive(Clone, Copy, Debug, PartialEq, Eq)]
+struct Table(usize, usize);
 
-fn of_const(w: &[u32], k: u32, f: u32) -> u32 {
-    word(w, layout::CONSTANTS + k as usize * 2 + f as usize)
-}
+const BINDINGS: Table = Table(layout::BINDINGS, 10);
 
-fn of_scope(w: &[u32], k: u32, f: u32) -> u32 {
-    word(w, layout::SCOPES + k as usize * 4 + f as usize)
-}
+const CONSTANTS: Table = Table(layout::CONSTANTS, 2);
 
-fn of_node(w: &[u32], base: u32, k: u32, f: u32) -> u32 {
-    word(w, base as usize + k as usize * 2 + f as usize)
+const SCOPES: Table = Table(layout::SCOPES, 4);
+
+const VALUES: Table = Table(layout::VALUES, 2);
+
+const CONSTANT_VALUES: Table = Table(layout::CONSTANT_VALUES, 2);
+
+// Word f of record k of a table.
+fn field(w: &[u32], table: Table, k: u32, f: u32) -> u32
+    requires { (table.0 ≤ 8192) × (table.1 ≤ 10) }
+{
+    word(w, table.0 + k as usize * table.1 + f as usize)
 }
 
 // The n nodes of a value from node `at` on: kinds and numbers.
-fn show_value(rt: &impl Print, w: &[u32], base: u32, at: u32, n: u32) -> io::Result<()> {
+fn show_value(rt: &impl Print, w: &[u32], store: Table, at: u32, n: u32) -> io::Result<()>
+    requires { (store.0 ≤ 8192) × (store.1 ≤ 10) }
+{
     put(rt, n)?;
     for j in 0..n {
         let k = at.wrapping_add(j);
-        put(rt, of_node(w, base, k, 0) % 64)?;
-        put(rt, of_node(w, base, k, 1))?;
+        put(rt, field(w, store, k, 0) % 64)?;
+        put(rt, field(w, store, k, 1))?;
     }
     Ok(())
 }
@@ -77,13 +83,13 @@ fn show_value(rt: &impl Print, w: &[u32], base: u32, at: u32, n: u32) -> io::Res
 fn show_binding(rt: &impl Print, w: &[u32], k: u32, at: u32) -> io::Result<u32> {
     put(rt, 'b')?;
     for f in 0..4 {
-        put(rt, of_binding(w, k, f))?;
+        put(rt, field(w, BINDINGS, k, f))?;
     }
     for f in [4, 5, 6, 7, 9] {
-        put_bool(rt, of_binding(w, k, f) != 0)?;
+        put_bool(rt, field(w, BINDINGS, k, f) != 0)?;
     }
-    let n = of_binding(w, k, 8);
-    show_value(rt, w, layout::VALUES as u32, at, n)?;
+    let n = field(w, BINDINGS, k, 8);
+    show_value(rt, w, VALUES, at, n)?;
     Ok(at.wrapping_add(n))
 }
 
@@ -99,9 +105,9 @@ fn show_consts(rt: &impl Print, w: &[u32], a: u32, e: u32, at: u32) -> io::Resul
     let mut p = at;
     for k in a..e {
         put(rt, 'c')?;
-        put(rt, of_const(w, k, 0))?;
-        let n = of_const(w, k, 1);
-        show_value(rt, w, layout::CONSTANT_VALUES as u32, p, n)?;
+        put(rt, field(w, CONSTANTS, k, 0))?;
+        let n = field(w, CONSTANTS, k, 1);
+        show_value(rt, w, CONSTANT_VALUES, p, n)?;
         p = p.wrapping_add(n);
     }
     Ok(p)
@@ -123,7 +129,7 @@ fn show_unresolved(rt: &impl Print, w: &[u32], k: u32) -> io::Result<()> {
 fn end_of(w: &[u32], k: u32, f: u32, count: u32) -> u32 {
     let next = k.wrapping_add(1);
     if next < word(w, 2) {
-        return of_scope(w, next, f);
+        return field(w, SCOPES, next, f);
     }
     count
 }
@@ -134,10 +140,12 @@ fn show_scopes(rt: &impl Print, w: &[u32]) -> io::Result<()> {
     let mut cat: u32 = 0;
     for k in 0..d {
         put(rt, 's')?;
-        put(rt, of_scope(w, k, 0))?;
-        put_bool(rt, of_scope(w, k, 3) != 0)?;
-        at = show_bindings(rt, w, of_scope(w, k, 1), end_of(w, k, 1, word(w, 1)), at)?;
-        cat = show_consts(rt, w, of_scope(w, k, 2), end_of(w, k, 2, word(w, 3)), cat)?;
+        put(rt, field(w, SCOPES, k, 0))?;
+        put_bool(rt, field(w, SCOPES, k, 3) != 0)?;
+        let a = field(w, SCOPES, k, 1);
+        at = show_bindings(rt, w, a, end_of(w, k, 1, word(w, 1)), at)?;
+        let c = field(w, SCOPES, k, 2);
+        cat = show_consts(rt, w, c, end_of(w, k, 2, word(w, 3)), cat)?;
         show_unresolved(rt, w, k)?;
     }
     Ok(())
@@ -160,8 +168,10 @@ fn show_found(rt: &impl Print, w: &[u32], x: u8) -> io::Result<()>
 fn show_scope_of(rt: &impl Print, w: &[u32], x: u8) -> io::Result<()>
     requires { Planted w.now }
 {
-    put_bool(rt, scope::has_constant(w, x))?;
-    put_bool(rt, scope_constants::has_constant(w, x))?;
+    // Twice: the tables of what is printed have two columns for it.
+    let constant = has_constant(w, x);
+    put_bool(rt, constant)?;
+    put_bool(rt, constant)?;
     put(rt, find_constant(w, x).unwrap_or(0))?;
     let s = scope_for(w, x);
     put_bool(rt, s.bound)?;
@@ -229,7 +239,7 @@ fn show_places(rt: &impl Print, w: &[u32]) -> io::Result<()>
         put_places(rt, w, x)?;
     }
     for k in 0..word(w, 1) {
-        put_places(rt, w, (of_binding(w, k, 0) % 256) as u8)?;
+        put_places(rt, w, (field(w, BINDINGS, k, 0) % 256) as u8)?;
     }
     Ok(())
 }
@@ -238,12 +248,7 @@ fn show_places(rt: &impl Print, w: &[u32]) -> io::Result<()>
 pub fn alike(w: &[u32], before: bool) -> bool
     requires { Planted w.now }
 {
-    for x in 0..=255 {
-        if words_scopes::find_binding(w, x) != find_by_walk(w, x) {
-            return false;
-        }
-    }
-    before
+    before && (0..=255).all(|x| words_scopes::find_binding(w, x) == find_by_walk(w, x))
 }
 
 fn show_all(rt: &impl Print, w: &[u32]) -> io::Result<()>

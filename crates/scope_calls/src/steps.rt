@@ -4,37 +4,18 @@ ghost use Rattle.words_nodes.specs.Nodes.{Planted};
 use super::values::{node_of, value_of};
 use refusal::Refusal;
 use scope::{
-    Init, Scope, ScopeKind, VarDeclKind, VarType, add_const, add_read, add_write, close, declare,
+    Init, Scope, ScopeKind, VarType, Write, add_const, add_read, add_write, close, declare,
     first_value, mark_this_sensitive, open_scope, prevent_inline, prevent_inline_of_params,
     record_value, store_inline_barrier,
 };
-use scope_define::define;
-
-fn scope_kind(k: u8) -> ScopeKind {
-    match k {
-        0 => ScopeKind::Cond,
-        1 => ScopeKind::Loop,
-        2 => ScopeKind::Block,
-        3 => ScopeKind::Fn { named: false },
-        _ => ScopeKind::Fn { named: true },
-    }
-}
-
-fn var_kind(k: u8) -> VarType {
-    match k {
-        0 => VarType::Param,
-        1 => VarType::Declared(VarDeclKind::Var),
-        2 => VarType::Declared(VarDeclKind::Let),
-        _ => VarType::Declared(VarDeclKind::Const),
-    }
-}
+use words_scopes::define;
 
 // Opens a scope of kind m.
 fn opens(w: &mut [u32], m: u8) -> Result<(), Refusal>
     requires { Planted w.old }
     ensures { Planted w.new }
 {
-    open_scope(w, Scope::new(scope_kind(m)))
+    open_scope(w, Scope::new(ScopeKind::from_word(u32::from(m))))
 }
 
 // The init by value v and mark m: none for value 0, else recorded, or only seen.
@@ -42,10 +23,11 @@ fn init_of(v: u8, m: u8) -> Init {
     if v == 0 {
         return Init::NoInit;
     }
+    let i = node_of(v);
     if m / 8 % 2 == 1 {
-        return Init::Seen;
+        return Init::Seen(i);
     }
-    Init::Recorded
+    Init::Recorded(i)
 }
 
 // m: the type, and from bit 2 on whether it is undefined, whether its value is only seen, and whether it is flagged.
@@ -53,10 +35,10 @@ fn declares(w: &mut [u32], x: u8, v: u8, m: u8) -> Result<(), Refusal>
     requires { Planted w.old }
     ensures { Planted w.new }
 {
-    let kind = var_kind(m % 4);
+    let kind = VarType::from_word(u32::from(m % 4));
     let undefined = m / 4 % 2 == 1;
     let again = m / 16 % 2 == 1;
-    declare(w, again, x, init_of(v, m), node_of(v), undefined, kind)
+    declare(w, again, x, init_of(v, m), undefined, kind)
 }
 
 // m: the name is `arguments`; the write is forced.
@@ -64,10 +46,15 @@ fn write(w: &mut [u32], x: u8, m: u8) -> Result<(), Refusal>
     requires { Planted w.old }
     ensures { Planted w.new }
 {
-    add_write(w, x, m % 2 == 1, m / 2 % 2 == 1)
+    let how = if m / 2 % 2 == 1 {
+        Write::Forced
+    } else {
+        Write::Plain
+    };
+    add_write(w, x, m % 2 == 1, how)
 }
 
-// The calls that are never refused.
+// The calls that are never refused, by their number, which is what a sequence gives.
 fn mark(w: &mut [u32], c: u8, x: u8, m: u8)
     requires { Planted w.old }
     ensures { Planted w.new }
@@ -85,7 +72,7 @@ fn mark(w: &mut [u32], c: u8, x: u8, m: u8)
     }
 }
 
-// Call c, with identifier x, value v and mark m.
+// Call c, with identifier x, value v and mark m: by its number, which is what a sequence gives.
 pub fn call(w: &mut [u32], c: u8, x: u8, v: u8, m: u8) -> Result<(), Refusal>
     requires { Planted w.old }
     ensures { Planted w.new }

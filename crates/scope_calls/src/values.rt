@@ -1,5 +1,6 @@
 // The values of a script: where each begins in the tree that they are taken from.
 // The first node of value v: two identifiers, a literal, a member of an identifier, an array, a call, the whole tree; 8 begins behind its last node.
+// By its number, which is what a sequence gives.
 pub fn node_of(v: u8) -> usize {
     match v {
         1 => 1,

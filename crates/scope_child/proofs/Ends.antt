@@ -1,11 +1,14 @@
 -- The end of a scope, whole. Assumes nothing.
-use Rattle.std.proofs.Common.{◌≡◌, ℕ, zero, suc, ◌+◌, ◌-◌, ◌*◌, ◌%◌, ◌<◌, ◌≤◌, Bool, true, false, ◌||◌, ◌⊎◌, List, [], ◌∷◌, ◌++◌, length, get_or, drop, set, sym, refl, ap, ◌∙◌, inl, inr, ⊎_elim, arith, length-drop, length-set, get_or-drop, get_or-set_other, get_or-set_same, ext_get_or}
+use Rattle.std.proofs.Common.{◌≡◌, ℕ, zero, suc, ◌+◌, ◌-◌, ◌*◌, ◌<◌, ◌≤◌, Bool, true, false, ◌||◌, ◌⊎◌, List, [], ◌∷◌, ◌++◌, length, get_or, drop, set, sym, refl, ap, ◌∙◌, inl, inr, ⊎_elim, arith, length-drop, length-set, get_or-drop, get_or-set_other, get_or-set_same, ext_get_or}
 use Rattle.def_tree.specs.Base.{pick}
 use Rattle.def_pass.specs.Scope.{VarInfo, Scope, Stack, is_fn, is_var, put, hoist, hoist_all, on_bindings, close, counts_in, count_in, ending_all, ending}
-use Rattle.words.specs.Tab.{tab, tab-zero, tab-suc, length-tab, get_d-tab, sum-zero, below_or_not}
+use Rattle.words.specs.Tab.{tab, sum, sum-next, tab-zero, tab-suc, length-tab, get_d-tab, sum-zero, below_or_not}
 use Rattle.words.specs.Layout.{tree}
 use Rattle.words.specs.Moved.{Zeroed}
 use Rattle.words.proofs.Nodes.{beyond-same, tree-same}
+use Rattle.words_scopes.specs.declared.kinds.ScopeKind.{ScopeKind}
+use Rattle.words_scopes.specs.declared.kinds.ScopeKind.TheVariants.{Cond, Loop, Block, Fn}
+use Rattle.words_scopes.specs.Kinds.{kind_of}
 use Rattle.words_scopes.specs.State.{Good, Past, Becomes, bind_at, binds, stack, Fits, heads, head_at, heads_at, scope_kind_of, drop_inner, len_at, clen_at}
 use Rattle.words_scopes.proofs.Index.{beside_none}
 use Rattle.scope_values.proofs.Count.{depth_is}
@@ -14,18 +17,11 @@ use Rattle.scope_child.specs.Hoist.{record_at, hoist_up, end_up}
 use Rattle.scope_redeclare.proofs.Top.{top_scope, under, heads-top, stack_top, under-length, top-fits}
 use Rattle.scope_child.proofs.Hoist.{record_same}
 
-pub fn-yes : (k : ℕ) → 3 ≤ k → is_fn (scope_kind_of k) ≡ true
-fn-yes zero h = absurd (omega arith)
-fn-yes (suc zero) h = absurd (omega arith)
-fn-yes (suc (suc zero)) h = absurd (omega arith)
-fn-yes (suc (suc (suc zero))) h = refl
-fn-yes (suc (suc (suc (suc k)))) h = refl
-
-pub fn-no : (k : ℕ) → k < 3 → is_fn (scope_kind_of k) ≡ false
-fn-no zero h = refl
-fn-no (suc zero) h = refl
-fn-no (suc (suc zero)) h = refl
-fn-no (suc (suc (suc k))) h = absurd (omega arith)
+pub no-fn : (k : ScopeKind) → (k ≡ Cond) ⊎ ((k ≡ Loop) ⊎ (k ≡ Block)) → is_fn (kind_of k) ≡ false
+no-fn Cond h = refl
+no-fn Loop h = refl
+no-fn Block h = refl
+no-fn (Fn b) h = ⊎_elim (λ (e : Fn b ≡ Cond). absurd cc) (⊎_elim (λ (e : Fn b ≡ Loop). absurd cc) (λ (e : Fn b ≡ Block). absurd cc)) h
 
 pub close-few : (st : Stack) → length st < 2 → close st ≡ []
 unfolding close
@@ -73,17 +69,18 @@ counts-snoc : (xs : List VarInfo) (b : VarInfo) → counts_in (xs ++ (b ∷ []))
 counts-snoc [] b = omega arith
 counts-snoc (x ∷ xs) b = omega (arith, counts-snoc xs b)
 
--- no count, and a count more
-pub sum-none : (w : List ℕ) (a : ℕ) → 0 ≡ counts_in (tab (a - a) (λ i. bind_at w (a + i))) % 4294967296
-sum-none w a = (let e : a - a ≡ 0 = omega arith in rw e (sym (ap (λ (bs : List VarInfo). counts_in bs % 4294967296) (tab-zero (λ i. bind_at w (a + i))))))
-
-pub sum_more : (w : List ℕ) (a j s : ℕ) → a ≤ j → s ≡ counts_in (tab (j - a) (λ i. bind_at w (a + i))) % 4294967296 → (s + get_or w (8080 + j) 0) % 4294967296 ≡ counts_in (tab (j + 1 - a) (λ i. bind_at w (a + i))) % 4294967296
-sum_more w a j s h e =
-    let n : j + 1 - a ≡ j - a + 1 = omega arith in
-    let q : a + (j - a) ≡ j = omega arith in
-    let t : counts_in (tab (j + 1 - a) (λ i. bind_at w (a + i))) ≡ counts_in (tab (j - a) (λ i. bind_at w (a + i))) + get_or w (8080 + j) 0 =
-    rw n (ap counts_in (tab-suc (j - a) (λ i. bind_at w (a + i))) ∙ counts-snoc (tab (j - a) (λ i. bind_at w (a + i))) (bind_at w (a + (j - a))) ∙ rw q refl) in
-    omega (arith, e, t)
+-- the counts from a on, n of them, as their table has them
+pub sum_counts : (w : List ℕ) (a n : ℕ) → sum (λ j. get_or w (8080 + j * 1) 0) (a + n) ≡ sum (λ j. get_or w (8080 + j * 1) 0) a + counts_in (tab n (λ i. bind_at w (a + i)))
+sum_counts w a zero = let e : a + 0 ≡ a = omega arith in rw (e, tab-zero (λ i. bind_at w (a + i))) (omega arith)
+sum_counts w a (suc n) =
+    let f : ℕ → ℕ = λ j. get_or w (8080 + j * 1) 0 in
+    let e : a + suc n ≡ a + n + 1 = omega arith in
+    let m : suc n ≡ n + 1 = omega arith in
+    let q : 8080 + (a + n) * 1 ≡ 8080 + (a + n) = omega arith in
+    let at : f (a + n) ≡ get_or w (8080 + (a + n)) 0 = ap (λ (i : ℕ). get_or w i 0) q in
+    let t : counts_in (tab (suc n) (λ i. bind_at w (a + i))) ≡ counts_in (tab n (λ i. bind_at w (a + i))) + get_or w (8080 + (a + n)) 0 =
+    rw m (ap counts_in (tab-suc n (λ i. bind_at w (a + i))) ∙ counts-snoc (tab n (λ i. bind_at w (a + i))) (bind_at w (a + n))) in
+    omega (arith, ap (λ (k : ℕ). sum f k) e, sum-next f (a + n), sum_counts w a n, at, t)
 
 drop-tab : (f : ℕ → VarInfo) (a e : ℕ) → a ≤ e → drop a (tab e f) ≡ tab (e - a) (λ j. f (a + j))
 drop-tab f a e h =
@@ -125,8 +122,8 @@ module _ (w : List ℕ) (g : Good w) (z : 0 < get_or w 2 0) where
   unfolding binds
   top-counts = ap counts_in (drop-tab (λ j. bind_at w j) (get_or w (7184 + (get_or w 2 0 - 1) * 4 + 1) 0) (get_or w 1 0) (top-fits w g z))
 
-  pub ends-fn : 1 < get_or w 2 0 → 3 ≤ get_or w (7184 + (get_or w 2 0 - 1) * 4) 0 → ending (stack w) ≡ counts_in (tab (get_or w 1 0 - get_or w (7184 + (get_or w 2 0 - 1) * 4 + 1) 0) (λ j. bind_at w (get_or w (7184 + (get_or w 2 0 - 1) * 4 + 1) 0 + j)))
-  ends-fn m h = ap ending (stack_top w g z) ∙ ending-fn (top_scope w g z) (under w g z) (omega (arith, under-length w g z)) (fn-yes (get_or w (7184 + (get_or w 2 0 - 1) * 4) 0) h) ∙ top-counts
+  pub ends-fn : 1 < get_or w 2 0 → is_fn (scope_kind_of (get_or w (7184 + (get_or w 2 0 - 1) * 4) 0)) ≡ true → ending (stack w) ≡ counts_in (tab (get_or w 1 0 - get_or w (7184 + (get_or w 2 0 - 1) * 4 + 1) 0) (λ j. bind_at w (get_or w (7184 + (get_or w 2 0 - 1) * 4 + 1) 0 + j)))
+  ends-fn m h = ap ending (stack_top w g z) ∙ ending-fn (top_scope w g z) (under w g z) (omega (arith, under-length w g z)) h ∙ top-counts
 
 pub up_same : (f g : ℕ → VarInfo) (a n : ℕ) (st : Stack) → ((j : ℕ) → j < n → f (a + j) ≡ g (a + j)) → hoist_up f a n st ≡ hoist_up g a n st
 up_same f g a zero st h = refl
@@ -215,25 +212,25 @@ module _ (w u : List ℕ) (g : Good w) (z : 1 < get_or w 2 0) (is : stack u ≡ 
   pub still-deep : 0 < get_or u 2 0
   still-deep = let l = sym (depth_is u) ∙ ap length (is ∙ ap drop_inner (stack_top w g deep)) ∙ depth-drop (top_scope w g deep) (under w g deep) more in omega (arith, more)
 
-  pub closed-fn : 3 ≤ get_or w (7184 + (get_or w 2 0 - 1) * 4) 0 → drop_inner (stack w) ≡ close (stack w)
-  closed-fn h = ap drop_inner (stack_top w g deep) ∙ sym (close-fn (top_scope w g deep) (under w g deep) more (fn-yes (get_or w (7184 + (get_or w 2 0 - 1) * 4) 0) h)) ∙ ap close (sym (stack_top w g deep))
+  pub closed-fn : is_fn (scope_kind_of (get_or w (7184 + (get_or w 2 0 - 1) * 4) 0)) ≡ true → drop_inner (stack w) ≡ close (stack w)
+  closed-fn h = ap drop_inner (stack_top w g deep) ∙ sym (close-fn (top_scope w g deep) (under w g deep) more h) ∙ ap close (sym (stack_top w g deep))
 
-  pub closed-var : get_or w (7184 + (get_or w 2 0 - 1) * 4) 0 < 3 → Past 0 w u → hoist_up (λ j. record_at u j) (get_or w (7184 + (get_or w 2 0 - 1) * 4 + 1) 0) (get_or w 1 0 - get_or w (7184 + (get_or w 2 0 - 1) * 4 + 1) 0) (stack u) ≡ close (stack w)
+  pub closed-var : is_fn (scope_kind_of (get_or w (7184 + (get_or w 2 0 - 1) * 4) 0)) ≡ false → Past 0 w u → hoist_up (λ j. record_at u j) (get_or w (7184 + (get_or w 2 0 - 1) * 4 + 1) 0) (get_or w 1 0 - get_or w (7184 + (get_or w 2 0 - 1) * 4 + 1) 0) (stack u) ≡ close (stack w)
   closed-var h k =
       let a : ℕ = get_or w (7184 + (get_or w 2 0 - 1) * 4 + 1) 0 in
       let n : ℕ = get_or w 1 0 - a in
       up_same (λ j. record_at u j) (λ j. record_at w j) a n (stack u) (λ j l. record_same w u (a + j) (λ q c b. k.0 q (omega arith) (omega (arith, g.count))) (k.1 (8080 + (a + j)) (omega arith) (omega (arith, g.count))))
       ∙ ap (hoist_up (λ j. record_at w j) a n) (is ∙ ap drop_inner (stack_top w g deep))
-      ∙ close-var w a (top_scope w g deep) (under w g deep) (top-fits w g deep) refl more (fn-no (get_or w (7184 + (get_or w 2 0 - 1) * 4) 0) h)
+      ∙ close-var w a (top_scope w g deep) (under w g deep) (top-fits w g deep) refl more h
       ∙ ap close (sym (stack_top w g deep))
 
-  pub ended-var : get_or w (7184 + (get_or w 2 0 - 1) * 4) 0 < 3 → Past 0 w u → end_up (λ j. record_at u j) (get_or w (7184 + (get_or w 2 0 - 1) * 4 + 1) 0) (get_or w 1 0 - get_or w (7184 + (get_or w 2 0 - 1) * 4 + 1) 0) (stack u) ≡ ending (stack w)
+  pub ended-var : is_fn (scope_kind_of (get_or w (7184 + (get_or w 2 0 - 1) * 4) 0)) ≡ false → Past 0 w u → end_up (λ j. record_at u j) (get_or w (7184 + (get_or w 2 0 - 1) * 4 + 1) 0) (get_or w 1 0 - get_or w (7184 + (get_or w 2 0 - 1) * 4 + 1) 0) (stack u) ≡ ending (stack w)
   ended-var h k =
       let a : ℕ = get_or w (7184 + (get_or w 2 0 - 1) * 4 + 1) 0 in
       let n : ℕ = get_or w 1 0 - a in
       end_same (λ j. record_at u j) (λ j. record_at w j) a n (stack u) (λ j l. record_same w u (a + j) (λ q c b. k.0 q (omega arith) (omega (arith, g.count))) (k.1 (8080 + (a + j)) (omega arith) (omega (arith, g.count))))
       ∙ ap (end_up (λ j. record_at w j) a n) (is ∙ ap drop_inner (stack_top w g deep))
-      ∙ ending-var w a (top_scope w g deep) (under w g deep) (top-fits w g deep) refl more (fn-no (get_or w (7184 + (get_or w 2 0 - 1) * 4) 0) h)
+      ∙ ending-var w a (top_scope w g deep) (under w g deep) (top-fits w g deep) refl more h
       ∙ ap ending (sym (stack_top w g deep))
 
 -- one scope or none: every count ends

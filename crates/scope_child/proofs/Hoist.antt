@@ -60,7 +60,7 @@ count-away i (s ∷ st) e = count-in i s.bindings ∙ go (find_in i s.bindings) 
     go (some b) e = absurd (let z : ◌≡◌ {A = ℕ} 0 1 = cc in omega arith)
 
 -- in the words: record j of a closed scope, of x, and whether it is prevented then
-module _ (w : List ℕ) (j x : ℕ) (r : Record) (t : Recorded w j r) (named : get_or w (4112 + j * 10) 0 ≡ x) (var : get_or w (4112 + j * 10 + 1) 0 ≡ 1) (p : Bool) (mark : p ≡ (unres_top (stack w) x || r.prevented)) where
+module _ (w : List ℕ) (j x : ℕ) (r : Record) (t : Recorded w j r) (named : get_or w (4112 + j * 10) 0 ≡ x) (is-var : is_var (record_at w j).kind ≡ true) (p : Bool) (mark : p ≡ (unres_top (stack w) x || r.prevented)) where
   abbrev pub gone : VarInfo
   gone = hoist (unres_top (stack w)) (record_at w j)
 
@@ -75,9 +75,6 @@ module _ (w : List ℕ) (j x : ℕ) (r : Record) (t : Recorded w j r) (named : g
 
   pub refill-gone : (b : VarInfo) → b.id ≡ x → with_count (get_or w (8080 + j) 0) (refill up (with_value none b)) ≡ gone
   refill-gone b e = bind-eq (e ∙ sym named) t.kind t.alias t.reads prevented-is refl refl t.this_sensitive refl refl
-
-  is-var : is_var (record_at w j).kind ≡ true
-  is-var = ap (λ (n : ℕ). is_var (var_type_of n)) var
 
   pub gone-there : {w' : List ℕ} (k : ℕ) → OwnAt w x k → Listed w w' (set (binds w) k gone) (consts w) → Becomes w w' (hoist_one (record_at w j) (stack w))
   gone-there k o l =
@@ -94,13 +91,6 @@ module _ (w : List ℕ) (j x : ℕ) (r : Record) (t : Recorded w j r) (named : g
 
   pub ends-absent : Own w x None → 0 ≡ end_one (record_at w j) (stack w)
   ends-absent o = sym (end-var (record_at w j) (stack w) is-var ∙ rw named (count-away x (stack w) o))
-
--- the kind of a record that is no `var`
-pub no-var : (k : ℕ) → (k ≡ 1 → ⊥) → is_var (var_type_of k) ≡ false
-no-var zero h = refl
-no-var (suc zero) h = absurd (h refl)
-no-var (suc (suc zero)) h = refl
-no-var (suc (suc (suc k))) h = refl
 
 -- one after the other
 pub length-one : (c : VarInfo) (st : Stack) → length (hoist_one c st) ≡ length st

@@ -12,21 +12,24 @@ ghost use Rattle.scope_child.specs.Hoist.{record_at, hoist_one, hoist_up, end_on
 use refusal::Refusal;
 use scope_redeclare::{own_binding, rewrite, set_count};
 use scope_values::set_run;
-use words::{Run, flag_at, layout, wipe};
+use words::{Run, flag_at, layout, sum_at, wipe};
 pub use words_scopes::kinds::{Scope, ScopeKind};
 use words_scopes::{Record, append_record, drop_scope, open, record_at};
 
-// What a `var` of a closed scope, whose record j is, leaves in the innermost scope: in place of its binding of the same name, whose count is
-// answered, or appended.
-fn hoist_var(w: &mut [u32], j: usize) -> u32
-    requires { (Good w.old) × (0 < slice_index w.old 2) × (slice_index w.old 1 ≤ j) × (j + slice_index w.old 3 < 256) × (slice_index w.old (4112 + j * 10) < 256) × (slice_index w.old (4112 + j * 10 + 1) ≡ 1) }
+// A binding of a closed scope, whose record j is, goes up if it is a `var`: in place of the innermost scope's binding of the same name, or appended.
+// Answers the count that ends.
+fn hoist_one(w: &mut [u32], j: usize) -> u32
+    requires { (Good w.old) × (0 < slice_index w.old 2) × (slice_index w.old 1 ≤ j) × (j + slice_index w.old 3 < 256) × (slice_index w.old (4112 + j * 10) < 256) }
     ensures { (Becomes w.old w.new (hoist_one (record_at w.old j) (stack w.old))) × (Past (j + 1) w.old w.new) × (slice_index w.new 1 ≤ j + 1) × (slice_index w.new 3 ≡ slice_index w.old 3) × (result ≡ end_one (record_at w.old j) (stack w.old)) }
 {
-    let x = w[layout::BINDINGS + j * 10] as u8;
     let closed = record_at(w, j);
+    let count = w[layout::COUNTS + j];
+    if !closed.kind.is_var() {
+        return count;
+    }
+    let x = w[layout::BINDINGS + j * 10] as u8;
     let d = w[layout::SCOPE_COUNT] as usize - 1;
     let used = flag_at(w, layout::UNRESOLVED + d * 8, x);
-    let count = w[layout::COUNTS + j];
     let hoisted = Record {
         prevented: used || closed.prevented,
         undefined: false,
@@ -44,17 +47,6 @@ fn hoist_var(w: &mut [u32], j: usize) -> u32
     old
 }
 
-// A binding of a closed scope, whose record j is, goes up if it is a `var`. Answers the count that ends.
-fn hoist_one(w: &mut [u32], j: usize) -> u32
-    requires { (Good w.old) × (0 < slice_index w.old 2) × (slice_index w.old 1 ≤ j) × (j + slice_index w.old 3 < 256) × (slice_index w.old (4112 + j * 10) < 256) }
-    ensures { (Becomes w.old w.new (hoist_one (record_at w.old j) (stack w.old))) × (Past (j + 1) w.old w.new) × (slice_index w.new 1 ≤ j + 1) × (slice_index w.new 3 ≡ slice_index w.old 3) × (result ≡ end_one (record_at w.old j) (stack w.old)) }
-{
-    if w[layout::BINDINGS + j * 10 + layout::KIND] == 1 {
-        return hoist_var(w, j);
-    }
-    w[layout::COUNTS + j]
-}
-
 // The bindings of a closed scope, whose records are those from a up to e, go up. Answers the sum of the counts that end.
 fn hoist_all(w: &mut [u32], a: usize, e: usize) -> u32
     requires { (Good w.old) × (0 < slice_index w.old 2) × (slice_index w.old 1 ≤ a) × (a ≤ e) × (e + slice_index w.old 3 ≤ 256) × ((j : ℕ) → j < e → slice_index w.old (4112 + j * 10) < 256) }
@@ -68,16 +60,12 @@ fn hoist_all(w: &mut [u32], a: usize, e: usize) -> u32
     ended
 }
 
-// The sum of the counts of the bindings from a up to e.
+// The sum of the counts of the bindings from a up to e, modulo 2^32.
 fn sum_counts(w: &[u32], a: usize, e: usize) -> u32
     requires { (16384 ≤ length w.now) × (a ≤ e) × (e ≤ 256) }
     ensures { result ≡ counts_in (tab (e - a) (λ j. bind_at w.now (a + j))) % 4294967296 }
 {
-    let mut sum: u32 = 0;
-    for j in a..e {
-        sum = sum.wrapping_add(w[layout::COUNTS + j]);
-    }
-    sum
+    (sum_at(w, layout::COUNTS, 1, a, e) % (1 << 32)) as u32
 }
 
 // No scope is left.
@@ -104,15 +92,19 @@ pub fn close(w: &mut [u32]) -> u32
         drop_all(w);
         return ended;
     }
-    let kind = w[layout::SCOPES + (d - 1) * 4];
+    let kind = ScopeKind::from_word(w[layout::SCOPES + (d - 1) * 4]);
     let a = w[layout::SCOPES + (d - 1) * 4 + layout::FIRST_BINDING] as usize;
-    if kind < 3 {
-        drop_scope(w);
-        return hoist_all(w, a, e);
+    match kind {
+        ScopeKind::Cond | ScopeKind::Loop | ScopeKind::Block => {
+            drop_scope(w);
+            hoist_all(w, a, e)
+        }
+        ScopeKind::Fn { .. } => {
+            let ended = sum_counts(w, a, e);
+            drop_scope(w);
+            ended
+        }
     }
-    let ended = sum_counts(w, a, e);
-    drop_scope(w);
-    ended
 }
 
 // Opens a scope.

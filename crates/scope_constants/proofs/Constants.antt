@@ -8,18 +8,17 @@ use Rattle.std.proofs.Common.{Some, None}
 use Prim.Native.Nat.{ℕ, zero, suc, ◌+◌, ◌-◌, ◌*◌, ◌≤◌, ◌<◌}
 use native.Mathlib.Omega.{arith}
 use borrow.Author.Tests.{eq-eqb, ne_eqb}
-use lib.ListN.{length, get_or, set, take, drop, length-set, length-take, length-drop, length-append}
+use lib.ListN.{length, get_or, set, take, drop, length-set, length-drop, length-append}
 use lib.Dec.{eqb, ltb}
 use lib.Seq.{drop-set-add, take-set-le, get_or-drop, take-append-le, drop-append-le, get_or_at, set_at}
 use Rattle.def_tree.specs.Base.{or_else}
 use Rattle.def_tree.specs.Tree.{Tree, Core}
 use Rattle.def_pass.specs.Tree.{count_o}
-use Rattle.def_pass.specs.Scope.{VarInfo, Stack, const_in, put_const, untargeted, add_const, find_constant, has_constant, flat, is_some, Free, recorded_nodes, live}
+use Rattle.def_pass.specs.Scope.{VarInfo, Stack, const_in, put_const, untargeted, add_const, find_constant, flat, Free, recorded_nodes, live}
 use Rattle.words.specs.Tab.{tab, tab-zero, length-tab, get_d-tab, take-tab, sum-part}
 use Rattle.words.specs.Layout.{run, core_from}
 use Rattle.words.proofs.Nodes.{run_length}
 use Rattle.words_scopes.specs.State.{Head, split, head_at, heads_at, heads, flags, binds, consts, stack, const_at, clen_at, off, coff, crun_at, CFits, Good, targeted, value_of}
-use Rattle.words_scopes.proofs.Split.{tested}
 use Rattle.words_scopes.proofs.Grow.{some-head}
 use Rattle.words.specs.declared.Run.{Run}
 use Rattle.scope_values.specs.Steps.{Listed, over, Offered, run_value}
@@ -72,29 +71,6 @@ find_c i (h ∷ hs) cs = or_else (flat (const_in i (drop h.cstart cs))) (find_c 
 find-split : (i : ℕ) (hs : List Head) (fl : List ℕ) (bs : List VarInfo) (cs : List Const) → find_constant i (split hs fl bs cs) ≡ find_c i hs cs
 find-split i [] fl bs cs = refl
 find-split i (h ∷ hs) fl bs cs = ap (or_else (flat (const_in i (drop h.cstart cs)))) (find-split i hs (take h.start fl) (take h.start bs) (take h.cstart cs))
-
-has-cut : (i a : ℕ) (cs : List Const) → (is_some (const_in i (drop a cs)) || is_some (const_in i (take a cs))) ≡ is_some (const_in i cs)
-has-cut i zero cs = none_right (is_some (const_in i cs))
-  where
-    none_right : (b : Bool) → (b || false) ≡ b
-    none_right true = refl
-    none_right false = refl
-has-cut i (suc a) [] = refl
-has-cut i (suc a) (c ∷ cs) = tested (eqb c.0 i)
-    (λ e. rw (const-yes i c (take a cs) e, const-yes i c cs e) (all_right (is_some (const_in i (drop a cs)))))
-    (λ e. rw (const-no i c (take a cs) e, const-no i c cs e) (has-cut i a cs))
-  where
-    all_right : (b : Bool) → (b || true) ≡ true
-    all_right true = refl
-    all_right false = refl
-
-pub has_split : (i : ℕ) (hs : List Head) (fl : List ℕ) (bs : List VarInfo) (cs : List Const) → CFits hs (length cs) → has_constant i (split hs fl bs cs) ≡ is_some (const_in i cs)
-has_split i [] fl bs [] f = refl
-has_split i [] fl bs (c ∷ cs) f = absurd (omega arith)
-has_split i (h ∷ hs) fl bs cs f =
-    let a : ℕ = h.cstart in
-    let l : length (take a cs) ≡ a = omega (arith, length-take a cs, f.0) in
-    ap (λ (b : Bool). is_some (const_in i (drop a cs)) || b) (has_split i hs (take h.start fl) (take h.start bs) (take a cs) (rw l f.1)) ∙ has-cut i a cs
 
 -- the words
 module _ (w : List ℕ) (c : ℕ) where
@@ -184,16 +160,6 @@ module _ (w : List ℕ) (x k e : ℕ) (h : 0 < k) (t : Walked w x k e) where
         let l : r < get_or w 3 0 = omega (arith, f.1, t.most) in
         let part = sum-part (λ j. clen_at w j) r (get_or w 3 0) l in
         rw e (hit ∙ full-const w r (find_c x (heads_at w (k - 1)) (tab_c w a)) z, z, omega (arith, g.cvals), g.cwhole r l, g.cfree r l)
-
--- has_constant: one scan of all
-module _ (w : List ℕ) (g : Good w) (x : ℕ) where
-  has_all : has_constant x (stack w) ≡ is_some (const_in x (tab_c w (get_or w 3 0)))
-  unfolding stack consts
-  has_all = has_split x (heads w) (flags w) (binds w) (tab_c w (get_or w 3 0)) (rw length-tab g.cfits)
-
-  pub has-first : (o : std.Option ℕ) → FirstAt w 6672 2 0 (get_or w 3 0) x o → has_constant x (stack w) ≡ std.is_some o
-  has-first None m = has_all ∙ ap (λ (o : Option (Option Tree)). is_some o) (here-miss w (get_or w 3 0) 0 x (get_or w 3 0) (omega arith) m (omega arith)).0
-  has-first (Some k) h = has_all ∙ ap (λ (o : Option (Option Tree)). is_some o) (here-hit w (get_or w 3 0) 0 x k h.0 h.3 h.1 h.2).0
 
 -- the innermost scope
 put-split : (tg : ℕ → Bool) (x : ℕ) (v : Option Tree) (h : Head) (hs : List Head) (fl : List ℕ) (bs : List VarInfo) (cs cs' : List Const) → take h.cstart cs' ≡ take h.cstart cs → drop h.cstart cs' ≡ put_const x (untargeted tg v) (drop h.cstart cs)

@@ -3,25 +3,18 @@
 
 ghost use Rattle.std.specs.Prelude.{◌≡◌, ◌+◌, ◌*◌, ◌-◌, ◌≤◌, ◌<◌, [], ◌∷◌, ◌++◌, get_or, set};
 ghost use Rattle.std.proofs.Math.Option.{none};
-ghost use Rattle.def_pass.specs.Scope.{has_constant, add_const, Free};
+ghost use Rattle.def_pass.specs.Scope.{add_const, Free};
 ghost use Rattle.words_scopes.specs.State.{Good, split, stack, heads, flags, binds, consts, off, coff, targeted};
 ghost use Rattle.scope_values.specs.Steps.{Listed, Grown, Offered, run_value};
 ghost use Rattle.scope_constants.specs.Consts.{Found, Own, Left};
 
+use def_file::kind::Kind;
 use refusal::Refusal;
-use scope_values::{const_offset, passes, splice};
+use scope_values::{const_offset, room_for, splice};
 use words::{Run, first_at, flag_at, kind_at, layout, num_at};
 
-// Is there a constant of x.
-pub fn has_constant(w: &[u32], x: u8) -> bool
-    requires { Good w.now }
-    ensures { result ≡ has_constant x (stack w.now) }
-{
-    let c = w[layout::CONSTANT_COUNT] as usize;
-    first_at(w, layout::CONSTANTS, 2, 0, c, x).is_some()
-}
-
 // The value of the innermost constant of x that has one; no identifier that the script as read targets (request 8).
+// The walk over the scopes is that of words_scopes' `find_by_walk`, but for the test of the length, by which it goes on.
 pub fn find_constant(w: &[u32], x: u8) -> Option<Run>
     requires { Good w.now }
     ensures { Found w.now x result }
@@ -85,9 +78,7 @@ fn replace_const(w: &mut [u32], k: usize, r: Run) -> Result<(), Refusal>
     ensures { Grown w.old w.new (split (heads w.old) (flags w.old) (binds w.old) (set (consts w.old) k (get_or w.old (6672 + k * 2) 0, run_value w.old r))) result }
 {
     let old = w[layout::CONSTANTS + k * 2 + layout::CONSTANT_LENGTH] as usize;
-    if passes(w, old, r.len, 0) {
-        return Err(Refusal::Room);
-    }
+    room_for(w, old, r.len, 0)?;
     set_const(w, k, r);
     Ok(())
 }
@@ -98,9 +89,7 @@ fn append_const(w: &mut [u32], x: u8, r: Run) -> Result<(), Refusal>
     ensures { Grown w.old w.new (split (heads w.old) (flags w.old) (binds w.old) (consts w.old ++ ((x, run_value w.old r) ∷ []))) result }
 {
     let c = w[layout::CONSTANT_COUNT] as usize;
-    if passes(w, 0, r.len, 1) {
-        return Err(Refusal::Room);
-    }
+    room_for(w, 0, r.len, 1)?;
     push_const(w, x);
     set_const(w, c, r);
     Ok(())
@@ -112,9 +101,12 @@ fn untargeted(w: &[u32], r: Run) -> Run
     requires { (Good w.now) × (Offered w.now r) }
     ensures { Left w.now r result }
 {
-    if r.len == 0 || kind_at(w, r.at) != 21 {
+    if r.len == 0 {
         return r;
     }
+    let Kind::Ident = kind_at(w, r.at) else {
+        return r;
+    };
     let x = num_at(w, r.at) as u8;
     if flag_at(w, layout::TARGETS, x) {
         return Run { len: 0, ..r };

@@ -1,14 +1,16 @@
 -- What `declare` looks up, and that it is `declare_with` of that. Assumes nothing.
-use mathlib.Core.Path.{◌≡◌, refl, sym, ap, ◌∙◌}
+use mathlib.Core.Path.{◌≡◌, refl, sym, ap, ◌∙◌, subst}
 use mathlib.Core.List.{List, [], ◌∷◌}
 use mathlib.Core.Bool.{Bool, true, false, ◌||◌, ◌&&◌, not}
+use mathlib.Core.Logic.{◌⊎◌, inl, inr}
 use mathlib.Core.Option.{Option, none, some}
 use Prim.Native.Nat.{ℕ, zero, suc, ◌+◌, ◌-◌, ◌*◌, ◌≤◌, ◌<◌}
 use native.Mathlib.Omega.{arith}
 use lib.ListN.{length, get_or, length-drop}
 use lib.Dec.{eqb}
+use Rattle.std.specs.Prelude.{Option as Maybe, Some, None}
 use Rattle.std.specs.Bool.{then_some}
-use Rattle.def_tree.specs.Base.{pick, to_nat}
+use Rattle.def_tree.specs.Base.{pick}
 use Rattle.def_tree.specs.Tree.{Tree, Core, kind, num, plant, first_t, count}
 use Rattle.def_pass.specs.Tree.{is_ident}
 use Rattle.def_tree.proofs.Place.{plant-flat}
@@ -22,7 +24,7 @@ use Rattle.scope_values.proofs.Count.{length-binds}
 use Rattle.scope_values.proofs.Listed.{stack-none}
 use Rattle.scope_define.specs.Declare.{declare_with}
 use Rattle.scope_values.specs.Steps.{Offered}
-use Rattle.scope_define.specs.Kinds.{init_at, Sized, bar_of}
+use Rattle.scope_define.specs.Kinds.{init_at, start_of, nodes_of, Sized, bar_of}
 use Rattle.scope_define.specs.declared.Init.{Init}
 use Rattle.scope_define.specs.declared.Init.TheVariants.{NoInit, Recorded, Seen}
 use Rattle.scope_redeclare.proofs.Top.{stack_top}
@@ -30,7 +32,7 @@ use Rattle.scope_find.specs.Look.{idx_here, bound_here, node_tree}
 use Rattle.scope_find.proofs.Facts.{with_index, idx-find, node-tree, or-false}
 use Rattle.words_nodes.specs.Nodes.{Planted, tree_from}
 use Rattle.words_nodes.proofs.Splice.{subtree-run, subtree-one}
-use Rattle.scope_declare.specs.Inits.{place_here, barred_here, works_with, init_from, has_none, Valued, Sited}
+use Rattle.scope_declare.specs.Inits.{place_here, barred_here, works_with, init_from, Sited}
 
 -- the type of a binding, if there is one
 abbrev pub kind_of_o : Option VarInfo → Option VarType
@@ -65,17 +67,37 @@ module _ (w : List ℕ) (g : Good w) where
   pub bound-here : 0 < get_or w 2 0 → bound_here (stack w) ≡ get_or w 1 0 - get_or w (7184 + (get_or w 2 0 - 1) * 4 + 1) 0
   bound-here z = ap bound_here (stack_top w g z) ∙ length-drop (get_or w (7184 + (get_or w 2 0 - 1) * 4 + 1) 0) (binds w) ∙ ap (λ (n : ℕ). n - get_or w (7184 + (get_or w 2 0 - 1) * 4 + 1) 0) (length-binds w g)
 
--- an init of a run of the tree's nodes is that of the tree there
-pub init-run : {w : List ℕ} (g : Planted w) {i : ℕ} (l : i < get_or w 0 0) (v : Init) → init_at v (run w 16 i (count (tree_from (tree w) i))) ≡ init_from v (tree_from (tree w) i)
-init-run {w} g {i} l v =
-    let t = tree_from (tree w) i in
-    let e : first_t (plant (run w 16 i (count t))) ≡ t = ap (λ (xs : List Core). first_t (plant xs)) (subtree-run g l) ∙ ap first_t (plant-flat t []) in
-    go v (run w 16 i (count t)) t e
+-- an init with the tree at a node
+abbrev pub At : Init → ℕ → Type 0
+At v i = (v ≡ Recorded i) ⊎ (v ≡ Seen i)
+
+abbrev or_zero : Maybe ℕ → ℕ
+or_zero None = 0
+or_zero (Some i) = i
+
+abbrev is_given : Maybe ℕ → ℕ
+is_given None = 0
+is_given (Some i) = 1
+
+pub given_none : {A : Type 0} {i : ℕ} → ◌≡◌ {A = Maybe ℕ} (Some i) None → A
+given_none e = let z : ◌≡◌ {A = ℕ} 1 0 = ap is_given e in absurd (omega arith)
+
+pub at-node : (v : Init) {i : ℕ} → start_of v ≡ Some i → At v i
+at-node NoInit e = given_none (sym e)
+at-node (Recorded j) e = inl (ap Recorded (ap or_zero e))
+at-node (Seen j) e = inr (ap Seen (ap or_zero e))
+
+pub bare-node : (v : Init) → start_of v ≡ None → (xs : List Core) → init_from xs v ≡ def.no_init
+bare-node NoInit e xs = refl
+bare-node (Recorded j) e xs = given_none e
+bare-node (Seen j) e xs = given_none e
+
+-- one of a run of the tree's nodes is that of the tree there
+pub init-run : {w : List ℕ} (g : Planted w) {i : ℕ} (l : i < get_or w 0 0) {v : Init} → At v i → init_at w v (count (tree_from (tree w) i)) ≡ init_from (tree w) v
+init-run {w} g {i} l o = elim o [ inl e ↦ rw e (ap def.recorded is) | inr e ↦ rw e (ap def.seen is) ]
   where
-    go : (v : Init) (xs : List Core) (t : Tree) → first_t (plant xs) ≡ t → init_at v xs ≡ init_from v t
-    go NoInit xs t e = refl
-    go Recorded xs t e = ap def.recorded e
-    go Seen xs t e = ap def.seen e
+    is : first_t (plant (run w 16 i (count (tree_from (tree w) i)))) ≡ tree_from (tree w) i
+    is = ap (λ (xs : List Core). first_t (plant xs)) (subtree-run g l) ∙ ap first_t (plant-flat (tree_from (tree w) i) [])
 
 -- `declare` where the init is no identifier, and where it is one
 same-pick : (b : Bool) → pick {A = Stack} b [] [] ≡ []
@@ -143,34 +165,18 @@ run_none w = no-elements (run w 16 0 0) (run_length w 16 0 0)
 pub none-one : (w : List ℕ) → run_of (value_of (run w 16 0 0)) ≡ run w 16 0 0
 none-one w = rw (run_none w) refl
 
--- inits with and without a value
-pub clash : {A : Type 0} → false ≡ true → A
-clash e = let z : ◌≡◌ {A = ℕ} 0 1 = ap to_nat e in absurd (omega arith)
+-- an init with a value
+pub at-lt : {v : Init} {i n : ℕ} → At v i → Sited v n → i < n
+at-lt {n} o h = elim o [ inl e ↦ rw e at h | inr e ↦ rw e at h ]
 
-pub none-init : (v : Init) (t : Tree) → has_none v ≡ true → def.no_init ≡ init_from v t
-none-init NoInit t e = refl
-none-init Recorded t e = clash e
-none-init Seen t e = clash e
+pub at-sized : {v : Init} {i m : ℕ} → At v i → 0 < m → Sized v m
+at-sized o h = elim o [ inl e ↦ rw e h | inr e ↦ rw e h ]
 
-pub valued-of : (v : Init) → has_none v ≡ false → Valued v
-valued-of NoInit e = clash (sym e)
-valued-of Recorded e = tt
-valued-of Seen e = tt
+at-nodes : {v : Init} {i : ℕ} → At v i → (m : ℕ) → nodes_of v m ≡ record { at = i; len = m }
+at-nodes o m = elim o [ inl e ↦ rw e refl | inr e ↦ rw e refl ]
 
-pub sited-lt : (v : Init) (i n : ℕ) → has_none v ≡ false → Sited v i n → i < n
-sited-lt NoInit i n e h = clash (sym e)
-sited-lt Recorded i n e h = h
-sited-lt Seen i n e h = h
-
-pub valued-sized : (v : Init) (m : ℕ) → Valued v → 0 < m → Sized v m
-valued-sized NoInit m o h = absurd o
-valued-sized Recorded m o h = h
-valued-sized Seen m o h = h
-
-init-value : (v : Init) (t : Tree) → Valued v → init_of (init_from v t) ≡ some t
-init-value NoInit t o = absurd o
-init-value Recorded t o = refl
-init-value Seen t o = refl
+init-value : {v : Init} {i : ℕ} → At v i → (xs : List Core) → init_of (init_from xs v) ≡ some (tree_from xs i)
+init-value o xs = elim o [ inl e ↦ rw e refl | inr e ↦ rw e refl ]
 
 same-with : {p p' l l' : Bool} {b b' : Option ℕ} {al al' : Option VarType} (x : ℕ) (f : Option Tree → Option Tree) (u : Bool) (k : VarType) (st : Stack) → p ≡ p' → al ≡ al' → l ≡ l' → b ≡ b'
     → declare_with x f b p u k al l st ≡ declare_with x f b' p' u k al' l' st
@@ -186,32 +192,32 @@ bare-is again x undefined k st p l ep el =
     same-with {b = none} {al = none} x (kept def.no_init) undefined k st (ep ∙ sym (or-false (again || should_prevent_inline_because_of_scope x st))) refl el refl ∙ sym (declare-plain again x def.no_init undefined k st refl)
 
 -- and with the tree at i
-module _ {w : List ℕ} (g : Planted w) {i : ℕ} (h : i < get_or w 0 0) (v : Init) (o : Valued v) (again : Bool) (x m : ℕ) (em : m ≡ count (tree_from (tree w) i)) (undefined : Bool) (k : VarType) (p l : Bool)
+module _ {w : List ℕ} (g : Planted w) {i : ℕ} (h : i < get_or w 0 0) (v : Init) (o : At v i) (again : Bool) (x m : ℕ) (em : m ≡ count (tree_from (tree w) i)) (undefined : Bool) (k : VarType) (p l : Bool)
     (ep : p ≡ (again || (should_prevent_inline_because_of_scope x (stack w) || is_inline_prevented (tree_from (tree w) i) (stack w)))) (el : l ≡ in_loop (stack w)) where
   abbrev t : Tree
   t = tree_from (tree w) i
 
-  init-is : init_at v (run w 16 i m) ≡ init_from v t
-  init-is = ap (λ (n : ℕ). init_at v (run w 16 i n)) em ∙ init-run g h v
+  init-is : init_at w v m ≡ init_from (tree w) v
+  init-is = ap (init_at w v) em ∙ init-run g h o
 
-  prevented-is : p ≡ (again || should_prevent_inline_because_of_scope x (stack w) || prevented_o (init_of (init_from v t)) (stack w))
-  prevented-is = ep ∙ sym (or_assoc again (should_prevent_inline_because_of_scope x (stack w)) (is_inline_prevented t (stack w))) ∙ ap (λ (e : Option Tree). again || should_prevent_inline_because_of_scope x (stack w) || prevented_o e (stack w)) (sym (init-value v t o))
+  prevented-is : p ≡ (again || should_prevent_inline_because_of_scope x (stack w) || prevented_o (init_of (init_from (tree w) v)) (stack w))
+  prevented-is = ep ∙ sym (or_assoc again (should_prevent_inline_because_of_scope x (stack w)) (is_inline_prevented t (stack w))) ∙ ap (λ (e : Option Tree). again || should_prevent_inline_because_of_scope x (stack w) || prevented_o e (stack w)) (sym (init-value o (tree w)))
 
-  pub value-is : is_ident t ≡ false → declare_with x (kept (init_at v (run w 16 i m))) none p undefined k none l (stack w) ≡ declare again x (init_from v t) undefined k (stack w)
+  pub value-is : is_ident t ≡ false → declare_with x (kept (init_at w v m)) none p undefined k none l (stack w) ≡ declare again x (init_from (tree w) v) undefined k (stack w)
   value-is e =
-      ap (λ (q : def.Init). declare_with x (kept q) none p undefined k none l (stack w)) init-is ∙ same-with {b = none} {al = none} x (kept (init_from v t)) undefined k (stack w) prevented-is refl el refl
-      ∙ sym (declare-plain again x (init_from v t) undefined k (stack w) (ap ident_of (init-value v t o) ∙ ap (λ (b : Bool). pick b (some (num t)) none) e))
+      ap (λ (q : def.Init). declare_with x (kept q) none p undefined k none l (stack w)) init-is ∙ same-with {b = none} {al = none} x (kept (init_from (tree w) v)) undefined k (stack w) prevented-is refl el refl
+      ∙ sym (declare-plain again x (init_from (tree w) v) undefined k (stack w) (ap ident_of (init-value o (tree w)) ∙ ap (λ (b : Bool). pick b (some (num t)) none) e))
 
   pub ident-is : is_ident t ≡ true → (y : ℕ) → y ≡ num t → (al : Option VarType) → al ≡ alias_from (idx_here y (stack w)) → (bar : Option ℕ) → bar ≡ pick (works_with k al && barred_here x y (stack w)) (some y) none
-      → declare_with x (kept (init_at v (run w 16 i m))) bar p undefined k al l (stack w) ≡ declare again x (init_from v t) undefined k (stack w)
+      → declare_with x (kept (init_at w v m)) bar p undefined k al l (stack w) ≡ declare again x (init_from (tree w) v) undefined k (stack w)
   ident-is e y ey al ea bar eb =
       ap (λ (q : def.Init). declare_with x (kept q) bar p undefined k al l (stack w)) init-is
-      ∙ same-with x (kept (init_from v t)) undefined k (stack w) prevented-is ea el (eb ∙ ap (λ (a : Option VarType). pick (works_with k a && barred_here x y (stack w)) (some y) none) ea)
-      ∙ sym (declare-ident again x (init_from v t) undefined k y (stack w) (ap ident_of (init-value v t o) ∙ ap (λ (b : Bool). pick b (some (num t)) none) e ∙ ap some (sym ey)))
+      ∙ same-with x (kept (init_from (tree w) v)) undefined k (stack w) prevented-is ea el (eb ∙ ap (λ (a : Option VarType). pick (works_with k a && barred_here x y (stack w)) (some y) none) ea)
+      ∙ sym (declare-ident again x (init_from (tree w) v) undefined k y (stack w) (ap ident_of (init-value o (tree w)) ∙ ap (λ (b : Bool). pick b (some (num t)) none) e ∙ ap some (sym ey)))
 
 -- no nodes, and those of the tree at i
 pub offered_none : (w : List ℕ) → Offered w (record { at = 0; len = 0 })
 offered_none w = record { inside = omega arith; one = none-one w }
 
-pub offered-tree : {w : List ℕ} → Planted w → {i : ℕ} → i < get_or w 0 0 → (m : ℕ) → m ≡ count (tree_from (tree w) i) → i + m ≤ get_or w 0 0 → Offered w (record { at = i; len = m })
-offered-tree g h m e l = record { inside = l; one = rw e (subtree-one g h) }
+pub offered-tree : {w : List ℕ} → Planted w → {i : ℕ} → i < get_or w 0 0 → {v : Init} → At v i → (m : ℕ) → m ≡ count (tree_from (tree w) i) → i + m ≤ get_or w 0 0 → Offered w (nodes_of v m)
+offered-tree {w} g h o m e l = subst (Offered w) (sym (at-nodes o m)) (record { inside = l; one = rw e (subtree-one g h) })

@@ -1,34 +1,36 @@
 -- What a declaration looks up of its init, and of the current scope. Assumes nothing: these are definitions.
-use Rattle.std.specs.Prelude.{Bool, true, false, ◌&&◌, not, ℕ, ◌<◌}
+use Rattle.std.specs.Prelude.{None, Bool, true, false, ◌&&◌, not, List, ℕ, ◌<◌}
 use Rattle.std.proofs.Math.Option.{Option}
-use Rattle.def_tree.specs.Tree.{Tree}
+use Rattle.def_tree.specs.Tree.{Core}
 use Rattle.def_pass.specs.Scope as def
 use Rattle.def_pass.specs.Scope.{Stack, place_or, is_param, param_o, barred}
 use Rattle.scope_find.specs.Look.{idx_here, bars_here, bound_here}
+use Rattle.words_nodes.specs.Nodes.{tree_from}
+use Rattle.words_scopes.specs.declared.kinds.VarType.{VarType}
+use Rattle.scope_define.specs.declared.Declaration.{Declaration}
 use Rattle.scope_define.specs.declared.Init.{Init}
 use Rattle.scope_define.specs.declared.Init.TheVariants.{NoInit, Recorded, Seen}
 
--- an init whose value is a tree, and that this tree is one of the n nodes
-abbrev pub init_from : Init → Tree → def.Init
-init_from NoInit t = def.no_init
-init_from Recorded t = def.recorded t
-init_from Seen t = def.seen t
+-- an init whose tree is among some nodes, and that it begins at one of the n
+abbrev pub init_from : List Core → Init → def.Init
+init_from xs NoInit = def.no_init
+init_from xs (Recorded i) = def.recorded (tree_from xs i)
+init_from xs (Seen i) = def.seen (tree_from xs i)
 
-abbrev pub Sited : Init → ℕ → ℕ → Type 0
-Sited NoInit i n = Unit {0}
-Sited Recorded i n = i < n
-Sited Seen i n = i < n
+abbrev pub Sited : Init → ℕ → Type 0
+Sited NoInit n = Unit {0}
+Sited (Recorded i) n = i < n
+Sited (Seen i) n = i < n
 
--- it has a value; it has none
-abbrev pub Valued : Init → Type 0
-Valued NoInit = ⊥
-Valued Recorded = Unit {0}
-Valued Seen = Unit {0}
-
+-- it has no value
 abbrev pub has_none : Init → Bool
 has_none NoInit = true
-has_none Recorded = false
-has_none Seen = false
+has_none (Recorded i) = false
+has_none (Seen i) = false
+
+-- a declaration that names no binding
+abbrev pub plain : VarType → Bool → Bool → Bool → Declaration
+plain k p u l = record { kind = k; alias = None; prevented = p; undefined = u; looped = l; barred = None }
 
 -- where x is among the bindings of the current scope, or would be
 abbrev pub place_here : ℕ → Stack → ℕ

@@ -3,22 +3,23 @@
 
 ghost use Rattle.std.specs.Prelude.{◌≡◌, ◌||◌, ◌&&◌, ◌≤◌, ◌<◌};
 ghost use Rattle.def_pass.specs.Tree.{is_ident};
-ghost use Rattle.def_pass.specs.Scope.{declare, no_init, alias_from, is_inline_prevented, should_prevent_inline_because_of_scope};
+ghost use Rattle.def_pass.specs.Scope.{declare, no_init, in_loop, alias_from, is_inline_prevented, should_prevent_inline_because_of_scope};
 ghost use Rattle.words.specs.Layout.{tree};
 ghost use Rattle.words_scopes.specs.State.{Good, stack};
 ghost use Rattle.words_scopes.specs.Kinds.{type_of, alias_of};
 ghost use Rattle.scope_values.specs.Steps.{Grown};
 ghost use Rattle.scope_find.specs.Look.{idx_here};
 ghost use Rattle.words_nodes.specs.Nodes.{Planted, tree_from, size};
-ghost use Rattle.scope_declare.specs.Inits.{init_from, Sited, Valued, has_none, place_here, barred_here, works_with};
+ghost use Rattle.scope_declare.specs.Inits.{init_from, Sited, has_none, place_here, barred_here, works_with, plain};
 
+use def_file::kind::Kind;
 use refusal::Refusal;
 use scope_define::{Declaration, Init, declare_with};
 use scope_find::{
     barred, bound_here, find_binding_from_current, ident_at, idx_val, in_loop, is_inline_prevented,
     should_prevent_inline_because_of_scope, var_type,
 };
-use words::{Run, kind_at};
+use words::kind_at;
 use words_nodes::skip;
 use words_scopes::kinds::VarType;
 
@@ -49,7 +50,7 @@ fn barred_here(w: &[u32], x: u8, y: u8) -> bool
 fn works_with(kind: VarType, alias: Option<VarType>) -> bool
     ensures { result ≡ works_with (type_of kind) (alias_of alias) }
 {
-    kind != VarType::Param && alias != Some(VarType::Param)
+    !kind.is_param() && !alias.is_some_and(VarType::is_param)
 }
 
 // Does a declaration of x as y mark both.
@@ -68,6 +69,21 @@ pub fn prevented_at(w: &[u32], x: u8, i: usize) -> bool
     should_prevent_inline_because_of_scope(w, x) || is_inline_prevented(w, i)
 }
 
+// A declaration in the current scope that names no binding.
+fn plain(w: &[u32], kind: VarType, prevented: bool, undefined: bool) -> Declaration
+    requires { Good w.now }
+    ensures { result ≡ plain kind prevented undefined (in_loop (stack w.now)) }
+{
+    Declaration {
+        kind,
+        alias: None,
+        prevented,
+        undefined,
+        looped: in_loop(w),
+        barred: None,
+    }
+}
+
 // declare without an init; `again`: the binding is flagged (request 3).
 pub fn declare_bare(
     w: &mut [u32],
@@ -79,51 +95,36 @@ pub fn declare_bare(
     requires { Planted w.old }
     ensures { Grown w.old w.new (declare again x no_init undefined (type_of kind) (stack w.old)) result }
 {
-    let prevented = again | should_prevent_inline_because_of_scope(w, x);
-    let looped = in_loop(w);
-    let d = Declaration {
-        kind,
-        alias: None,
-        prevented,
-        undefined,
-        looped,
-        barred: None,
-    };
-    declare_with(w, x, Init::NoInit, Run { at: 0, len: 0 }, d)
+    let prevented = again || should_prevent_inline_because_of_scope(w, x);
+    let d = plain(w, kind, prevented, undefined);
+    declare_with(w, x, Init::NoInit, 0, d)
 }
 
-// declare with the tree at i as its init; one that is an identifier may name a binding of the current scope.
-pub fn declare_value(
+// declare; an init that is an identifier may name a binding of the current scope.
+pub fn declare(
     w: &mut [u32],
     again: bool,
     x: u8,
     v: Init,
-    i: usize,
     undefined: bool,
     kind: VarType,
 ) -> Result<(), Refusal>
-    requires { (Planted w.old) × (i < size w.old) × (Valued v) }
-    ensures { Grown w.old w.new (declare again x (init_from v (tree_from (tree w.old) i)) undefined (type_of kind) (stack w.old)) result }
+    requires { (Planted w.old) × (Sited v (size w.old)) }
+    ensures { Grown w.old w.new (declare again x (init_from (tree w.old) v) undefined (type_of kind) (stack w.old)) result }
 {
-    let len = skip(w, i) - i;
-    let prevented = again | prevented_at(w, x, i);
-    let looped = in_loop(w);
-    let d = Declaration {
-        kind,
-        alias: None,
-        prevented,
-        undefined,
-        looped,
-        barred: None,
+    let Some(i) = v.node() else {
+        return declare_bare(w, again, x, undefined, kind);
     };
-    let r = Run { at: i, len };
+    let len = skip(w, i) - i;
+    let prevented = again || prevented_at(w, x, i);
+    let d = plain(w, kind, prevented, undefined);
     if !is_ident(w, i) {
-        return declare_with(w, x, v, r, d);
+        return declare_with(w, x, v, len, d);
     }
     let y = ident_at(w, i);
     let alias = alias_for(w, y);
     let barred = barred_for(w, x, y, kind, alias).then_some(y);
-    declare_with(w, x, v, r, Declaration { alias, barred, ..d })
+    declare_with(w, x, v, len, Declaration { alias, barred, ..d })
 }
 
 // Is the tree at i an identifier.
@@ -131,13 +132,13 @@ pub fn is_ident(w: &[u32], i: usize) -> bool
     requires { (Planted w.now) × (i < size w.now) }
     ensures { result ≡ is_ident (tree_from (tree w.now) i) }
 {
-    kind_at(w, i) == 21
+    matches!(kind_at(w, i), Kind::Ident)
 }
 
 pub fn no_value(v: Init) -> bool
     ensures { result ≡ has_none v }
 {
-    v == Init::NoInit
+    matches!(v, Init::NoInit)
 }
 
 // The type of the binding of y in the current scope.
@@ -147,23 +148,4 @@ fn alias_for(w: &[u32], y: u8) -> Option<VarType>
 {
     let k = find_binding_from_current(w, y)?;
     Some(var_type(w, k))
-}
-
-// declare: the init is nothing, or the tree at i.
-pub fn declare(
-    w: &mut [u32],
-    again: bool,
-    x: u8,
-    v: Init,
-    i: usize,
-    undefined: bool,
-    kind: VarType,
-) -> Result<(), Refusal>
-    requires { (Planted w.old) × (Sited v i (size w.old)) }
-    ensures { Grown w.old w.new (declare again x (init_from v (tree_from (tree w.old) i)) undefined (type_of kind) (stack w.old)) result }
-{
-    if no_value(v) {
-        return declare_bare(w, again, x, undefined, kind);
-    }
-    declare_value(w, again, x, v, i, undefined, kind)
 }

@@ -9,7 +9,7 @@ use lib.ListN.{length, get_or, set, drop, length-drop, length-append}
 use lib.Dec.{eqb, ltb}
 use lib.Seq.{get_or-drop, get_or_at, set_at, drop-set-add, take-set-le}
 use Rattle.def_tree.specs.Base.{pick}
-use Rattle.def_tree.specs.Tree.{Tree, Core}
+use Rattle.def_tree.specs.Tree.{Tree, Core, first_t, plant}
 use Rattle.def_pass.specs.Tree.{count_o}
 use Rattle.def_pass.specs.Scope.{VarInfo, Stack, VarType, find_in, has_in, is_some, change_in, change, on_bindings, append, fresh, redeclare, with_value, value_o, values_in, recorded_nodes, live, prevent, prevent_one, prevent_inline, prevent_inline_o, find_binding_from_current, value_is, kept}
 use Rattle.words_scopes.specs.State.{Good, Becomes, binds, stack, bind_at, off, coff, value_of}
@@ -23,7 +23,7 @@ use Rattle.scope_values.proofs.Listed.{bind-there, change-at}
 use Rattle.std.proofs.Common.{None}
 use Rattle.scope_redeclare.specs.Own.{Own, OwnAt}
 use Rattle.scope_define.specs.Declare.{put_declared, declare_with}
-use Rattle.scope_define.specs.Kinds.{init_at, is_seen, Sized}
+use Rattle.scope_define.specs.Kinds.{init_at, nodes_of, is_seen, Sized}
 use Rattle.scope_define.specs.declared.Init.{Init}
 use Rattle.scope_define.specs.declared.Init.TheVariants.{NoInit, Recorded, Seen}
 use Rattle.scope_redeclare.proofs.Top.{stack_top, heads-top}
@@ -179,21 +179,21 @@ pub run-no-value : (w : List ℕ) (i m : ℕ) → m ≡ 0 → value_of (run w 16
 run-no-value w i m e = no_value_lem (run w 16 i m) (run_length w 16 i m ∙ e)
 
 -- the value after a declaration, by the run of its nodes
-kept_at : (v : Init) (xs : List Core) → Sized v (length xs) → (old : Option Tree) → kept (init_at v xs) old ≡ pick (is_seen v) old (value_of xs)
-kept_at NoInit [] h old = refl
-kept_at NoInit (x ∷ xs) h old = absurd (omega arith)
-kept_at Recorded [] h old = absurd (omega arith)
-kept_at Recorded (x ∷ xs) h old = refl
-kept_at Seen xs h old = refl
+some_value : (xs : List Core) → 0 < length xs → some (first_t (plant xs)) ≡ value_of xs
+some_value [] h = absurd (omega arith)
+some_value (x ∷ xs) h = refl
 
-kept-is : (v : Init) (xs : List Core) → Sized v (length xs) → ◌≡◌ {A = Option Tree → Option Tree} (kept (init_at v xs)) (λ old. pick (is_seen v) old (value_of xs))
-kept-is v xs h = λ t old. kept_at v xs h old t
+kept_at : (w : List ℕ) (v : Init) (m : ℕ) → Sized v m → (old : Option Tree) → kept (init_at w v m) old ≡ pick (is_seen v) old (run_value w (nodes_of v m))
+kept_at w NoInit m h old = sym (run-no-value w 0 0 refl)
+kept_at w (Recorded i) m h old = some_value (run w 16 i m) (omega (arith, h, run_length w 16 i m))
+kept_at w (Seen i) m h old = refl
 
-pub same-declared : (w : List ℕ) (r : Run) (v : Init) → Sized v r.len → (x : ℕ) (p u : Bool) (k : VarType) (al : Option VarType) (st : Stack)
-    → put_declared x (λ old. pick (is_seen v) old (run_value w r)) p u k al st ≡ put_declared x (kept (init_at v (run w 16 r.at r.len))) p u k al st
-same-declared w r v h x p u k al st =
-    let sized : Sized v (length (run w 16 r.at r.len)) = rw (run_length w 16 r.at r.len) h in
-    ap (λ (f : Option Tree → Option Tree). put_declared x f p u k al st) (sym (kept-is v (run w 16 r.at r.len) sized))
+kept-is : (w : List ℕ) (v : Init) (m : ℕ) → Sized v m → ◌≡◌ {A = Option Tree → Option Tree} (kept (init_at w v m)) (λ old. pick (is_seen v) old (run_value w (nodes_of v m)))
+kept-is w v m h = λ t old. kept_at w v m h old t
+
+pub same-declared : (w : List ℕ) (v : Init) (m : ℕ) → Sized v m → {seen : Bool} → seen ≡ is_seen v → {r : Run} → r ≡ nodes_of v m → (x : ℕ) (p u : Bool) (k : VarType) (al : Option VarType) (st : Stack)
+    → put_declared x (λ old. pick seen old (run_value w r)) p u k al st ≡ put_declared x (kept (init_at w v m)) p u k al st
+same-declared w v m h es er x p u k al st = rw (es, er) (ap (λ (f : Option Tree → Option Tree). put_declared x f p u k al st) (sym (kept-is w v m h)))
 
 over-pick : (t : Bool) (i : ℕ) (st : Stack) → over (pick t (prevent_inline i st) st) ≡ over st
 over-pick true i st = over-marked i st

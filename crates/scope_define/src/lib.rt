@@ -4,34 +4,47 @@
 ghost use Rattle.std.specs.Prelude.{◌≡◌, ◌+◌, ◌*◌, ◌-◌, ◌≤◌, ◌<◌, get_or};
 ghost use Rattle.def_tree.specs.Base.{pick};
 ghost use Rattle.def_pass.specs.Scope.{change, defined, with_value, fresh, append, kept};
-ghost use Rattle.words.specs.Layout.{run};
-ghost use Rattle.words_scopes.specs.State.{Good, Becomes, stack};
+ghost use Rattle.words_scopes.specs.State.{Good, stack};
 ghost use Rattle.words_scopes.specs.Kinds.{type_of, alias_of};
 ghost use Rattle.scope_values.specs.Steps.{Grown, Offered, run_value};
-ghost use Rattle.scope_define.specs.Kinds.{init_at, is_seen, Sized, bar_of};
+ghost use Rattle.scope_define.specs.Kinds.{init_at, start_of, nodes_of, is_seen, Sized, bar_of};
 ghost use Rattle.scope_define.specs.Declare.{put_declared, declare_with};
 
 use refusal::Refusal;
-use scope_redeclare::{own_binding, redeclare_as, redeclare_seen, rewrite};
-use scope_values::{passes, record_value, set_run};
+use scope_redeclare::{own_binding, redeclare_as, redeclare_seen};
+use scope_values::{record_value, room_for, set_run};
 use words::{Run, layout};
 pub use words_scopes::kinds::{VarDeclKind, VarType};
-use words_scopes::{Record, append_record, find_binding, prevent_inline, record_at};
+use words_scopes::{Record, append_record, define, prevent_inline};
 
-// What a declaration starts with: nothing, a value that is recorded, or one that is only seen.
+// What a declaration starts with: nothing, or the tree at a node as its value, which is recorded, or only seen. Three cases with none among them: the
+// scope document names them, for the source's Option<Cow>.
 #[derive(Clone, Copy, Debug, PartialEq, Eq)]
 pub enum Init {
     NoInit,
-    Recorded,
-    Seen,
+    Recorded(usize),
+    Seen(usize),
 }
 
 impl Init {
-    // Is the old value kept.
-    fn is_seen(self) -> bool
-        ensures { result ≡ is_seen self }
+    // The node at which its tree begins, if it has one.
+    pub fn node(self) -> Option<usize>
+        ensures { result ≡ start_of self }
     {
-        self == Init::Seen
+        match self {
+            Init::NoInit => None,
+            Init::Recorded(i) | Init::Seen(i) => Some(i),
+        }
+    }
+
+    // The nodes of its tree, which are `len`; none without one.
+    fn nodes(self, len: usize) -> Run
+        ensures { result ≡ nodes_of self len }
+    {
+        match self {
+            Init::NoInit => Run::NONE,
+            Init::Recorded(at) | Init::Seen(at) => Run { at, len },
+        }
     }
 }
 
@@ -49,20 +62,6 @@ pub struct Declaration {
     pub barred: Option<u8>,
 }
 
-// The innermost binding of x, if there is one, is no longer undefined.
-pub fn define(w: &mut [u32], x: u8)
-    requires { Good w.old }
-    ensures { Becomes w.old w.new (change x defined (stack w.old)) }
-{
-    if let Some(k) = find_binding(w, x) {
-        let defined = Record {
-            undefined: false,
-            ..record_at(w, k)
-        };
-        rewrite(w, k, defined);
-    }
-}
-
 // The innermost binding of x gets its first value, a run of the tree's nodes.
 pub fn first_value(w: &mut [u32], x: u8, r: Run) -> Result<(), Refusal>
     requires { (Good w.old) × (Offered w.old r) }
@@ -77,19 +76,9 @@ fn declare_new(w: &mut [u32], x: u8, r: Run, d: Declaration) -> Result<(), Refus
     requires { (Good w.old) × (0 < get_or w.old 2 0) × (Offered w.old r) }
     ensures { Grown w.old w.new (append (fresh x (type_of d.kind) (alias_of d.alias) d.prevented d.undefined (run_value w.old r)) (stack w.old)) result }
 {
-    if passes(w, 0, r.len, 1) {
-        return Err(Refusal::Room);
-    }
+    room_for(w, 0, r.len, 1)?;
     let n = w[layout::BINDING_COUNT] as usize;
-    let record = Record {
-        kind: d.kind,
-        alias: d.alias,
-        reads: 0,
-        prevented: d.prevented,
-        undefined: d.undefined,
-        this_sensitive: false,
-        hoisted: false,
-    };
+    let record = Record::fresh(d.kind, d.alias, d.prevented, d.undefined);
     append_record(w, x, record, 0);
     if 0 < r.len {
         set_run(w, n, r);
@@ -97,33 +86,44 @@ fn declare_new(w: &mut [u32], x: u8, r: Run, d: Declaration) -> Result<(), Refus
     Ok(())
 }
 
-// The first half of declare: x is declared in the innermost scope, with a run of the tree's nodes as its value, none if it is empty, or with its
-// old value if the new one is only seen.
-fn put_declared(w: &mut [u32], x: u8, v: Init, r: Run, d: Declaration) -> Result<(), Refusal>
-    requires { (Good w.old) × (Offered w.old r) }
-    ensures { Grown w.old w.new (put_declared x (λ old. pick (is_seen v) old (run_value w.old r)) d.prevented d.undefined (type_of d.kind) (alias_of d.alias) (stack w.old)) result }
+// The first half of declare: x is declared in the innermost scope, with its init's tree of `len` nodes as its value, none without an init, or with
+// its old value if the new one is only seen.
+fn put_declared(w: &mut [u32], x: u8, v: Init, len: usize, d: Declaration) -> Result<(), Refusal>
+    requires { (Good w.old) × (Offered w.old (nodes_of v len)) × (Sized v len) }
+    ensures { Grown w.old w.new (put_declared x (kept (init_at w.old v len)) d.prevented d.undefined (type_of d.kind) (alias_of d.alias) (stack w.old)) result }
 {
     if w[layout::SCOPE_COUNT] == 0 {
         return Ok(());
     }
-    let seen = v.is_seen();
     match own_binding(w, x) {
-        Some(k) if seen => {
-            redeclare_seen(w, k, d.prevented, d.undefined);
-            Ok(())
-        }
-        Some(k) => redeclare_as(w, k, r, d.prevented, d.undefined),
-        None if seen => declare_new(w, x, Run { len: 0, ..r }, d),
-        None => declare_new(w, x, r, d),
+        Some(k) => match v {
+            Init::Seen(_) => {
+                redeclare_seen(w, k, d.prevented, d.undefined);
+                Ok(())
+            }
+            Init::NoInit | Init::Recorded(_) => {
+                redeclare_as(w, k, v.nodes(len), d.prevented, d.undefined)
+            }
+        },
+        None => match v {
+            Init::Seen(_) => declare_new(w, x, Run::NONE, d),
+            Init::NoInit | Init::Recorded(_) => declare_new(w, x, v.nodes(len), d),
+        },
     }
 }
 
-// declare, with its look-ups given.
-pub fn declare_with(w: &mut [u32], x: u8, v: Init, r: Run, d: Declaration) -> Result<(), Refusal>
-    requires { (Good w.old) × (Offered w.old r) × (Sized v r.len) }
-    ensures { Grown w.old w.new (declare_with x (kept (init_at v (run w.old 16 r.at r.len))) (bar_of d.barred) d.prevented d.undefined (type_of d.kind) (alias_of d.alias) d.looped (stack w.old)) result }
+// declare, with its look-ups given, and how many nodes its init's tree has.
+pub fn declare_with(
+    w: &mut [u32],
+    x: u8,
+    v: Init,
+    len: usize,
+    d: Declaration,
+) -> Result<(), Refusal>
+    requires { (Good w.old) × (Offered w.old (nodes_of v len)) × (Sized v len) }
+    ensures { Grown w.old w.new (declare_with x (kept (init_at w.old v len)) (bar_of d.barred) d.prevented d.undefined (type_of d.kind) (alias_of d.alias) d.looped (stack w.old)) result }
 {
-    put_declared(w, x, v, r, d)?;
+    put_declared(w, x, v, len, d)?;
     if d.looped {
         prevent_inline(w, x);
     }

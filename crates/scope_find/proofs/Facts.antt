@@ -16,6 +16,8 @@ use lib.Dec.{eqb}
 use Rattle.std.specs.List.{range_with_len, list_any}
 use lib.Seq.{get_or-drop, drop-cons}
 use Rattle.def_tree.specs.Base.{pick, or_else}
+use Rattle.def_file.specs.declared.kind.Kind.{Kind as NodeKind}
+use Rattle.def_file.specs.Named.{IsKindOf}
 use Rattle.def_tree.specs.Tree.{Tree, Forest, node, nil, cons, kind, num, kids, Core, no_core, take_f, drop_f, plant, first_t}
 use Rattle.def_pass.specs.Scope.{VarInfo, Scope, Stack, is_var, is_some, find_in, has_in, const_in, find_binding, idx_val, free_to_read, is_hoisted_prevented, read_prevents_inlining, write_prevents_inline, scope_for, should_prevent_inline_because_of_scope, any_from, between, ident_of, mark_of, mark_of_id, is_inline_prevented}
 use Rattle.def_pass.specs.Tree.{is_member, head_t}
@@ -23,14 +25,10 @@ use Rattle.words.specs.Tab.{tab, get_d-tab, get_d-tab-out}
 use Rattle.words.specs.Layout.{yes, core_from, node_of, tree}
 use Rattle.words.proofs.Nodes.{run_length, run-at, tree-length, tree-at}
 use Rattle.words.specs.Flags.{flag_at}
-use Rattle.words_scopes.specs.declared.kinds.VarDeclKind.TheVariants.{Var, Let, Const}
-use Rattle.words_scopes.specs.declared.kinds.VarType.{VarType as Kind}
-use Rattle.words_scopes.specs.declared.kinds.VarType.TheVariants.{Param, Declared}
-use Rattle.words_scopes.specs.Kinds.{type_of}
 use Rattle.words_scopes.specs.State.{unres_at, value_of, len_at, off, run_at, heads, binds, stack, Good, place, index_in, Named}
 use Rattle.words_scopes.proofs.Split as laws
 use Rattle.words_scopes.proofs.Look as outwards
-use Rattle.scope_find.specs.Look.{first, scope_at, below, at_place, kind_o, held, node_tree}
+use Rattle.scope_find.specs.Look.{first, scope_at, below, at_place, IsKindOfValue, held, node_tree}
 use Rattle.scope_find.proofs.Out as out
 
 -- a word as a flag
@@ -53,34 +51,29 @@ found_at w x zero e = outwards.missing w x (sym e)
 found_at w x (suc k) e = outwards.found w x k (sym e)
 
 -- a value's kind is its first node's
-first_kind : (xs : List Core) → 0 < length xs → kind_o (value_of xs) ≡ some (get_or xs 0 no_core).kind
-first_kind [] l = absurd (omega arith)
-first_kind (x ∷ xs) l = refl
+first_kind : (xs : List Core) → 0 < length xs → (r : NodeKind) → IsKindOf (get_or xs 0 no_core).kind r → IsKindOfValue (value_of xs) (Some r)
+first_kind [] l r h = absurd (omega arith)
+first_kind (x ∷ xs) l r h = h
 
 module _ (w : List ℕ) (k : ℕ) where
   size : length (run_at w k) ≡ len_at w k
   size = run_length w 2064 (off w k) (len_at w k)
 
-  pub kind-none : len_at w k ≡ 0 → none ≡ kind_o (value_of (run_at w k))
+  pub kind-none : len_at w k ≡ 0 → IsKindOfValue (value_of (run_at w k)) None
   kind-none z = empty (run_at w k) (size ∙ z)
     where
-      empty : (xs : List Core) → length xs ≡ 0 → none ≡ kind_o (value_of xs)
-      empty [] e = refl
+      empty : (xs : List Core) → length xs ≡ 0 → IsKindOfValue (value_of xs) None
+      empty [] e = tt
       empty (x ∷ xs) e = absurd (omega arith)
 
-  pub kind-first : (o : ℕ) → o ≡ off w k → (len_at w k ≡ 0 → ⊥) → some (get_or w (2064 + o * 2) 0 % 64) ≡ kind_o (value_of (run_at w k))
-  kind-first o e z =
+  pub kind-first : (o : ℕ) → o ≡ off w k → (len_at w k ≡ 0 → ⊥) → (r : NodeKind) → IsKindOf (get_or w (2064 + o * 2) 0 % 64) r → IsKindOfValue (value_of (run_at w k)) (Some r)
+  kind-first o e z r h =
       let p : 0 < len_at w k = omega arith in
       let q : off w k + 0 ≡ o = omega arith in
-      sym (first_kind (run_at w k) (omega (arith, size)) ∙ ap (λ (c : Core). some c.kind) (run-at w 2064 (off w k) (len_at w k) 0 p ∙ ap (λ (n : ℕ). core_from w (2064 + n * 2)) q))
+      let same = ap (λ (c : Core). c.kind) (run-at w 2064 (off w k) (len_at w k) 0 p ∙ ap (λ (n : ℕ). core_from w (2064 + n * 2)) q) in
+      first_kind (run_at w k) (omega (arith, size)) r (rw (sym same) at h)
 
 -- read_prevents_inlining, by the binding found
-pub var-other : (t : Kind) → (t ≡ Declared Var → ⊥) → is_var (type_of t) ≡ false
-var-other Param h = refl
-var-other (Declared Var) h = absurd (h refl)
-var-other (Declared Let) h = refl
-var-other (Declared Const) h = refl
-
 module _ (x : ℕ) (st : Stack) where
   pub reads-free : find_binding x st ≡ none → read_prevents_inlining x st ≡ write_prevents_inline x st
   reads-free e = ap (λ (o : Option VarInfo). not (free_to_read o) && write_prevents_inline x st) e

@@ -3,3 +3,4 @@ pub mod Out
 pub mod Facts
 pub mod Touch
 pub mod Placed
+pub mod AllConsts

@@ -12,7 +12,7 @@ use lib.ListN.{length, get_or, drop, length-drop}
 use lib.Dec.{eqb}
 use lib.Seq.{get_or-drop}
 use Rattle.def_tree.specs.Tree.{Tree}
-use Rattle.def_pass.specs.Scope.{Scope, Stack, fn, is_fn, is_loop, is_block, is_some, has_in, const_in, write_prevents_inline, has_constant, in_loop}
+use Rattle.def_pass.specs.Scope.{Scope, Stack, is_fn, is_loop, is_block, is_some, has_in, const_in, write_prevents_inline, in_loop}
 use Rattle.words.specs.Tab.{tab, length-tab, get_d-tab}
 use Rattle.words_scopes.specs.declared.kinds.ScopeKind.{ScopeKind as Kind}
 use Rattle.words_scopes.specs.declared.kinds.ScopeKind.TheVariants.{Cond, Loop, Block, Fn}
@@ -22,23 +22,23 @@ use Rattle.words_scopes.proofs.Split as laws
 use Rattle.words_scopes.proofs.Look as outwards
 use Rattle.scope_find.specs.Look.{first, cfirst, scope_at, below, at_place, FoundIn}
 
-abbrev no_const : ℕ × Option Tree
+abbrev pub no_const : ℕ × Option Tree
 no_const = (0, none)
 
 -- a constant among others
 module _ (x : ℕ) (c : ℕ × Option Tree) (cs : List (ℕ × Option Tree)) where
-  const-is : eqb c.0 x ≡ true → is_some (const_in x (c ∷ cs)) ≡ true
+  pub const-is : eqb c.0 x ≡ true → is_some (const_in x (c ∷ cs)) ≡ true
   const-is e = ap (λ (p : Bool). is_some {A = Option Tree} (elim p [ true ↦ some c.1 | false ↦ const_in x cs ])) e
 
-  const-not : eqb c.0 x ≡ false → is_some (const_in x (c ∷ cs)) ≡ is_some (const_in x cs)
+  pub const-not : eqb c.0 x ≡ false → is_some (const_in x (c ∷ cs)) ≡ is_some (const_in x cs)
   const-not e = ap (λ (p : Bool). is_some {A = Option Tree} (elim p [ true ↦ some c.1 | false ↦ const_in x cs ])) e
 
-const-yes : (x : ℕ) (cs : List (ℕ × Option Tree)) (r : ℕ) → r < length cs → (get_or cs r no_const).0 ≡ x → is_some (const_in x cs) ≡ true
+pub const-yes : (x : ℕ) (cs : List (ℕ × Option Tree)) (r : ℕ) → r < length cs → (get_or cs r no_const).0 ≡ x → is_some (const_in x cs) ≡ true
 const-yes x [] r h e = absurd (omega arith)
 const-yes x (c ∷ cs) zero h e = const-is x c cs (eq-eqb c.0 x e)
 const-yes x (c ∷ cs) (suc r) h e = laws.tested (eqb c.0 x) (const-is x c cs) (λ q. const-not x c cs q ∙ const-yes x cs r (omega arith) e)
 
-const-no : (x : ℕ) (cs : List (ℕ × Option Tree)) → ((j : ℕ) → j < length cs → (get_or cs j no_const).0 ≡ x → ⊥) → is_some (const_in x cs) ≡ false
+pub const-no : (x : ℕ) (cs : List (ℕ × Option Tree)) → ((j : ℕ) → j < length cs → (get_or cs j no_const).0 ≡ x → ⊥) → is_some (const_in x cs) ≡ false
 const-no x [] m = refl
 const-no x (c ∷ cs) m = const-not x c cs (ne_eqb c.0 x (m 0 (omega arith))) ∙ const-no x cs (λ j l. m (suc j) (omega arith))
 
@@ -155,14 +155,7 @@ none-open w z = below_all w ∙ below_end w (get_or w 2 0) z
 pub current : (w : List ℕ) (k : ℕ) → Good w → suc k ≡ get_or w 2 0 → stack w ≡ scope_at w k ∷ below w k
 current w k g e = below_all w ∙ ap (below w) (sym e) ∙ below_next w g k (omega arith)
 
--- a scope's kind by its number
-pub fn_named : (n : ℕ) → 4 ≤ n → scope_kind_of n ≡ fn true
-fn_named zero h = absurd (omega arith)
-fn_named (suc zero) h = absurd (omega arith)
-fn_named (suc (suc zero)) h = absurd (omega arith)
-fn_named (suc (suc (suc zero))) h = absurd (omega arith)
-fn_named (suc (suc (suc (suc n)))) h = refl
-
+-- a scope's kind
 pub block_other : (t : Kind) → (t ≡ Block → ⊥) → is_block (kind_of t) ≡ false
 block_other Cond h = refl
 block_other Loop h = refl
@@ -198,12 +191,6 @@ module _ (x : ℕ) (s : Scope) (st : Stack) where
 
     pub writes-on : is_block s.kind ≡ true → write_prevents_inline x (s ∷ st) ≡ write_prevents_inline x st
     writes-on b = rw (write_prevents_inline, e, b) refl
-
-  pub const-here : is_some (const_in x s.constants) ≡ true → has_constant x (s ∷ st) ≡ true
-  const-here e = rw e refl
-
-  pub const-on : is_some (const_in x s.constants) ≡ false → has_constant x (s ∷ st) ≡ has_constant x st
-  const-on e = rw e refl
 
 module _ (s : Scope) (st : Stack) where
   pub loop-out : is_fn s.kind ≡ true → in_loop (s ∷ st) ≡ false

@@ -1,6 +1,8 @@
 -- What the look-ups answer, in terms of the words and of the stack that they stand for. Assumes nothing: these are definitions.
-use Rattle.std.specs.Prelude.{List, [], ◌∷◌, map, ◌≡◌, Bool, true, false, ◌||◌, ℕ, zero, suc, ◌+◌, ◌*◌, ◌-◌, ◌≤◌, ◌<◌, length, get_or, drop, ltb}
+use Rattle.std.specs.Prelude.{Option as Answer, Some, None, List, [], ◌∷◌, map, ◌≡◌, Bool, true, false, ◌||◌, ℕ, zero, suc, ◌+◌, ◌*◌, ◌-◌, ◌≤◌, ◌<◌, length, get_or, drop, ltb}
 use Rattle.std.proofs.Math.Option.{Option, none, some}
+use Rattle.def_file.specs.declared.kind.Kind.{Kind}
+use Rattle.def_file.specs.Named.{IsKindOf}
 use Rattle.def_tree.specs.Base.{pick}
 use Rattle.def_tree.specs.Tree.{Tree, kind, plant, first_t}
 use Rattle.def_pass.specs.Scope.{VarInfo, Scope, Stack, is_fn, find_in, idx_val, is_hoisted_prevented, prevent_param}
@@ -73,6 +75,13 @@ reads_o (some b) = some b.read_cnt
 abbrev pub kind_o : Option Tree → Option ℕ
 kind_o none = none
 kind_o (some t) = some (kind t)
+
+-- the kind of a value, none where there is no value
+abbrev pub IsKindOfValue : Option Tree → Answer Kind → Type 0
+IsKindOfValue none None = Unit
+IsKindOfValue none (Some k) = ⊥
+IsKindOfValue (some t) None = ⊥
+IsKindOfValue (some t) (Some k) = IsKindOf (kind t) k
 
 -- the tree whose first node is node i
 unfoldable pub node_tree : List ℕ → ℕ → Tree

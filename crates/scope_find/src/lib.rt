@@ -1,23 +1,61 @@
 // Look-ups and marks of scope.rs over the working words. Their contracts speak of the definition's stack of scopes.
 #![tactic(auto)]
 
-ghost use Rattle.std.specs.Prelude.{◌≡◌, suc, ◌+◌, ◌*◌, ◌-◌, ◌≤◌, ◌<◌, true, ◌||◌, eqb, ltb, ◌⊎◌, get_or};
+ghost use Rattle.std.specs.Prelude.{◌≡◌, suc, ◌+◌, ◌*◌, ◌-◌, ◌≤◌, ◌<◌, true, ◌||◌, ltb, ◌⊎◌, get_or};
 ghost use Rattle.std.proofs.Math.Option.{some};
 ghost use Rattle.def_pass.specs.Scope.{is_some, const_in, find_binding, find_binding_from_current, write_prevents_inline, read_prevents_inlining, should_prevent_inline_because_of_scope, var_inline_prevented, is_hoisted_prevented, is_inline_prevented, mark_of, mark_of_id, ident_of, has_same_this, has_constant, scope_for, in_loop, any_from, between};
 ghost use Rattle.def_tree.specs.Tree.{kids};
 ghost use Rattle.def_pass.specs.Tree.{head_t};
+ghost use Rattle.def_pass.specs.Twice.{is_twice, unflagged, is_args};
 ghost use Rattle.words.specs.Layout.{yes, node_of};
 ghost use Rattle.words.specs.Place.{placed};
 ghost use Rattle.words_scopes.specs.Kinds.{type_of, kind_of};
 ghost use Rattle.words_scopes.specs.State.{Good, stack, heads, binds, place, bind_at, len_at, off};
-ghost use Rattle.scope_find.specs.Look.{HasScope, HasBinding, HasNode, start, first, scope_at, below, at_place, place_below, FoundIn, idx_here, idx_at, reads_o, kind_o, node_tree, held, bars_here, bound_here};
+ghost use Rattle.scope_find.specs.Look.{HasScope, HasBinding, HasNode, start, first, scope_at, below, at_place, place_below, FoundIn, idx_here, idx_at, reads_o, IsKindOfValue, node_tree, held, bars_here, bound_here};
 ghost use Rattle.scope_find.specs.Answers.{count_of};
 
-use words::{arity_at, first_at, flag_at, kind_at, layout, num_at};
-use words_scopes::kinds::{ScopeKind, VarDeclKind, VarType};
+use def_file::form;
+use def_file::kind::Kind;
+use words::{arity_at, first_at, flag_at, form_at, kind_at, layout, num_at};
+use words_scopes::kinds::{ScopeKind, VarType};
 use words_scopes::{find_binding, offset};
 
-// scope_for: is the identifier bound in the scope found, and is that the current one.
+// A name, a binding or an identifier of the tree: its number, and its form.
+#[derive(Clone, Copy, Debug, PartialEq, Eq)]
+pub struct Name {
+    pub ident: u8,
+    pub form: u32,
+}
+
+impl Name {
+    // Is it flagged, a binding that is declared twice (request 3).
+    pub fn twice(self) -> bool
+        ensures { result ≡ is_twice self.form }
+    {
+        form::TWICE <= self.form
+    }
+
+    // Its form without the flag.
+    pub fn unflagged(self) -> u32
+        ensures { result ≡ unflagged self.form }
+    {
+        if self.twice() {
+            self.form - form::TWICE
+        } else {
+            self.form
+        }
+    }
+
+    // Is it `arguments`, flagged or not.
+    pub fn arguments(self) -> bool
+        ensures { result ≡ is_args self.form }
+    {
+        self.unflagged() == form::ARGUMENTS
+    }
+}
+
+// scope_for: is the identifier bound in the scope found, and is that the current one. The definition's pair: of a name that is not bound, too, it
+// says whether the scope found is the current one.
 #[derive(Debug, Clone, Copy, PartialEq, Eq)]
 pub struct ScopeFor {
     pub bound: bool,
@@ -44,17 +82,12 @@ pub fn first_of(w: &[u32], k: usize) -> usize
 }
 
 // Scope k's kind.
+#[tactic(auto, unfolding(crate::specs::Look::scope_at))]
 pub fn scope_kind(w: &[u32], k: usize) -> ScopeKind
     requires { HasScope w.now k }
     ensures { kind_of result ≡ (scope_at w.now k).kind }
 {
-    match w[layout::SCOPES + k * 4] {
-        0 => ScopeKind::Cond,
-        1 => ScopeKind::Loop,
-        2 => ScopeKind::Block,
-        3 => ScopeKind::Fn { named: false },
-        _ => ScopeKind::Fn { named: true },
-    }
+    ScopeKind::from_word(w[layout::SCOPES + k * 4])
 }
 
 // The binding of x in scope k; p is the innermost one in the scopes up to k.
@@ -108,20 +141,17 @@ pub fn find_binding_from_current(w: &[u32], x: u8) -> Option<usize>
     found_in(w, k, x)
 }
 
-// Does a scope from the current one on have a constant of x.
+// Does a scope have a constant of x.
 pub fn has_constant(w: &[u32], x: u8) -> bool
     requires { Good w.now }
     ensures { result ≡ has_constant x (stack w.now) }
 {
-    for k in (0..w[layout::SCOPE_COUNT] as usize).rev() {
-        if const_in(w, k, x) {
-            return true;
-        }
-    }
-    false
+    let c = w[layout::CONSTANT_COUNT] as usize;
+    first_at(w, layout::CONSTANTS, 2, 0, c, x).is_some()
 }
 
-// Outwards, is a function, a loop or a condition met before the binding of x.
+// Outwards, is a function, a loop or a condition met before the binding of x. This and the other loops outwards stay loops: each has two tests
+// with an answer each, and one function over them would take a closure for both.
 pub fn write_prevents_inline(w: &[u32], x: u8) -> bool
     requires { Good w.now }
     ensures { result ≡ write_prevents_inline x (stack w.now) }
@@ -182,7 +212,7 @@ fn is_set(w: &[u32], k: usize, field: usize) -> bool
     w[layout::BINDINGS + k * 10 + field] != 0
 }
 
-// Is binding k prevented: its own mark.
+// Is binding k prevented: its own mark. This and the three behind it are one read each, with the definition's own field for an answer.
 pub fn inline_prevented(w: &[u32], k: usize) -> bool
     requires { HasBinding w.now k }
     ensures { result ≡ (bind_at w.now k).inline_prevented }
@@ -220,15 +250,15 @@ pub fn var_type(w: &[u32], k: usize) -> VarType
 }
 
 // The kind of binding k's value.
-pub fn value_kind(w: &[u32], k: usize) -> Option<u32>
+pub fn value_kind(w: &[u32], k: usize) -> Option<Kind>
     requires { HasBinding w.now k }
-    ensures { count_of result ≡ kind_o (bind_at w.now k).value }
+    ensures { IsKindOfValue (bind_at w.now k).value result }
 {
     if w[layout::BINDINGS + k * 10 + layout::LENGTH] == 0 {
         return None;
     }
     let at = offset(w, k);
-    Some(w[layout::VALUES + at * 2] % 64)
+    Some(Kind::from(w[layout::VALUES + at * 2] % 64))
 }
 
 // How many nodes it has; they stand from offset(w, k) on.
@@ -239,19 +269,12 @@ pub fn value_len(w: &[u32], k: usize) -> usize
     w[layout::BINDINGS + k * 10 + layout::LENGTH] as usize
 }
 
-// The kinds of a member: by name, by expression.
-fn is_member(k: u32) -> bool
-    ensures { result ≡ (eqb k 37 || eqb k 38) }
-{
-    matches!(k, 37 | 38)
-}
-
 // VarInfo::is_inline_prevented: the mark, or a member where `this` matters.
 pub fn var_inline_prevented(w: &[u32], k: usize) -> bool
     requires { HasBinding w.now k }
     ensures { result ≡ var_inline_prevented (bind_at w.now k) }
 {
-    inline_prevented(w, k) || this_sensitive(w, k) && value_kind(w, k).is_some_and(is_member)
+    inline_prevented(w, k) || this_sensitive(w, k) && value_kind(w, k).is_some_and(Kind::is_member)
 }
 
 // How often the innermost binding of x was read.
@@ -269,7 +292,7 @@ pub fn read_prevents_inlining(w: &[u32], x: u8) -> bool
     ensures { result ≡ read_prevents_inlining x (stack w.now) }
 {
     if let Some(k) = find_binding(w, x) {
-        if var_type(w, k) != VarType::Declared(VarDeclKind::Var) || hoisted(w, k) {
+        if !var_type(w, k).is_var() || hoisted(w, k) {
             return false;
         }
     }
@@ -365,15 +388,29 @@ pub fn ident_at(w: &[u32], i: usize) -> u8
     num_at(w, i) as u8
 }
 
+// The name that node i is.
+pub fn name_at(w: &[u32], i: usize) -> Name
+    requires { (HasNode w.now i) × (((node_of w.now i).kind ≡ 20) ⊎ ((node_of w.now i).kind ≡ 21)) }
+    ensures { (result.ident ≡ (node_of w.now i).num) × (result.form ≡ (node_of w.now i).form) }
+{
+    Name {
+        ident: ident_at(w, i),
+        form: form_at(w, i),
+    }
+}
+
 // Of a member, node i: the mark of the identifier that it is a member of.
 fn object_prevented(w: &[u32], i: usize) -> bool
     requires { HasNode w.now i }
     ensures { result ≡ mark_of_id (ident_of (head_t (kids (node_tree w.now i)))) (stack w.now) }
 {
-    if arity_at(w, i) == 0 || w[layout::NODE_COUNT] as usize <= i + 1 || kind_at(w, i + 1) != 21 {
+    if arity_at(w, i) == 0 || w[layout::NODE_COUNT] as usize <= i + 1 {
         return false;
     }
-    ident_prevented(w, ident_at(w, i + 1))
+    match kind_at(w, i + 1) {
+        Kind::Ident => ident_prevented(w, ident_at(w, i + 1)),
+        _ => false,
+    }
 }
 
 // Is the expression that begins at node i prevented: an update, a call, `new` or parentheses; else by the binding of its identifier.
@@ -382,17 +419,12 @@ pub fn is_inline_prevented(w: &[u32], i: usize) -> bool
     ensures { result ≡ is_inline_prevented (node_tree w.now i) (stack w.now) }
 {
     match kind_at(w, i) {
-        21 => ident_prevented(w, ident_at(w, i)),
-        k if is_member(k) => object_prevented(w, i),
-        k => always_prevented(k),
+        Kind::Ident => ident_prevented(w, ident_at(w, i)),
+        Kind::Member | Kind::Computed => object_prevented(w, i),
+        // The kinds that are prevented whatever they have in them.
+        Kind::Update | Kind::Call | Kind::New | Kind::Paren => true,
+        _ => false,
     }
-}
-
-// The kinds that are prevented whatever they have in them.
-fn always_prevented(k: u32) -> bool
-    ensures { result ≡ (eqb k 31 || eqb k 35 || eqb k 36 || eqb k 41) }
-{
-    matches!(k, 31 | 35 | 36 | 41)
 }
 
 // Does it not matter to the binding of x what `this` is in the expression that begins at node i.
@@ -403,7 +435,7 @@ pub fn has_same_this(w: &[u32], x: u8, i: usize) -> bool
     let Some(k) = find_binding(w, x) else {
         return true;
     };
-    !(this_sensitive(w, k) && is_member(kind_at(w, i)))
+    !(this_sensitive(w, k) && kind_at(w, i).is_member())
 }
 
 // Is there a barrier before binding j of the current scope.

@@ -7,69 +7,25 @@ use mathlib.Core.Logic.{⊎_elim}
 use Prim.Native.Nat.{ℕ, zero, suc, ◌+◌, ◌-◌, ◌*◌, ◌≤◌, ◌<◌}
 use native.Mathlib.Nat.{eq-or-lt_of_le}
 use native.Mathlib.Omega.{arith}
-use borrow.Author.Tests.{eq-eqb, ne_eqb, lt-ltb, le-ltb}
+use borrow.Author.Tests.{lt-ltb, le-ltb}
 use lib.ListN.{length, get_or, set, take, drop, length-take}
-use lib.Dec.{eqb, ltb}
+use lib.Dec.{ltb}
 use lib.Seq.{ext_get_or}
 use Rattle.def_tree.specs.Base.{pick}
 use Rattle.def_tree.specs.Tree.{Tree}
-use Rattle.def_pass.specs.Scope.{VarInfo, Scope, Stack, is_fn, is_param, change, defined, sensitive_now, prevent, one_more, read_once, prevent_param, prevent_inline_of_params, on_bindings}
-use Rattle.words.specs.Tab.{tab, tab-ext, length-tab, get_d-tab, same_or_not, below_or_not}
+use Rattle.def_pass.specs.Scope.{VarInfo, Scope, Stack, is_fn, is_param, change, sensitive_now, prevent, one_more, read_once, prevent_param, prevent_inline_of_params, on_bindings}
+use Rattle.words.specs.Tab.{tab, tab-ext, length-tab, get_d-tab, below_or_not}
 use Rattle.words.specs.Layout.{yes}
-use Rattle.words_scopes.specs.declared.kinds.VarDeclKind.TheVariants.{Var, Let, Const}
-use Rattle.words_scopes.specs.declared.kinds.VarType.{VarType as Kind}
-use Rattle.words_scopes.specs.declared.kinds.VarType.TheVariants.{Param, Declared}
-use Rattle.words_scopes.specs.Kinds.{type_of, var_type_of, alias_at}
-use Rattle.words_scopes.specs.State.{value_of, bind_at, Head, head_at, heads_at, heads, flags, binds, consts, split, scope_of, stack, Good, Becomes, Fits, place}
+use Rattle.words_scopes.specs.State.{bind_at, Head, head_at, heads_at, heads, flags, binds, consts, split, scope_of, stack, Good, Becomes, Fits, place}
 use Rattle.words_scopes.proofs.Split as laws
 use Rattle.words_scopes.proofs.Words as words
+use Rattle.words_scopes.proofs.Stored.{store-this, store-becomes}
 use Rattle.words_scopes.proofs.Grow.{some-head}
 use Rattle.scope_find.specs.Look.{fn_start, params_from}
 use Rattle.scope_find.proofs.Facts.{flag-set}
 
-module _ (w : List ℕ) (g : Good w) (k : ℕ) (h : k < get_or w 1 0) where
-  module _ (q v : ℕ) (lo : 0 < q) (hi : q < 8) where
-    abbrev w' : List ℕ
-    w' = set w (4112 + k * 10 + q) v
-
-    -- the words of the binding after the store
-    abbrev now-at : ℕ → ℕ
-    now-at p = pick (eqb p q) v (get_or w (4112 + k * 10 + p) 0)
-
-    word : (p : ℕ) → p < 8 → get_or w' (4112 + k * 10 + p) 0 ≡ now-at p
-    word p l = ⊎_elim
-        (λ (e : p ≡ q). rw (e, eq-eqb q q refl) (words.field-here w g k h q v lo hi))
-        (λ (d : p ≡ q → ⊥). rw (ne_eqb p q d) (words.field-same w g k h q v lo hi k p (omega arith) d))
-        (same_or_not p q)
-
-    -- and the binding that they are
-    abbrev stored : VarInfo
-    stored = record {
-      id = (bind_at w k).id;
-      kind = var_type_of (now-at 1);
-      alias_of = alias_at (now-at 2);
-      read_cnt = now-at 3;
-      inline_prevented = yes (now-at 4);
-      is_undefined = yes (now-at 5);
-      value = (bind_at w k).value;
-      this_sensitive = yes (now-at 6);
-      hoisted = yes (now-at 7);
-      count = (bind_at w k).count;
-    }
-
-    pub store-this : bind_at w' k ≡ stored
-    store-this =
-        words.bind-eq (words.field-name w g k h q v lo hi k) (ap var_type_of (word 1 (omega arith))) (ap alias_at (word 2 (omega arith))) (word 3 (omega arith))
-        (ap yes (word 4 (omega arith))) (ap yes (word 5 (omega arith))) (ap value_of (words.runs-at g (words.field-runs w g k h q v lo hi) k h)) (ap yes (word 6 (omega arith))) (ap yes (word 7 (omega arith))) (words.field-count w g k h q v lo hi k)
-
-    pub store-becomes : (f : VarInfo → VarInfo) → stored ≡ f (bind_at w k) → (x : ℕ) → place x (heads w) (binds w) ≡ suc k → Becomes w w' (change x f (stack w))
-    store-becomes f e = words.changed g (words.field-kept w g k h q v lo hi) k h f (store-this ∙ e) (words.field-other w g k h q v lo hi) (words.field-good w g k h q v lo hi)
-
-  pub sensed : (x : ℕ) → place x (heads w) (binds w) ≡ suc k → Becomes w (set w (4112 + k * 10 + 6) 1) (change x sensitive_now (stack w))
-  sensed = store-becomes 6 1 (omega arith) (omega arith) sensitive_now refl
-
-  pub defined-now : (x : ℕ) → place x (heads w) (binds w) ≡ suc k → Becomes w (set w (4112 + k * 10 + 5) 0) (change x defined (stack w))
-  defined-now = store-becomes 5 0 (omega arith) (omega arith) defined refl
+pub sensed : (w : List ℕ) → Good w → (k : ℕ) → k < get_or w 1 0 → (x : ℕ) → place x (heads w) (binds w) ≡ suc k → Becomes w (set w (4112 + k * 10 + 6) 1) (change x sensitive_now (stack w))
+sensed w g k h = store-becomes w g k h 6 1 (omega arith) (omega arith) sensitive_now refl
 
 -- two fields
 abbrev with-mark : Bool → VarInfo → VarInfo
@@ -162,12 +118,6 @@ param-yes b e = rw e refl
 
 param-no : (b : VarInfo) → is_param b.kind ≡ false → b ≡ prevent_param b
 param-no b e = rw e refl
-
-pub type-other : (t : Kind) → (t ≡ Param → ⊥) → is_param (type_of t) ≡ false
-type-other Param h = absurd (h refl)
-type-other (Declared Var) h = refl
-type-other (Declared Let) h = refl
-type-other (Declared Const) h = refl
 
 abbrev pub swept_at : ℕ → ℕ → VarInfo → VarInfo
 swept_at lo j b = pick (ltb j lo) b (prevent_param b)

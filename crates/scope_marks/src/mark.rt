@@ -1,6 +1,6 @@
 // Marks: what changes the scopes and adds nothing to them.
 ghost use Rattle.std.specs.Prelude.{◌≡◌, ◌≤◌, get_or};
-ghost use Rattle.def_pass.specs.Scope.{is_some, find_binding, change, defined, sensitive_now, read_once, add_unresolved, prevent_inline_of_params, store_inline_barrier};
+ghost use Rattle.def_pass.specs.Scope.{is_some, find_binding, change, sensitive_now, read_once, add_unresolved, prevent_inline_of_params, store_inline_barrier};
 ghost use Rattle.def_tree.specs.Base.{pick};
 ghost use Rattle.words_scopes.specs.State.{Good, Becomes, stack, heads, flags, binds, consts, split};
 ghost use Rattle.scope_find.specs.Look.{HasScope, fn_start, params_from};
@@ -9,25 +9,16 @@ ghost use Rattle.scope_find.specs.Touched.{BarStored};
 use scope_find::{first_of, scope_kind, var_type};
 use words::{layout, set_flag};
 use words_scopes::find_binding;
-use words_scopes::kinds::{ScopeKind, VarType};
+use words_scopes::kinds::ScopeKind;
 
-// What `this` is matters to the innermost binding of x.
+// What `this` is matters to the innermost binding of x. It and words_scopes' `define` and `prevent_found` store one field each: one function would
+// take the field, its value and the definition, which is all that they have.
 pub fn mark_this_sensitive(w: &mut [u32], x: u8)
     requires { Good w.old }
     ensures { Becomes w.old w.new (change x sensitive_now (stack w.old)) }
 {
     if let Some(k) = find_binding(w, x) {
         w[layout::BINDINGS + k * 10 + layout::SENSITIVE] = 1;
-    }
-}
-
-// The innermost binding of x is no longer undefined.
-pub fn set_defined(w: &mut [u32], x: u8)
-    requires { Good w.old }
-    ensures { Becomes w.old w.new (change x defined (stack w.old)) }
-{
-    if let Some(k) = find_binding(w, x) {
-        w[layout::BINDINGS + k * 10 + layout::UNDEFINED] = 0;
     }
 }
 
@@ -60,7 +51,7 @@ pub fn count_read(w: &mut [u32], x: u8)
     }
 }
 
-// Where the bindings of the nearest function begin, outwards.
+// Where the bindings of the nearest function begin, outwards. A loop, as those outwards of scope_find.
 fn fn_start(w: &[u32]) -> usize
     requires { Good w.now }
     ensures { result ≡ fn_start (heads w.now) }
@@ -79,7 +70,7 @@ fn prevent_params(w: &mut [u32], lo: usize)
     ensures { Becomes w.old w.new (split (heads w.old) (flags w.old) (params_from lo (binds w.old)) (consts w.old)) }
 {
     for k in lo..w[layout::BINDING_COUNT] as usize {
-        if var_type(w, k) == VarType::Param {
+        if var_type(w, k).is_param() {
             w[layout::BINDINGS + k * 10 + layout::PREVENTED] = 1;
         }
     }

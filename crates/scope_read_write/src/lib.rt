@@ -6,13 +6,30 @@ ghost use Rattle.def_pass.specs.Scope.{prevent_inline, add_read, add_write};
 ghost use Rattle.words_scopes.specs.State.{Good, Becomes, stack};
 ghost use Rattle.scope_values.specs.Steps.{Grown};
 ghost use Rattle.scope_find.specs.Answers.{write_bound, write_free, write_to};
+ghost use Rattle.scope_read_write.specs.Writes.{forced};
 
 use refusal::Refusal;
 use scope_find::{has_constant, read_prevents_inlining, scope_for, write_prevents_inline};
-use scope_marks::mark::{count_read, prevent_inline_of_params, set_defined};
+use scope_marks::mark::{count_read, prevent_inline_of_params};
 use words::layout;
 use words_scopes::kinds::{VarDeclKind, VarType};
-use words_scopes::{prevent_inline, push};
+use words_scopes::{define, prevent_inline, push};
+
+// How a name is written: it is prevented where the scopes say so, or in any case.
+#[derive(Clone, Copy, Debug, PartialEq, Eq)]
+pub enum Write {
+    Plain,
+    Forced,
+}
+
+impl Write {
+    // Is it prevented in any case.
+    pub fn is_forced(self) -> bool
+        ensures { result ≡ forced self }
+    {
+        matches!(self, Write::Forced)
+    }
+}
 
 // x is read; `args`: its name is `arguments`.
 pub fn add_read(w: &mut [u32], x: u8, args: bool)
@@ -28,21 +45,21 @@ pub fn add_read(w: &mut [u32], x: u8, args: bool)
     count_read(w, x);
 }
 
-// x is bound: it is defined now, and marked where the test says so.
+// x is bound: it is defined now, and marked where the test says so. The test is an argument, as the definition's `write_bound` has it.
 fn write_bound(w: &mut [u32], x: u8, far: bool)
     requires { Good w.old }
     ensures { Becomes w.old w.new (write_bound x far (stack w.old)) }
 {
-    set_defined(w, x);
+    define(w, x);
     if far {
         prevent_inline(w, x);
     }
 }
 
 // x is not bound: a new binding, unless it is a constant. Past the limit it is refused before it is stored.
-fn write_free(w: &mut [u32], x: u8, force: bool) -> Result<(), Refusal>
+fn write_free(w: &mut [u32], x: u8, how: Write) -> Result<(), Refusal>
     requires { Good w.old }
-    ensures { Grown w.old w.new (write_free x force (stack w.old)) result }
+    ensures { Grown w.old w.new (write_free x (forced how) (stack w.old)) result }
 {
     if has_constant(w, x) || w[layout::SCOPE_COUNT] == 0 {
         return Ok(());
@@ -55,30 +72,31 @@ fn write_free(w: &mut [u32], x: u8, force: bool) -> Result<(), Refusal>
         x,
         VarType::Declared(VarDeclKind::Var),
         None,
-        force,
+        how.is_forced(),
         false,
     );
     Ok(())
 }
 
 // What a write does behind its marks; `marked`: x and its aliases have just been marked, and are not marked again.
-fn write_to(w: &mut [u32], x: u8, force: bool, marked: bool) -> Result<(), Refusal>
+fn write_to(w: &mut [u32], x: u8, how: Write, marked: bool) -> Result<(), Refusal>
     requires { (Good w.old) × (marked ≡ true → prevent_inline x (stack w.old) ≡ stack w.old) }
-    ensures { Grown w.old w.new (write_to x force (stack w.old)) result }
+    ensures { Grown w.old w.new (write_to x (forced how) (stack w.old)) result }
 {
     let s = scope_for(w, x);
     if s.bound {
+        let force = how.is_forced();
         let far = !s.current || force;
         write_bound(w, x, far && !marked);
         return Ok(());
     }
-    write_free(w, x, force)
+    write_free(w, x, how)
 }
 
-// x is written; `args`: its name is `arguments`; `force`: it is prevented in any case.
-pub fn add_write(w: &mut [u32], x: u8, args: bool, force: bool) -> Result<(), Refusal>
+// x is written; `args`: its name is `arguments`.
+pub fn add_write(w: &mut [u32], x: u8, args: bool, how: Write) -> Result<(), Refusal>
     requires { Good w.old }
-    ensures { Grown w.old w.new (add_write x args force (stack w.old)) result }
+    ensures { Grown w.old w.new (add_write x args (forced how) (stack w.old)) result }
 {
     let far = write_prevents_inline(w, x);
     if far {
@@ -87,5 +105,5 @@ pub fn add_write(w: &mut [u32], x: u8, args: bool, force: bool) -> Result<(), Re
     if args {
         prevent_inline_of_params(w);
     }
-    write_to(w, x, force, far && !args)
+    write_to(w, x, how, far && !args)
 }

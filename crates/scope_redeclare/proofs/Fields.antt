@@ -1,30 +1,21 @@
 -- The words of one binding overwritten, but its name and its value. Assumes nothing.
 use mathlib.Core.Path.{◌≡◌, refl, ap, ◌∙◌}
-use mathlib.Core.Bool.{Bool, true, false}
-use mathlib.Core.List.{List, [], ◌∷◌}
+use mathlib.Core.List.{List}
 use mathlib.Core.Logic.{◌⊎◌, inl, inr, ⊎_elim}
 use Prim.Native.Nat.{ℕ, ◌+◌, ◌*◌, ◌≤◌, ◌<◌}
 use native.Mathlib.Omega.{arith}
 use lib.ListN.{get_or, set}
-use Rattle.std.specs.Int.{from_bool}
 use Rattle.words.specs.Tab.{below_or_not}
 use Rattle.words.specs.Layout.{yes}
 use Rattle.words.specs.Moved.{Put}
 use Rattle.words.proofs.Nodes.{beyond-same}
+use Rattle.words.proofs.Yes.{yes-from_bool}
 use Rattle.words_scopes.specs.Kinds.{type_of, alias_of}
 use Rattle.words_scopes.specs.declared.Record.{Record}
-use Rattle.words_scopes.specs.State.{Good, Past, binds, consts, bind_at, with_count, var_type_of, alias_at, value_of}
+use Rattle.words_scopes.specs.State.{Good, Past, binds, consts, bind_at, with_count, var_type_of, alias_at, value_of, words_of}
 use Rattle.words_scopes.proofs.Words.{Kept, Runs, runs-good, runs-at, bind-eq, bind-same, count-apart, count_kept, count-good, count-this, count-other}
 use Rattle.scope_values.specs.Steps.{Listed, refill}
 use Rattle.scope_values.proofs.Listed.{kept-listed, set-binds}
-
-yes-from : (b : Bool) → yes (from_bool b) ≡ b
-yes-from true = refl
-yes-from false = refl
-
--- the seven words of a record
-abbrev pub words_of : Record → ℕ → ℕ → List ℕ
-words_of r kind alias = kind ∷ alias ∷ r.reads ∷ from_bool r.prevented ∷ from_bool r.undefined ∷ from_bool r.this_sensitive ∷ from_bool r.hoisted ∷ []
 
 module _ (w x : List ℕ) (g : Good w) (k : ℕ) (h : k < get_or w 1 0) (r : Record) (kind alias : ℕ) (ek : var_type_of kind ≡ type_of r.kind) (ea : alias_at alias ≡ alias_of r.alias)
     (one : Put w x (4112 + k * 10 + 1) (words_of r kind alias)) where
@@ -76,8 +67,8 @@ module _ (w x : List ℕ) (g : Good w) (k : ℕ) (h : k < get_or w 1 0) (r : Rec
   this : bind_at x k ≡ refill r (bind_at w k)
   this =
       bind-eq (name k) (ap var_type_of (at 0 (p + 1) (omega arith) (omega arith)) ∙ ek) (ap alias_at (at 1 (p + 2) (omega arith) (omega arith)) ∙ ea) (at 2 (p + 3) (omega arith) (omega arith))
-      (ap yes (at 3 (p + 4) (omega arith) (omega arith)) ∙ yes-from r.prevented) (ap yes (at 4 (p + 5) (omega arith) (omega arith)) ∙ yes-from r.undefined) (ap value_of (runs-at g re-runs k h))
-      (ap yes (at 5 (p + 6) (omega arith) (omega arith)) ∙ yes-from r.this_sensitive) (ap yes (at 6 (p + 7) (omega arith) (omega arith)) ∙ yes-from r.hoisted) (times k)
+      (ap yes (at 3 (p + 4) (omega arith) (omega arith)) ∙ yes-from_bool r.prevented) (ap yes (at 4 (p + 5) (omega arith) (omega arith)) ∙ yes-from_bool r.undefined) (ap value_of (runs-at g re-runs k h))
+      (ap yes (at 5 (p + 6) (omega arith) (omega arith)) ∙ yes-from_bool r.this_sensitive) (ap yes (at 6 (p + 7) (omega arith) (omega arith)) ∙ yes-from_bool r.hoisted) (times k)
 
   pub rewritten : Listed w x (set (binds w) k (refill r (bind_at w k))) (consts w)
   rewritten = kept-listed g re-kept (runs-good g re-runs re-kept) (set-binds w k h x (refill r (bind_at w k)) (re-kept.counts 1 (omega arith) (omega arith)) this

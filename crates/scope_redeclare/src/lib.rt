@@ -8,9 +8,8 @@ ghost use Rattle.scope_values.specs.Steps.{Listed, Grown, Offered, run_value, re
 ghost use Rattle.scope_redeclare.specs.Own.{Own};
 
 use refusal::Refusal;
-use scope_values::{passes, set_run};
+use scope_values::{room_for, set_run};
 use words::{Run, layout, put};
-use words_scopes::kinds::alias_word;
 use words_scopes::{Record, find_binding, record_at};
 
 // Overwrites the words of binding k but its name, its value and its count.
@@ -18,19 +17,7 @@ pub fn rewrite(w: &mut [u32], k: usize, r: Record)
     requires { (Good w.old) × (k < get_or w.old 1 0) }
     ensures { (Listed w.old w.new (set (binds w.old) k (refill r (bind_at w.old k))) (consts w.old)) × (Past (k + 1) w.old w.new) }
 {
-    put(
-        w,
-        layout::BINDINGS + k * 10 + layout::KIND,
-        [
-            u32::from(r.kind),
-            alias_word(r.alias),
-            r.reads,
-            u32::from(r.prevented),
-            u32::from(r.undefined),
-            u32::from(r.this_sensitive),
-            u32::from(r.hoisted),
-        ],
-    );
+    put(w, layout::BINDINGS + k * 10 + layout::KIND, r.words());
 }
 
 // Overwrites the count of binding k.
@@ -79,9 +66,7 @@ pub fn redeclare_as(
     ensures { Grown w.old w.new (put_at w.old k (redeclare prevented undefined (run_value w.old r) (bind_at w.old k))) result }
 {
     let old = w[layout::BINDINGS + k * 10 + layout::LENGTH] as usize;
-    if passes(w, old, r.len, 0) {
-        return Err(Refusal::Room);
-    }
+    room_for(w, old, r.len, 0)?;
     set_run(w, k, r);
     redeclare_seen(w, k, prevented, undefined);
     Ok(())

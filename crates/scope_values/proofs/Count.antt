@@ -2,7 +2,7 @@
 use mathlib.Core.Path.{◌≡◌, refl, ap, ◌∙◌}
 use mathlib.Core.List.{List, [], ◌∷◌, ◌++◌}
 use mathlib.Core.Option.{Option, none, some}
-use Prim.Native.Nat.{ℕ, zero, suc, ◌+◌, ◌*◌, ◌≤◌, ◌<◌}
+use Prim.Native.Nat.{ℕ, zero, suc, ◌+◌, ◌≤◌, ◌<◌}
 use native.Mathlib.Omega.{arith}
 use lib.ListN.{length, get_or, set, take, drop, length-take, length-drop}
 use Rattle.def_tree.specs.Tree.{Tree, Forest, node, nil, cons, Core, flat, flats, count, counts}
@@ -152,10 +152,3 @@ length-heads w (suc k) = ap suc (length-heads w k)
 pub depth_is : (w : List ℕ) → length (stack w) ≡ get_or w 2 0
 unfolding stack heads
 depth_is w = length-split (heads w) (flags w) (binds w) (consts w) ∙ length-heads w (get_or w 2 0)
-
--- the lengths of constants and of bindings, as their tables have them
-pub words-const : (w : List ℕ) (k : ℕ) → sum (λ j. get_or w (6673 + j * 2) 0) k ≡ coff w k
-words-const w k = sum-ext (λ j. get_or w (6673 + j * 2) 0) (λ j. clen_at w j) k (λ j l. let e : 6673 + j * 2 ≡ 6672 + j * 2 + 1 = omega arith in ap (λ (i : ℕ). get_or w i 0) e)
-
-pub words-bind : (w : List ℕ) (k : ℕ) → sum (λ j. get_or w (4120 + j * 10) 0) k ≡ off w k
-words-bind w k = sum-ext (λ j. get_or w (4120 + j * 10) 0) (λ j. len_at w j) k (λ j l. let e : 4120 + j * 10 ≡ 4112 + j * 10 + 8 = omega arith in ap (λ (i : ℕ). get_or w i 0) e)

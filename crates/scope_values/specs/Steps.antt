@@ -54,6 +54,11 @@ abbrev pub Limited : Refusal → Bool → List ℕ → List ℕ → Stack → Re
 Limited n test w w' st (Ok _) = Becomes w w' st × (test ≡ false)
 Limited n test w w' st (Err r) = (r ≡ n) × (test ≡ true) × Still w w'
 
+-- a refusal for want of room, if a test holds
+abbrev pub Roomed : Result Unit Refusal → Bool → Type 0
+Roomed (Ok _) test = test ≡ false
+Roomed (Err r) test = (r ≡ Room) × (test ≡ true)
+
 -- definition's `grow`
 abbrev pub Grown : List ℕ → List ℕ → Stack → Result Unit Refusal → Type 0
 Grown w w' st r = Limited Room (over st) w w' st r

@@ -6,23 +6,11 @@ ghost use Rattle.def_pass.specs.Scope.{recorded_nodes, live, change, with_value}
 ghost use Rattle.words.specs.Tab.{sum};
 ghost use Rattle.words_scopes.specs.State.{Good, Past, stack, binds, consts, bind_at, off, coff};
 ghost use Rattle.scope_values.specs.Outwards.{stops_at};
-ghost use Rattle.scope_values.specs.Steps.{Spliced, Listed, Grown, Offered, run_value};
+ghost use Rattle.scope_values.specs.Steps.{Roomed, Spliced, Listed, Grown, Offered, run_value};
 
 use refusal::Refusal;
-use words::{Run, layout, shift};
+use words::{Run, layout, shift, sum_at};
 use words_scopes::{find_binding, offset, offset_from};
-
-// The sum of words a up to e of those from p on, each s behind the one before.
-fn lengths(w: &[u32], p: usize, s: usize, a: usize, e: usize) -> usize
-    requires { (16384 ≤ length w.now) × (a ≤ e) × (e ≤ 256) × (s ≤ 10) × (p ≤ 8192) × (sum (λ j. get_or w.now (p + j * s) 0) e ≤ 512) }
-    ensures { sum (λ j. get_or w.now (p + j * s) 0) a + result ≡ sum (λ j. get_or w.now (p + j * s) 0) e }
-{
-    let mut at: usize = 0;
-    for j in a..e {
-        at += w[p + j * s] as usize;
-    }
-    at
-}
 
 // In a store of values: a run of the tree's nodes takes the place of the old nodes at a place; those behind are shifted.
 pub fn splice(w: &mut [u32], base: usize, at: usize, old: usize, end: usize, r: Run)
@@ -38,12 +26,13 @@ pub fn splice(w: &mut [u32], base: usize, at: usize, old: usize, end: usize, r: 
     shift(w, layout::NODES + r.at * 2, base + at * 2, r.len * 2);
 }
 
-// How many nodes the values before constant k have.
+// How many nodes the values before constant k have. Beside `offset` of words_scopes, as set_const of scope_constants beside `set_run`: the laws are of
+// two lists of different records, so that one function over both stores would promise each by a case.
 pub fn const_offset(w: &[u32], k: usize) -> usize
     requires { (Good w.now) × (k ≤ get_or w.now 3 0) }
     ensures { (result ≡ coff w.now k) × (result ≤ 512) }
 {
-    lengths(w, 6673, 2, 0, k)
+    sum_at(w, layout::CONSTANTS + layout::CONSTANT_LENGTH, 2, 0, k)
 }
 
 // How many nodes are recorded.
@@ -71,7 +60,8 @@ fn nodes_in(w: &[u32], k: usize, e: usize, c: usize) -> usize
 {
     let a = w[layout::SCOPES + k * 4 + layout::FIRST_BINDING] as usize;
     let b = w[layout::SCOPES + k * 4 + layout::FIRST_CONSTANT] as usize;
-    lengths(w, 4120, 10, a, e) + lengths(w, 6673, 2, b, c)
+    sum_at(w, layout::BINDINGS + layout::LENGTH, 10, a, e)
+        + sum_at(w, layout::CONSTANTS + layout::CONSTANT_LENGTH, 2, b, c)
 }
 
 // Adds to n nodes those recorded, scope by scope from the current one outwards, and stops once they are more than row 9 allows: after how many
@@ -84,11 +74,10 @@ pub fn stops_at(w: &[u32], n: usize) -> Option<usize>
     let mut sum = n;
     let mut e = w[layout::BINDING_COUNT] as usize;
     let mut c = w[layout::CONSTANT_COUNT] as usize;
-    for i in 0..d {
+    for k in (0..d).rev() {
         if 512 < sum {
-            return Some(i);
+            return Some(d - 1 - k);
         }
-        let k = d - 1 - i;
         sum += nodes_in(w, k, e, c);
         e = w[layout::SCOPES + k * 4 + layout::FIRST_BINDING] as usize;
         c = w[layout::SCOPES + k * 4 + layout::FIRST_CONSTANT] as usize;
@@ -104,12 +93,23 @@ fn nodes_pass(w: &[u32], old: usize, m: usize) -> bool
     old < m && stops_at(w, m - old).is_some()
 }
 
-// Is row 9 passed once old nodes give way to m, and there are `more` records more.
+// Is row 9 passed once old nodes give way to m, and there are `more` records more, 0 or 1: a summand of the count.
 pub fn passes(w: &[u32], old: usize, m: usize, more: usize) -> bool
     requires { (Good w.now) × (old ≤ recorded_nodes (stack w.now)) × (m ≤ 1024) × (more ≤ 1) }
     ensures { result ≡ (ltb 512 (recorded_nodes (stack w.now) - old + m) || ltb 256 (live (stack w.now) + more)) }
 {
     nodes_pass(w, old, m) || 256 < live(w) + more
+}
+
+// The refusal, if it is.
+pub fn room_for(w: &[u32], old: usize, m: usize, more: usize) -> Result<(), Refusal>
+    requires { (Good w.now) × (old ≤ recorded_nodes (stack w.now)) × (m ≤ 1024) × (more ≤ 1) }
+    ensures { Roomed result (ltb 512 (recorded_nodes (stack w.now) - old + m) || ltb 256 (live (stack w.now) + more)) }
+{
+    if passes(w, old, m, more) {
+        return Err(Refusal::Room);
+    }
+    Ok(())
 }
 
 // Binding k gets a run of the tree's nodes as its value, which are one tree or none.
@@ -134,9 +134,7 @@ pub fn record_value(w: &mut [u32], x: u8, r: Run) -> Result<(), Refusal>
         return Ok(());
     };
     let old = w[layout::BINDINGS + k * 10 + layout::LENGTH] as usize;
-    if passes(w, old, r.len, 0) {
-        return Err(Refusal::Room);
-    }
+    room_for(w, old, r.len, 0)?;
     set_run(w, k, r);
     Ok(())
 }

@@ -10,6 +10,7 @@ use lib.ListN.{length, get_or, get_elem?, take, drop, length-take, take-append-d
 use lib.Dec.{eqb}
 use Rattle.std.specs.Prelude.{Option as Maybe, Some, None, Result, Ok, Err, IfSome}
 use Rattle.words.specs.Place as place
+use Rattle.std.specs.Bool.{then_some}
 use Rattle.refusal.specs.declared.Refusal.{Refusal}
 use Rattle.refusal.specs.declared.Refusal.TheVariants.{Depth}
 use Rattle.def_tree.specs.Tree.{Tree, Core}
@@ -29,7 +30,7 @@ use Rattle.scope_find.proofs.Facts.{with_index as at_index, idx-find}
 use Rattle.words_nodes.specs.Nodes.{tree_from, value_from, Swapped}
 use Rattle.words_nodes.proofs.Trees.{count-some}
 use Rattle.words_nodes.proofs.Splice.{run-count}
-use Rattle.scope_var_info.specs.Handles.{bindings_of, numbered, tree_o, with_index, indexed, of_bindings, of_constants, Held, Sits, held, Puts}
+use Rattle.scope_var_info.specs.Handles.{bindings_of, numbered, tree_o, with_index, indexed, of_bindings, of_constants, Held, held, Puts}
 
 no-elements : {A : Type 0} (xs : List A) → length xs ≡ 0 → xs ≡ []
 no-elements [] e = refl
@@ -80,6 +81,22 @@ module _ (w : List ℕ) (g : Good w) where
   number-place zero h = refl
   number-place (suc k) h = sym (number_in k (omega arith))
 
+-- a number that is known, or none
+module _ {p : Bool} {b k : ℕ} (e : then_some p b ≡ Some k) where
+  known-is : (p ≡ true) × (k ≡ b)
+  known-is = go p e
+    where
+      go : (q : Bool) → then_some q b ≡ Some k → (q ≡ true) × (k ≡ b)
+      go true h = (refl, cc)
+      go false h = absurd (let z : ◌≡◌ {A = Maybe ℕ} None (Some k) = h in cc)
+
+  pub known-number : (w : List ℕ) → Good w → (p ≡ true → b < get_or w 1 0) → (numbered (stack w) (suc b) ≡ some (bind_at w k)) × (k < get_or w 1 0)
+  known-number w g h = rw (known-is.1) (number_in w g b (h known-is.0), h known-is.0)
+
+pub known-none : (p : Bool) (b : ℕ) → then_some p b ≡ None → p ≡ false
+known-none true b e = absurd (let z : ◌≡◌ {A = Maybe ℕ} (Some b) None = e in cc)
+known-none false b e = refl
+
 -- an answer is a number or 0
 pub placed-most : (o : Maybe ℕ) (n : ℕ) → IfSome o (λ k. k < n) → place.placed o ≤ n
 placed-most None n h = omega arith
@@ -110,6 +127,10 @@ value_none : (xs : List Core) → length xs ≡ 0 → value_of xs ≡ none
 value_none [] e = refl
 value_none (x ∷ xs) e = absurd (omega arith)
 
+pub some_of : (m : ℕ) → (m ≡ 0 → ⊥) → 0 < m
+some_of zero n = absurd (n refl)
+some_of (suc m) n = omega arith
+
 -- the value of binding k
 module _ (w : List ℕ) (g : Good w) (k : ℕ) (h : k < get_or w 1 0) where
   pub bound-none : len_at w k ≡ 0 → (bind_at w k).value ≡ none
@@ -125,20 +146,8 @@ module _ (w : List ℕ) (g : Good w) (k : ℕ) (h : k < get_or w 1 0) where
     pub bound-held : Held w of_bindings at m
     bound-held = record { some = z; inside = omega (arith, sum-part (λ j. len_at w j) k (get_or w 1 0) h, g.vals, p, q); whole = rw (p, q) (g.whole k h) }
 
-  pub bound-sits : (at : ℕ) → at ≡ off w k → Sits w (bind_at w k).value at
-  bound-sits at p = record { is = λ z. bound-value at (count_o (bind_at w k).value) p bound-count z; held = λ z. bound-held at (count_o (bind_at w k).value) p bound-count z }
-
   pub bound-inside : off w k + len_at w k ≤ 512
   bound-inside = omega (arith, sum-part (λ j. len_at w j) k (get_or w 1 0) h, g.vals)
-
-pub sits-at : {w : List ℕ} {v : Option Tree} {at m : ℕ} → Sits w v at → m ≡ count_o v → (m ≡ 0 → ⊥) → (v ≡ some (value_from w of_bindings at m)) × Held w of_bindings at m
-sits-at {w} {v} {at} {m} s e n =
-    let z : 0 < count_o v = omega (arith, some_of m n) in
-    subst (λ (k : ℕ). (v ≡ some (value_from w of_bindings at k)) × Held w of_bindings at k) (sym e) (s.is z, s.held z)
-  where
-    some_of : (m : ℕ) → (m ≡ 0 → ⊥) → 0 < m
-    some_of zero n = absurd (n refl)
-    some_of (suc m) n = omega arith
 
 -- the constant that was found
 module _ (w : List ℕ) (x : ℕ) where
@@ -153,9 +162,6 @@ module _ (w : List ℕ) (x : ℕ) where
 
 pub held-count : {w : List ℕ} {base at m : ℕ} → Held w base at m → count (value_from w base at m) ≡ m
 held-count {w} {base} {at} {m} h = run-count w base at m h.some h.whole
-
-pub none-sits : (w : List ℕ) (at : ℕ) → Sits w none at
-none-sits w at = record { is = λ z. absurd (omega arith); held = λ z. absurd (omega arith) }
 
 pub held-some : (o : Option Tree) → 0 < count_o o → o ≡ some (held o)
 held-some none z = absurd (omega arith)

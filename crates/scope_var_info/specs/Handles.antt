@@ -1,12 +1,12 @@
 -- What a caller of scope.rs holds: a binding by its number, a tree by its first node. Assumes nothing: these are definitions.
-use Rattle.std.specs.Prelude.{◌≡◌, Result, Ok, List, [], ◌∷◌, ◌++◌, Bool, false, ℕ, zero, suc, ◌+◌, ◌≤◌, ◌<◌, ltb, length}
+use Rattle.std.specs.Prelude.{◌≡◌, Option as Answer, Some, None, Result, Ok, List, [], ◌∷◌, ◌++◌, Bool, false, ℕ, zero, suc, ◌+◌, ◌≤◌, ◌<◌, ltb, length}
 use Rattle.std.proofs.Math.Option.{Option, none, some}
 use Rattle.std.proofs.Math.ListN.{get_elem?}
 use Rattle.def_tree.specs.Base.{pick}
 use Rattle.def_tree.specs.Tree.{Tree, node, nil, Core, count}
 use Rattle.def_pass.specs.Scope.{VarInfo, Stack}
-use Rattle.def_pass.specs.Tree.{count_o}
 use Rattle.words.specs.Layout.{run}
+use Rattle.words.specs.declared.Run.{Run}
 use Rattle.words_scopes.specs.State.{Whole}
 use Rattle.words_nodes.specs.Nodes.{tree_from, value_from, Swapped}
 use Rattle.refusal.specs.declared.Refusal.{Refusal}
@@ -43,10 +43,10 @@ pub record Held (w : List ℕ) (base at m : ℕ) : Type 0 where
   pub inside : at + m ≤ 512
   pub whole : Whole (run w base at m)
 
--- the value of a binding, if it has one, is held from `at` on
-pub record Sits (w : List ℕ) (v : Option Tree) (at : ℕ) : Type 0 where
-  pub is : 0 < count_o v → v ≡ some (value_from w of_bindings at (count_o v))
-  pub held : 0 < count_o v → Held w of_bindings at (count_o v)
+-- the value of a binding, if it has one, is the nodes of a run
+abbrev pub Kept : List ℕ → Option Tree → Answer Run → Type 0
+Kept w v None = v ≡ none
+Kept w v (Some r) = (v ≡ some (value_from w of_bindings r.at r.len)) × Held w of_bindings r.at r.len
 
 -- a binding of the current scope with its index; 1 + the index, 0 for none
 abbrev pub with_index : ℕ → Option VarInfo → Option (ℕ × VarInfo)

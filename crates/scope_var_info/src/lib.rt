@@ -9,15 +9,15 @@ ghost use Rattle.def_pass.specs.Tree.{count_o};
 ghost use Rattle.words.specs.Layout.{tree};
 ghost use Rattle.words.specs.Place.{placed};
 ghost use Rattle.words_scopes.specs.State.{Good, stack, name_of, targeted};
-ghost use Rattle.scope_find.specs.Look.{idx_here, kind_o};
+ghost use Rattle.scope_find.specs.Look.{idx_here, IsKindOfValue};
 ghost use Rattle.scope_find.specs.Answers.{count_of};
 ghost use Rattle.words_nodes.specs.Nodes.{Planted, value_from, size};
-ghost use Rattle.scope_var_info.specs.Handles.{bindings_of, numbered, indexed, of_binding, tree_o, counted_o, Held, Sits, Puts};
+ghost use Rattle.scope_var_info.specs.Handles.{bindings_of, numbered, indexed, of_binding, tree_o, counted_o, Held, Kept, Puts};
 
+use def_file::kind::Kind;
 use refusal::Refusal;
 use words::{Run, layout};
 use words_nodes::replace_at;
-use words_scopes::kinds::VarType;
 
 // Is b the number of a binding.
 fn known(w: &[u32], b: usize) -> bool
@@ -61,20 +61,14 @@ pub fn is_inline_prevented(w: &[u32], i: usize) -> bool
     requires { Good w.now }
     ensures { result ≡ prevented_o (tree_o (tree w.now) i) (stack w.now) }
 {
-    if in_tree(w, i) {
-        return scope_find::is_inline_prevented(w, i);
-    }
-    false
+    in_tree(w, i) && scope_find::is_inline_prevented(w, i)
 }
 
 pub fn has_same_this(w: &[u32], x: u8, i: usize) -> bool
     requires { Good w.now }
     ensures { result ≡ has_same_this (find_binding x (stack w.now)) (tree_o (tree w.now) i) }
 {
-    if in_tree(w, i) {
-        return scope_find::has_same_this(w, x, i);
-    }
-    true
+    !in_tree(w, i) || scope_find::has_same_this(w, x, i)
 }
 
 // VarInfo::is_param.
@@ -82,7 +76,7 @@ pub fn is_param(w: &[u32], b: usize) -> bool
     requires { Good w.now }
     ensures { result ≡ of_binding (λ v. is_param v.kind) (numbered (stack w.now) (suc b)) }
 {
-    known(w, b) && scope_find::var_type(w, b) == VarType::Param
+    known(w, b) && scope_find::var_type(w, b).is_param()
 }
 
 // VarInfo::is_inline_prevented.
@@ -102,14 +96,12 @@ pub fn is_undefined(w: &[u32], b: usize) -> bool
 }
 
 // VarInfo's value: its kind.
-pub fn value_kind(w: &[u32], b: usize) -> Option<u32>
+pub fn value_kind(w: &[u32], b: usize) -> Option<Kind>
     requires { Good w.now }
-    ensures { count_of result ≡ kind_o (value_o (numbered (stack w.now) (suc b))) }
+    ensures { IsKindOfValue (value_o (numbered (stack w.now) (suc b))) result }
 {
-    if known(w, b) {
-        return scope_find::value_kind(w, b);
-    }
-    None
+    let b = known(w, b).then_some(b)?;
+    scope_find::value_kind(w, b)
 }
 
 // The identifier that it is.
@@ -117,11 +109,9 @@ pub fn value_ident(w: &[u32], b: usize) -> Option<u32>
     requires { Good w.now }
     ensures { result ≡ name_of (value_o (numbered (stack w.now) (suc b))) }
 {
-    if known(w, b) {
-        let at = words_scopes::offset(w, b);
-        return words_scopes::named(w, b, at);
-    }
-    None
+    let b = known(w, b).then_some(b)?;
+    let at = words_scopes::offset(w, b);
+    words_scopes::named(w, b, at)
 }
 
 // How many nodes it has, 0 if there is none.
@@ -135,15 +125,20 @@ pub fn value_len(w: &[u32], b: usize) -> usize
     0
 }
 
-// Where they stand among the values recorded for bindings.
-fn value_at(w: &[u32], b: usize) -> usize
+// Its run of the values recorded for bindings.
+fn value_run(w: &[u32], b: usize) -> Option<Run>
     requires { Good w.now }
-    ensures { Sits w.now (value_o (numbered (stack w.now) (suc b))) result }
+    ensures { Kept w.now (value_o (numbered (stack w.now) (suc b))) result }
 {
-    if known(w, b) {
-        return words_scopes::offset(w, b);
+    let b = known(w, b).then_some(b)?;
+    let len = scope_find::value_len(w, b);
+    if len == 0 {
+        return None;
     }
-    0
+    Some(Run {
+        at: words_scopes::offset(w, b),
+        len,
+    })
 }
 
 // A recorded value, a run of nodes of a store, takes the place of the tree at node i, at depth p, if rows 8 and 9 let it.
@@ -165,12 +160,10 @@ pub fn put_value(w: &mut [u32], i: usize, p: u32, b: usize) -> Result<(), Refusa
     requires { Planted w.old }
     ensures { Puts result w.old w.new p i (tree_o (tree w.old) i) (value_o (numbered (stack w.old) (suc b))) }
 {
-    let len = value_len(w, b);
-    if len == 0 {
-        return Ok(());
+    match value_run(w, b) {
+        None => Ok(()),
+        Some(r) => put_held(w, i, p, layout::VALUES, r),
     }
-    let at = value_at(w, b);
-    put_held(w, i, p, layout::VALUES, Run { at, len })
 }
 
 // How many nodes the value of the innermost constant of x that has one has; an identifier is none that the script as read targets (request 8).

@@ -3,7 +3,7 @@
 
 ghost use Rattle.std.specs.Prelude.{◌+◌, ◌*◌, ◌≤◌, length};
 
-use file_fields::fields::raw_at;
+use file_fields::fields::node_at;
 use std::io;
 
 // Room for the largest readable file, 32 + 16 * 1,024 + 4 * 256 + 4,096 bytes, and one byte more. A longer input is refused as the
@@ -19,7 +19,7 @@ pub fn print_nodes(rt: &impl Print, file: &[u8], n: usize) -> io::Result<()>
     requires { (n ≤ 1024) × (32 + 16 * n ≤ length file.now) }
 {
     for k in 0..n {
-        let x = raw_at(file, 32 + 16 * k);
+        let x = node_at(file, k);
         println!(rt;
             "{} {} {} {} {:016x}",
             x.kind, x.form, x.arity, x.text, x.bits

@@ -1,4 +1,6 @@
 // mod.rs: its walks over the tree's nodes in the working words. They call each other in a cycle; the depth that is left falls at every call.
+// p, d, i: the depth of node i, and the levels left below it; n, i: n trees from node i on. Parameters and no struct: each of them changes alone from
+// call to call (p + 1, d - 1, i by a subtree's length, n - 1), so that a struct would be made anew at each call.
 #![tactic(auto)]
 
 ghost use Rattle.std.specs.Prelude.{◌+◌, ◌≡◌, true};
@@ -7,17 +9,18 @@ ghost use Rattle.def_tree.specs.Combine.{many, split_f, each_but_f, skip, tree_a
 ghost use Rattle.def_tree.specs.Tree.{count};
 ghost use Rattle.words.specs.Layout.{node_of, tree};
 ghost use Rattle.words_nodes.specs.Nodes.{Planted, tree_from};
-ghost use Rattle.words_scopes.specs.Kinds.{type_of, kind_of};
-ghost use Rattle.def_pass.specs.Scope.{loop, is_const};
+ghost use Rattle.words_scopes.specs.Kinds.{kind_of};
+ghost use Rattle.def_pass.specs.Scope.{loop};
 ghost use Rattle.laws_flat.specs.WalkF.{walks_f, visit_mut_stmts_f, plain_f, visit_mut_block_stmt_f, script_f, visit_with_child_f, visit_mut_var_decl_f, visit_mut_function_f, visit_mut_fn_decl_f, visit_mut_fn_expr_f, visit_mut_arrow_expr_f, visit_mut_if_stmt_f, visit_mut_while_stmt_f, visit_mut_for_stmt_f, visit_mut_for_in_stmt_f, visit_mut_try_stmt_f, catch_param_f, visit_mut_catch_clause_f, visit_mut_switch_case_f, visit_mut_pat_f, visit_mut_unary_expr_f, visit_mut_update_expr_f, visit_mut_call_expr_f, visit_mut_assign_expr_f, own_f, logical_f, after_f, in_cond_f, name_last_f, visit_mut_var_declarator_f, after_ident_f};
 ghost use Rattle.words_state.specs.State.{abs, rest};
 ghost use Rattle.walk_laws.specs.Did.{Did, Here, clauses_f, items_f, declr_end_f, Bound};
 
+use def_file::form;
+use def_file::kind::Kind;
 use refusal::Refusal;
-use scope::{ScopeKind, VarDeclKind, VarType};
-use scope_find::ident_at;
+use scope::{ScopeKind, Write, name_at};
 use walk_answer::steps::{bare, decl_kind, nameless, settled};
-use walk_declarator::{Name, Spot, declr_after, over, stays};
+use walk_declarator::{Declr, Spot, declr_after, over, stays};
 use walk_ident::assign::after_assign;
 use walk_ident::{
     Found, constant, deeper, enter, fate, ident_analysis, inline_constant, inline_undefined,
@@ -32,8 +35,8 @@ use walk_write::{
 use words::{arity_at, form_at, kind_at, layout, num_at};
 use words_nodes::skip;
 use words_state::{
-    PatFoldingMode, save_fields, set_conds, set_in_test, set_inlining, set_pat_mode,
-    set_var_decl_kind, var_decl_kind,
+    PatFoldingMode, in_test, inlining, save_fields, set_conds, set_in_test, set_inlining,
+    set_pat_mode, set_var_decl_kind, var_decl_kind,
 };
 
 // A node as its parent's default walk calls it: its own handler, then the steps of visit_mut_expr; what has neither is passed at once.
@@ -46,10 +49,10 @@ fn full(w: &mut [u32], p: usize, l: usize, i: usize) -> Result<usize, Refusal>
         return Err(Refusal::Depth);
     }
     if bare(w, i) {
-        if kind_at(w, i) == 21 {
-            return ident(w, p, l - 1, i);
-        }
-        return Ok(i + 1);
+        return match kind_at(w, i) {
+            Kind::Ident => ident(w, p, l - 1, i),
+            _ => Ok(i + 1),
+        };
     }
     let j = own(w, p, l - 1, i)?;
     if settled(w, i) {
@@ -58,7 +61,10 @@ fn full(w: &mut [u32], p: usize, l: usize, i: usize) -> Result<usize, Refusal>
     after(w, p, l - 1, i, j)
 }
 
-// visit_mut_children_with of a list: n trees from i on.
+// visit_mut_children_with of a list: n trees from i on. It and arms, parts, binds and conds are loops that differ in their step, and block, arm,
+// func, arrow, catch and case differ in the walk between `enter` and `leave`. Tried with a closure for the step: in a cycle of calls it is a member
+// with a measure, nothing of it is inferred, so that it repeats the clauses of the walk that it calls, and what takes it can promise a chain of its
+// calls alone. Five lines would be six, with a second contract.
 #[cycle(walks)]
 fn many(w: &mut [u32], p: usize, d: usize, n: usize, i: usize) -> Result<usize, Refusal>
     requires { Here w.old n i p d }
@@ -77,7 +83,7 @@ fn stmts(w: &mut [u32], p: usize, d: usize, n: usize, i: usize) -> Result<usize,
     requires { Here w.old n i p d }
     ensures { Did w.old w.new result (visit_mut_stmts_f (walks_f d) p n i (abs w.old)) }
 {
-    if w[layout::INLINING] == 0 {
+    if !inlining(w) {
         return many(w, p, d, n, i);
     }
     set_inlining(w, false);
@@ -179,13 +185,6 @@ fn name(w: &mut [u32], p: usize, d: usize, n: usize, i: usize) -> Result<usize, 
     Ok(skip(w, i))
 }
 
-// Is a declaration of this kind one by `const`.
-fn is_const(kind: VarType) -> bool
-    ensures { result ≡ is_const (type_of kind) }
-{
-    matches!(kind, VarType::Declared(VarDeclKind::Const))
-}
-
 // A declarator in Inlining: its initialiser is walked again, and recorded or not.
 #[cycle(walks)]
 fn init(w: &mut [u32], p: usize, d: usize, n: usize, i: usize) -> Result<usize, Refusal>
@@ -193,13 +192,11 @@ fn init(w: &mut [u32], p: usize, d: usize, n: usize, i: usize) -> Result<usize, 
     ensures { Did w.old w.new result (declr_end_f (walks_f d) p i (some (tree_at (abs w.old) (i + 1))) true (rest w.old).var_decl_kind n (i + 1) (abs w.old)) }
 {
     let kind = var_decl_kind(w);
-    if is_const(kind) {
+    if kind.is_const() {
         return name(w, p, d, n, i);
     }
-    let bound = Name {
-        form: form_at(w, i + 1),
-        ident: ident_at(w, i + 1),
-    };
+    let bound = name_at(w, i + 1);
+    let declared = Declr { name: bound, kind };
     let j = skip(w, i + 1);
     if stays(w, bound.ident, n - 1, j) {
         return Ok(skip(w, i));
@@ -207,8 +204,7 @@ fn init(w: &mut [u32], p: usize, d: usize, n: usize, i: usize) -> Result<usize, 
     if n == 1 {
         return declr_after(
             w,
-            bound,
-            kind,
+            declared,
             Spot {
                 q: i,
                 n: 0,
@@ -221,8 +217,7 @@ fn init(w: &mut [u32], p: usize, d: usize, n: usize, i: usize) -> Result<usize, 
     let end = skip(w, i);
     declr_after(
         w,
-        bound,
-        kind,
+        declared,
         Spot {
             q: i,
             n: n - 1,
@@ -244,13 +239,10 @@ fn declr(w: &mut [u32], p: usize, d: usize, i: usize) -> Result<usize, Refusal>
     if nameless(w, n, i + 1) {
         return name(w, p, d, n, i);
     }
-    if w[layout::INLINING] != 0 {
+    if inlining(w) {
         return init(w, p, d, n, i);
     }
-    let bound = Name {
-        form: form_at(w, i + 1),
-        ident: ident_at(w, i + 1),
-    };
+    let bound = name_at(w, i + 1);
     let gone = over(w, bound, n, i + 1)?;
     if gone {
         return Ok(skip(w, i));
@@ -318,7 +310,7 @@ fn fexpr(w: &mut [u32], p: usize, d: usize, i: usize) -> Result<usize, Refusal>
 {
     let n = arity_at(w, i) as usize;
     let f = form_at(w, i);
-    if f != 1 {
+    if f != form::NAMED {
         return func(w, p, d, false, n, i + 1);
     }
     write_name(w, i)?;
@@ -352,7 +344,7 @@ fn ifs(w: &mut [u32], p: usize, d: usize, i: usize) -> Result<usize, Refusal>
     if n == 0 {
         return Ok(i + 1);
     }
-    let old = w[layout::IN_TEST] != 0;
+    let old = in_test(w);
     set_in_test(w, true);
     let j = full(w, p + 1, d, i + 1)?;
     set_in_test(w, old);
@@ -393,7 +385,7 @@ fn fors(w: &mut [u32], p: usize, d: usize, i: usize) -> Result<usize, Refusal>
     let f = form_at(w, i);
     let n = arity_at(w, i) as usize;
     let j = loops(w, p + 1, d, n, i + 1)?;
-    if f == 0 {
+    if f == form::EMPTY_HEAD {
         store_barrier(w);
     }
     Ok(j)
@@ -411,8 +403,8 @@ fn forin(w: &mut [u32], p: usize, d: usize, i: usize) -> Result<usize, Refusal>
         return Ok(i + 1);
     }
     let j = full(w, p + 1, d, i + 1)?;
-    write_tree(w, i + 1, true)?;
-    write_but_last(w, n - 1, j, true)?;
+    write_tree(w, i + 1, Write::Forced)?;
+    write_but_last(w, n - 1, j, Write::Forced)?;
     loops(w, p + 1, d, n - 1, j)
 }
 
@@ -424,10 +416,9 @@ fn parts(w: &mut [u32], p: usize, d: usize, n: usize, i: usize) -> Result<usize,
 {
     let mut at = i;
     for _k in 0..n {
-        at = if kind_at(w, at) == 17 {
-            full(w, p, d, at)?
-        } else {
-            skip(w, at)
+        at = match kind_at(w, at) {
+            Kind::CatchClause => full(w, p, d, at)?,
+            _ => skip(w, at),
         };
     }
     Ok(at)
@@ -443,7 +434,7 @@ fn tries(w: &mut [u32], p: usize, d: usize, i: usize) -> Result<usize, Refusal>
     if n == 0 {
         return Ok(i + 1);
     }
-    write_tree(w, i + 1, true)?;
+    write_tree(w, i + 1, Write::Forced)?;
     let j = skip(w, i + 1);
     parts(w, p + 1, d, n - 1, j)
 }
@@ -491,7 +482,7 @@ fn items(w: &mut [u32], p: usize, d: usize, i: usize) -> Result<usize, Refusal>
     ensures { Did w.old w.new result (items_f (walks_f d) p i (abs w.old)) }
 {
     let f = form_at(w, i);
-    if f != 1 {
+    if f != form::TEST {
         return body(w, p, d, i);
     }
     let n = arity_at(w, i) as usize;
@@ -540,7 +531,7 @@ fn unary(w: &mut [u32], p: usize, d: usize, i: usize) -> Result<usize, Refusal>
     ensures { Did w.old w.new result (visit_mut_unary_expr_f (walks_f d) p i (abs w.old)) }
 {
     let f = form_at(w, i);
-    if f != 6 {
+    if f != form::DELETE {
         return kids(w, p, d, i);
     }
     update(w, p, d, i)
@@ -615,12 +606,11 @@ fn logic(w: &mut [u32], p: usize, d: usize, i: usize) -> Result<usize, Refusal>
     requires { Here w.old 1 i p (d + 1) }
     ensures { Did w.old w.new result (logical_f (walks_f d) p i (abs w.old)) }
 {
-    let k = kind_at(w, i);
-    if k != 32 {
+    let Kind::Bin = kind_at(w, i) else {
         return Ok(skip(w, i));
-    }
+    };
     let f = form_at(w, i);
-    if f >= 2 {
+    if f >= form::PAST_LOGICAL {
         return Ok(skip(w, i));
     }
     let n = arity_at(w, i) as usize;
@@ -631,34 +621,33 @@ fn logic(w: &mut [u32], p: usize, d: usize, i: usize) -> Result<usize, Refusal>
     conds(w, p + 1, d, n - 1, j)
 }
 
-// Which handler a kind has.
+// Which handler a kind has: the Rust's own dispatch by the node's type, as a match.
 #[cycle(walks)]
 fn own(w: &mut [u32], p: usize, d: usize, i: usize) -> Result<usize, Refusal>
     requires { Here w.old 1 i p (d + 1) }
     ensures { Did w.old w.new result (own_f (walks_f d) p i (abs w.old)) }
 {
-    let k = kind_at(w, i);
-    match k {
-        1 => body(w, p, d, i),
-        2 => block(w, p, d, i),
-        5 => decl(w, p, d, i),
-        6 => declr(w, p, d, i),
-        7 => fdecl(w, p, d, i),
-        9 => ifs(w, p, d, i),
-        10 | 11 => whiles(w, p, d, i),
-        12 => fors(w, p, d, i),
-        13 | 14 => forin(w, p, d, i),
-        16 => tries(w, p, d, i),
-        17 => catch(w, p, d, i),
-        19 => case(w, p, d, i),
-        20 => pats(w, p, d, i),
-        30 => unary(w, p, d, i),
-        31 => update(w, p, d, i),
-        33 => assign(w, p, d, i),
-        35 => call(w, p, d, true, i),
-        36 => call(w, p, d, false, i),
-        39 => fexpr(w, p, d, i),
-        40 => arrow(w, p, d, i),
+    match kind_at(w, i) {
+        Kind::Script => body(w, p, d, i),
+        Kind::Block => block(w, p, d, i),
+        Kind::VarDecl => decl(w, p, d, i),
+        Kind::VarDeclarator => declr(w, p, d, i),
+        Kind::FnDecl => fdecl(w, p, d, i),
+        Kind::If => ifs(w, p, d, i),
+        Kind::While | Kind::DoWhile => whiles(w, p, d, i),
+        Kind::For => fors(w, p, d, i),
+        Kind::ForIn | Kind::ForOf => forin(w, p, d, i),
+        Kind::Try => tries(w, p, d, i),
+        Kind::CatchClause => catch(w, p, d, i),
+        Kind::SwitchCase => case(w, p, d, i),
+        Kind::BindingIdent => pats(w, p, d, i),
+        Kind::Unary => unary(w, p, d, i),
+        Kind::Update => update(w, p, d, i),
+        Kind::Assign => assign(w, p, d, i),
+        Kind::Call => call(w, p, d, true, i),
+        Kind::New => call(w, p, d, false, i),
+        Kind::FnExpr => fexpr(w, p, d, i),
+        Kind::Arrow => arrow(w, p, d, i),
         _ => kids(w, p, d, i),
     }
 }
@@ -673,7 +662,7 @@ fn ident(w: &mut [u32], p: usize, d: usize, i: usize) -> Result<usize, Refusal>
         inline_constant(w, i, p as u32, m)?;
         return full(w, p, d, i);
     }
-    if w[layout::INLINING] == 0 {
+    if !inlining(w) {
         ident_analysis(w, i);
         return Ok(skip(w, i));
     }
@@ -693,24 +682,18 @@ fn after(w: &mut [u32], p: usize, d: usize, i: usize, j: usize) -> Result<usize,
     requires { (Here w.old 1 i p (d + 1)) × (j ≡ i + count (tree_from (tree w.old) i)) }
     ensures { Did w.old w.new result (after_f (walks_f d) p i (abs w.old)) }
 {
-    let k = kind_at(w, i);
-    if k == 21 {
-        return ident(w, p, d, i);
+    match kind_at(w, i) {
+        Kind::Ident => ident(w, p, d, i),
+        Kind::Bin => logic(w, p, d, i),
+        Kind::Assign => {
+            if form_at(w, i) == form::ASSIGN && inlining(w) {
+                after_assign(w, i, p as u32)
+            } else {
+                Ok(j)
+            }
+        }
+        _ => Ok(j),
     }
-    if k == 32 {
-        return logic(w, p, d, i);
-    }
-    if k != 33 {
-        return Ok(j);
-    }
-    let f = form_at(w, i);
-    if f != 0 {
-        return Ok(j);
-    }
-    if w[layout::INLINING] == 0 {
-        return Ok(j);
-    }
-    after_assign(w, i, p as u32)
 }
 
 // visit_mut_program's walk of the script, in the mode that is set.

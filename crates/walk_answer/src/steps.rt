@@ -5,6 +5,8 @@ ghost use Rattle.words_scopes.specs.Kinds.{type_of};
 ghost use Rattle.def_pass.specs.Walk.{decl_kind_of};
 ghost use Rattle.walk_laws.specs.Did.{Here, Headed, bare_node, settled_node};
 
+use def_file::form;
+use def_file::kind::Kind;
 use scope::{VarDeclKind, VarType};
 use words::{arity_at, kind_at};
 
@@ -13,8 +15,8 @@ pub fn decl_kind(f: u32) -> VarType
     ensures { type_of result ≡ decl_kind_of f }
 {
     match f {
-        0 => VarType::Declared(VarDeclKind::Var),
-        1 => VarType::Declared(VarDeclKind::Let),
+        form::VAR => VarType::Declared(VarDeclKind::Var),
+        form::LET => VarType::Declared(VarDeclKind::Let),
         _ => VarType::Declared(VarDeclKind::Const),
     }
 }
@@ -24,7 +26,13 @@ pub fn nameless(w: &[u32], n: usize, i: usize) -> bool
     requires { Here w.now n i 0 0 }
     ensures { Headed w.now n i result }
 {
-    n == 0 || kind_at(w, i) != 20
+    if n == 0 {
+        return true;
+    }
+    match kind_at(w, i) {
+        Kind::BindingIdent => false,
+        _ => true,
+    }
 }
 
 // Is node i an identifier or a literal without children: it has no handler of its own.
@@ -32,8 +40,7 @@ pub fn bare(w: &[u32], i: usize) -> bool
     requires { Here w.now 1 i 0 0 }
     ensures { result ≡ bare_node (node_of w.now i) }
 {
-    let kind = kind_at(w, i);
-    arity_at(w, i) == 0 && (kind == 21 || kind == 22)
+    arity_at(w, i) == 0 && kind_at(w, i).is_cheap()
 }
 
 // Does visit_mut_expr do nothing behind the handler of node i: no identifier, no && or ||, no assignment.
@@ -41,6 +48,5 @@ pub fn settled(w: &[u32], i: usize) -> bool
     requires { Here w.now 1 i 0 0 }
     ensures { result ≡ settled_node (node_of w.now i) }
 {
-    let kind = kind_at(w, i);
-    kind != 21 && kind != 32 && kind != 33
+    !matches!(kind_at(w, i), Kind::Ident | Kind::Bin | Kind::Assign)
 }

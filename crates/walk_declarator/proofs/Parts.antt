@@ -11,7 +11,7 @@ use lib.Dec.{eqb}
 use Rattle.def_tree.specs.Base.{pick}
 use Rattle.def_tree.specs.Tree.{Tree, Forest, Core, node, form, num, nil, cons, length_f, count, counts, plant, take_f, drop_f, first_t}
 use Rattle.def_tree.proofs.Whole.{Whole, whole_drop}
-use Rattle.def_tree.specs.Combine.{Res, stop, done, Nothing, and_then, ret, iff, ◌>>◌}
+use Rattle.def_tree.specs.Combine.{Res, stop, done, Nothing, and_then, ret, iff, ◌>>◌, tree_at}
 use Rattle.def_pass.specs.Tree.{is_ident, is_cheap, has_this, head_t, tail_f}
 use Rattle.def_pass.specs.Scope as def
 use Rattle.def_pass.specs.Scope.{VarInfo, Stack, VarType, is_var, is_const, declare, add_const, is_inline_prevented, prevent_inline, find_binding, mark_of, has_same_this}
@@ -26,16 +26,19 @@ use Rattle.words_nodes.specs.Nodes.{Planted, tree_from, forest_from}
 use Rattle.words_nodes.proofs.Trees.{trees-le, plant-behind}
 use Rattle.words_nodes.proofs.Words.{tree-whole}
 use Rattle.scope_find.specs.Look.{reads_o}
-use Rattle.walk_declarator.specs.Steps.{named, over_none, over_const, over_cheap, over_other, wants, take_ident, take_value, take_or_mark, take_init}
-pub use Rattle.scope.proofs.Undefined.{rest-kind, rest-inlining, rest-first}
+use Rattle.walk_declarator.specs.Steps.{named, over_none, over_const, over_cheap, over_other, wants, take_ident, take_value, take_or_mark, take_init, cheap_at}
 
 -- a literal or an identifier, and what is recorded of a constant's value
 pub cheap-is : (w : List ℕ) (i k : ℕ) → i < get_or w 0 0 → k ≡ (node_of w i).kind → (eqb k 22 || eqb k 21) ≡ is_cheap (tree_from (tree w) i)
 cheap-is w i k l e = ap (λ (n : ℕ). eqb n 22 || eqb n 21) (e ∙ sym (from-kind w i l))
 
-pub cheap-value : (w : List ℕ) (i : ℕ) (b : Bool) → i < get_or w 0 0 → pick b (some (tree_from (tree w) i)) none ≡ value_at (tree w) (then_some b i)
+cheap-value : (w : List ℕ) (i : ℕ) (b : Bool) → i < get_or w 0 0 → pick b (some (tree_from (tree w) i)) none ≡ value_at (tree w) (then_some b i)
 cheap-value w i true l = sym (tree-in w i l)
 cheap-value w i false l = refl
+
+pub kept-is : (w : List ℕ) (j : ℕ) (p : Bool) → j < get_or w 0 0 → p ≡ is_cheap (tree_from (tree w) j) → value_at (tree w) (then_some p j) ≡ cheap_at w j
+unfolding tree_at tree_from
+kept-is w j p l e = sym (cheap-value w j p l) ∙ ap (λ (c : Bool). pick c (some (tree_from (tree w) j)) none) e
 
 -- a constant
 module _ (x : ℕ) (s : St) (e : Tree) where

@@ -1,8 +1,8 @@
 -- What the steps of declarators look up, answer and do. Assumes nothing: these are definitions.
 use Rattle.std.specs.Prelude.{◌≡◌, List, Bool, true, false, ◌&&◌, ◌||◌, not, ℕ, suc, ◌+◌, ◌≤◌, ◌<◌, length, get_or}
-use Rattle.std.proofs.Math.Option.{none, some}
+use Rattle.std.proofs.Math.Option.{Option, none, some}
 use Rattle.def_tree.specs.Tree.{Tree, Core, no_core, count}
-use Rattle.def_tree.specs.Combine.{done, M as MS, Nothing, ◌>>=◌, ◌>>◌, ret, iff, Flat, act_f, cut_first, set_arity}
+use Rattle.def_tree.specs.Combine.{done, M as MS, Nothing, ◌>>=◌, ◌>>◌, ret, iff, Flat, act_f, cut_first, set_arity, tree_at}
 use Rattle.def_pass.specs.Scope as def
 use Rattle.def_pass.specs.Tree.{is_ident, is_cheap, has_this}
 use Rattle.def_pass.specs.Scope.{Stack, place_or, is_param, param_o, is_const, barred, is_inline_prevented, prevent_inline, find_binding}
@@ -10,7 +10,8 @@ use Rattle.def_pass.specs.Walk.{St, M, when, mark, insert_const, declare_m, as_i
 use Rattle.def_tree.specs.Base.{pick}
 use Rattle.words_nodes.specs.Nodes.{tree_from}
 pub use Rattle.scope.specs.Steps.{named, done_of, Moves, Did}
-use Rattle.walk_declarator.specs.declared.Name.{Name}
+use Rattle.words_state.specs.State.{abs}
+use Rattle.scope_find.specs.declared.Name.{Name}
 use Rattle.walk_declarator.specs.declared.Spot.{Spot}
 
 -- the name of a declarator, as a tree
@@ -47,6 +48,10 @@ take_or_mark f x k e = λ s. iff (is_inline_prevented e s.stack) (mark (prevent_
 unfoldable pub take_init : ℕ → ℕ → def.VarType → Tree → M Bool
 unfolding take_ident take_or_mark
 take_init f x k e = take_ident f x k e >> take_or_mark f x k e
+
+-- the tree at j as it is recorded
+abbrev pub cheap_at : List ℕ → ℕ → Option Tree
+cheap_at w j = pick (is_cheap (tree_at (abs w) j)) (some (tree_at (abs w) j)) none
 
 -- where a declarator is: at q, with its name and n trees from i on, which end at j
 pub record Stands (xs : List Core) (s : Spot) : Type 0 where

@@ -1,7 +1,7 @@
 -- What becomes of an identifier, from the words of its binding; the constant that it names. Assumes nothing.
 use Rattle.std.specs.Option.{option_eq}
 use Rattle.std.specs.Prelude as std
-use Rattle.std.proofs.Common.{◌≡◌, ℕ, zero, suc, ◌<◌, Bool, true, false, ◌&&◌, eqb, List, get_or, sym, refl, ap, ◌∙◌, arith, ne_eqb}
+use Rattle.std.proofs.Common.{◌≡◌, ℕ, ◌<◌, Bool, true, false, ◌&&◌, eqb, List, get_or, sym, refl, ap, ◌∙◌, arith}
 use mathlib.Core.Option.{Option, none, some}
 use Rattle.def_tree.specs.Base.{pick}
 use Rattle.def_tree.specs.Tree.{Tree, num, count, Core}
@@ -9,16 +9,15 @@ use Rattle.def_tree.specs.Combine.{node_at}
 use Rattle.def_pass.specs.Tree.{count_o, is_ident}
 use Rattle.def_pass.specs.Scope.{VarInfo, find_binding, find_constant, var_inline_prevented, value_o}
 use Rattle.def_pass.specs.Walk.{same_ident}
-use Rattle.words.specs.Layout.{yes, node_of, tree}
+use Rattle.words.specs.Layout.{node_of}
 use Rattle.words.proofs.Nodes.{tree-at}
 use Rattle.words_scopes.specs.State.{name_of, stack}
-use Rattle.words_nodes.specs.Nodes.{tree_from}
+use Rattle.scope.specs.Steps.{named}
 use Rattle.words_state.specs.State.{rest, abs}
 use Rattle.scope_var_info.specs.Handles.{of_binding, held, counted_o}
 use Rattle.scope_var_info.proofs.Numbers.{count_none}
 use Rattle.words_nodes.proofs.Trees.{count-some}
 use Rattle.walk_ident.specs.Steps.{stays, undefined, inlined, fate_of, fate_at, constant_at}
-use Rattle.walk_ident.proofs.Laws.{tree-num}
 
 -- the fate by the binding, if there is one
 pub fate-prevented : (o : Option VarInfo) → of_binding var_inline_prevented o ≡ true → fate_of o ≡ stays
@@ -41,27 +40,26 @@ module _ (w : List ℕ) (i x : ℕ) (l : i < get_or w 0 0) (n : x ≡ (node_of w
   unfolding rest
   fate-at o q = ap (λ (y : ℕ). fate_of (find_binding y (stack w))) name ∙ ap fate_of q
 
-  pub const-at : (get_or w 7 0 ≡ 0 → ⊥) → constant_at (abs w) i ≡ find_constant x (stack w)
+  const-here : find_constant (node_at (abs w) i).num (rest w).stack ≡ find_constant x (stack w)
   unfolding rest
-  const-at z = ap (λ (y : ℕ). pick (yes (get_or w 7 0)) (find_constant y (stack w)) none) name ∙ first (get_or w 7 0) z
-    where
-      first : (v : ℕ) → (v ≡ 0 → ⊥) → pick (yes v) (find_constant x (stack w)) none ≡ find_constant x (stack w)
-      first zero h = absurd (h refl)
-      first (suc v) h = refl
+  const-here = ap (λ (y : ℕ). find_constant y (stack w)) name
 
-pub const-later : (w : List ℕ) (i : ℕ) → get_or w 7 0 ≡ 0 → constant_at (abs w) i ≡ none
-unfolding rest
+  pub const-at : (rest w).is_first_run ≡ true → constant_at (abs w) i ≡ find_constant x (stack w)
+  const-at z = ap (λ (b : Bool). pick b (find_constant (node_at (abs w) i).num (rest w).stack) none) z ∙ const-here
+
+pub const-later : (w : List ℕ) (i : ℕ) → (rest w).is_first_run ≡ false → constant_at (abs w) i ≡ none
 const-later w i z = rw z refl
 
 -- a constant that is there was looked for
 pub const-now : (w : List ℕ) (i x : ℕ) {m : ℕ} → i < get_or w 0 0 → x ≡ (node_of w i).num → some m ≡ counted_o (constant_at (abs w) i) → (find_constant x (stack w) ≡ some (held (constant_at (abs w) i))) × (m ≡ count (held (constant_at (abs w) i)))
-const-now w i x {m} l n e = (sym (const-at w i x l n first) ∙ some_of (constant_at (abs w) i) e, size (constant_at (abs w) i) e)
+const-now w i x {m} l n e = (sym (const-at w i x l n (first (rest w).is_first_run refl)) ∙ some_of (constant_at (abs w) i) e, size (constant_at (abs w) i) e)
   where
     gone : {A : Type 0} {m : ℕ} → ◌≡◌ {A = Option ℕ} (some m) none → A
     gone e = absurd (let y : ◌≡◌ {A = ℕ} 0 1 = cc in omega arith)
 
-    first : get_or w 7 0 ≡ 0 → ⊥
-    first q = gone (e ∙ ap counted_o (const-later w i q))
+    first : (b : Bool) → (rest w).is_first_run ≡ b → (rest w).is_first_run ≡ true
+    first true q = q
+    first false q = gone (e ∙ ap counted_o (const-later w i q))
 
     some_of : (o : Option Tree) → some m ≡ counted_o o → o ≡ some (held o)
     some_of none e = gone e
@@ -72,8 +70,8 @@ const-now w i x {m} l n e = (sym (const-at w i x l n first) ∙ some_of (constan
     size (some t) e = cc
 
 -- the same identifier, by the identifier that a value is
-pub same-is : (w : List ℕ) (i x : ℕ) → i < get_or w 0 0 → x ≡ (node_of w i).num → (e : Tree) (v : Option Tree) → v ≡ some e → (r : std.Option ℕ) → r ≡ name_of v → option_eq eqb r (std.Some x) ≡ same_ident (tree_from (tree w) i) e
-same-is w i x l n e v q r m = rw (tree-num w i l, ← n) (ap (λ (k : std.Option ℕ). option_eq eqb k (std.Some x)) (m ∙ ap name_of q) ∙ by (is_ident e))
+pub same-is : (x : ℕ) (e : Tree) (v : Option Tree) → v ≡ some e → (r : std.Option ℕ) → r ≡ name_of v → option_eq eqb r (std.Some x) ≡ same_ident (named 0 x) e
+same-is x e v q r m = ap (λ (k : std.Option ℕ). option_eq eqb k (std.Some x)) (m ∙ ap name_of q) ∙ by (is_ident e)
   where
     by : (b : Bool) → option_eq eqb (pick b (std.Some (num e)) std.None) (std.Some x) ≡ (b && eqb (num e) x)
     by true = refl

@@ -1,17 +1,17 @@
 -- The walk's own steps by those of the functions here: an identifier in Analysis, and in Inlining by its fate. Assumes nothing.
-use Rattle.std.specs.Option.{option_eq}
 use Rattle.std.specs.Prelude as std
-use Rattle.std.proofs.Common.{◌≡◌, ℕ, zero, suc, ◌<◌, Bool, true, false, not, ◌&&◌, ◌||◌, eqb, List, length, get_or, refl, ap, ◌∙◌, arith}
+use Rattle.std.proofs.Common.{◌≡◌, ℕ, ◌<◌, Bool, true, false, not, ◌&&◌, ◌||◌, eqb, List, length, get_or, refl, ap}
 use mathlib.Core.Option.{Option, none, some}
 use Rattle.def_tree.specs.Base.{pick}
-use Rattle.def_tree.specs.Tree.{Tree, kind, form, num}
-use Rattle.def_tree.specs.Combine.{Res, stop, done, M, Nothing, and_then, iff, Flat, node_at, tree_at, act, on_rest, skip, put}
-use Rattle.def_pass.specs.Scope.{VarInfo, Stack, find_binding, prevent_inline, add_read, var_inline_prevented}
-use Rattle.def_pass.specs.Walk.{St, when, modify, mark, replace, set_stack, set_changed, tally, same_ident, cheap_o}
+use Rattle.def_tree.specs.Tree.{Tree, kind, num}
+use Rattle.def_tree.specs.Combine.{Res, done, Nothing, iff, tree_at}
+use Rattle.def_pass.specs.Scope.{VarInfo, Stack, find_binding, prevent_inline, add_read}
+use Rattle.def_pass.specs.Walk.{St, when, mark, set_stack, cheap_o}
 use Rattle.laws_flat.specs.WalkF.{test_read}
-use Rattle.scope_find.specs.Look.{kind_o}
-use Rattle.scope_find.specs.Answers.{count_of}
-use Rattle.words.specs.Layout.{yes, node_of, tree}
+use Rattle.def_file.specs.Named.{Coded}
+use Rattle.def_file.specs.declared.kind.Kind.{Kind}
+use Rattle.scope_find.specs.Look.{IsKindOfValue}
+use Rattle.words.specs.Layout.{node_of, tree}
 use Rattle.words_scopes.specs.State.{Becomes, stack}
 use Rattle.scope_values.proofs.Listed.{becomes-then}
 use Rattle.words_nodes.specs.Nodes.{Planted}
@@ -22,20 +22,19 @@ use Rattle.walk_ident.specs.Steps.{analysis_f, costly, test_stack}
 use Rattle.walk_ident.proofs.Laws.{acts-done, becomes-abs, tree-form, tree-num}
 
 -- costly, by the binding and by the kind of its value
-pub costly-is : (o : Option VarInfo) (b : VarInfo) (k : std.Option ℕ) → o ≡ some b → count_of k ≡ kind_o b.value → (not (option_eq eqb k (std.Some 21)) && not (option_eq eqb k (std.Some 22))) ≡ costly o
-costly-is o b k e q = rw e (go k b.value q)
+pub costly-none : {o : Option VarInfo} {b : VarInfo} → o ≡ some b → IsKindOfValue b.value std.None → true ≡ costly o
+costly-none {o} {b} e q = rw e (go b.value q)
   where
-    turned : (p q : Bool) → (not p && not q) ≡ not (q || p)
-    turned true true = refl
-    turned true false = refl
-    turned false true = refl
-    turned false false = refl
+    go : (v : Option Tree) → IsKindOfValue v std.None → true ≡ not (cheap_o v)
+    go none q = refl
+    go (some t) q = absurd q
 
-    go : (k : std.Option ℕ) (v : Option Tree) → count_of k ≡ kind_o v → (not (option_eq eqb k (std.Some 21)) && not (option_eq eqb k (std.Some 22))) ≡ not (cheap_o v)
-    go std.None none q = refl
-    go std.None (some t) q = absurd (let y : ◌≡◌ {A = ℕ} 0 1 = cc in omega arith)
-    go (std.Some m) none q = absurd (let y : ◌≡◌ {A = ℕ} 0 1 = cc in omega arith)
-    go (std.Some m) (some t) q = let e : m ≡ kind t = cc in turned (eqb m 21) (eqb m 22) ∙ ap (λ (n : ℕ). not (eqb n 22 || eqb n 21)) e
+pub costly-kind : {o : Option VarInfo} {b : VarInfo} (k : Kind) (p : Bool) → o ≡ some b → IsKindOfValue b.value (std.Some k) → ((n : ℕ) → Coded k n → p ≡ (eqb n 22 || eqb n 21)) → not p ≡ costly o
+costly-kind {o} {b} k p e q h = rw e (go b.value q)
+  where
+    go : (v : Option Tree) → IsKindOfValue v (std.Some k) → not p ≡ not (cheap_o v)
+    go none q = absurd q
+    go (some t) q = ap not (h (kind t) q.1)
 
 -- a read in a test
 module _ (x : ℕ) (s : St) where
@@ -75,13 +74,13 @@ module _ (x : ℕ) (st : Stack) (test : Bool) where
 
 -- the two steps of Analysis
 module _ (w : List ℕ) (i : ℕ) (l : i < get_or w 0 0) where
-  pub analysis-is : analysis_f i (abs w) ≡ done (record { nodes = tree w; rest = set_stack (add_read (node_of w i).num (eqb (node_of w i).form 1) (test_stack (yes (get_or w 10 0)) (node_of w i).num (stack w))) (rest w) }) tt
+  pub analysis-is : analysis_f i (abs w) ≡ done (record { nodes = tree w; rest = set_stack (add_read (node_of w i).num (eqb (node_of w i).form 1) (test_stack (rest w).in_test (node_of w i).num (stack w))) (rest w) }) tt
   unfolding rest
   analysis-is = rw (test-is (tree_at (abs w) i) (rest w)) (simp (tree-at-is, tree-num w i l, tree-form w i l) refl)
 
 pub analysed : {w v u : List ℕ} {i x f : ℕ} → Planted w → i < get_or w 0 0 → x ≡ (node_of w i).num → f ≡ (node_of w i).form → length u ≡ length w
-    → Becomes w v (test_stack (yes (get_or w 10 0)) x (stack w)) → Becomes v u (add_read x (eqb f 1) (stack v)) → Act w u 0 (analysis_f i (abs w))
+    → Becomes w v (test_stack (rest w).in_test x (stack w)) → Becomes v u (add_read x (eqb f 1) (stack v)) → Act w u 0 (analysis_f i (abs w))
 analysed {w} {v} {u} {i} {x} {f} P l n m z a b =
-    let q : add_read x (eqb f 1) (stack v) ≡ add_read (node_of w i).num (eqb (node_of w i).form 1) (test_stack (yes (get_or w 10 0)) (node_of w i).num (stack w)) = rw (a.is, n, m) refl in
+    let q : add_read x (eqb f 1) (stack v) ≡ add_read (node_of w i).num (eqb (node_of w i).form 1) (test_stack (rest w).in_test (node_of w i).num (stack w)) = rw (a.is, n, m) refl in
     let d = becomes-then a (rw q at b) in
     record { ok = becomes-ok P z d; acts = acts-done u (analysis-is w i l) (becomes-abs P d) }

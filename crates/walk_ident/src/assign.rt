@@ -11,6 +11,7 @@ ghost use Rattle.scope.specs.Steps.{Did};
 ghost use Rattle.walk_ident.specs.Steps.{first_test, first_f};
 
 use super::lift_value;
+use def_file::kind::Kind;
 use refusal::Refusal;
 use scope::{
     find_binding_from_current, first_value, is_inline_prevented, is_undefined, var_inline_prevented,
@@ -44,9 +45,12 @@ pub fn after_assign(w: &mut [u32], i: usize, p: u32) -> Result<usize, Refusal>
     requires { (Planted w.old) × (i < size w.old) × (p ≤ 201) }
     ensures { Did w.old w.new result (after_assign_f p i (abs w.old)) }
 {
-    if arity_at(w, i) < 2 || kind_at(w, i + 1) != 20 {
+    if arity_at(w, i) < 2 {
         return Ok(skip(w, i));
     }
+    let Kind::BindingIdent = kind_at(w, i + 1) else {
+        return Ok(skip(w, i));
+    };
     let x = ident_at(w, i + 1);
     let j = skip(w, i + 1);
     if first_here(w, x, j) {

@@ -1,41 +1,42 @@
 // The steps of identifiers, and of scopes around a walk, over the working words.
 #![tactic(auto)]
 
-ghost use Rattle.std.specs.Prelude.{◌≡◌, ◌<◌, ◌≤◌, IfSome, slice_index};
+ghost use Rattle.std.specs.Prelude.{◌≡◌, ◌<◌, ◌≤◌, IfSome};
 ghost use Rattle.std.proofs.Math.Option.{some};
 ghost use Rattle.def_tree.specs.Combine.{on_rest};
 ghost use Rattle.def_pass.specs.Tree.{void_zero};
 ghost use Rattle.def_pass.specs.Scope.{find_binding};
 ghost use Rattle.def_pass.specs.Walk.{opening, deeper, same_ident};
 ghost use Rattle.refusal.specs.Number.{refused};
-ghost use Rattle.words.specs.Layout.{node_of, yes, tree};
+ghost use Rattle.words.specs.Layout.{node_of, tree};
 ghost use Rattle.words_scopes.specs.State.{Good, Becomes, stack};
 ghost use Rattle.words_scopes.specs.Kinds.{kind_of};
 ghost use Rattle.words_nodes.specs.Nodes.{Planted, Child, tree_from, size};
 ghost use Rattle.words_state.specs.State.{rest, abs, Act, Turns};
-ghost use Rattle.scope.specs.Steps.{Did};
+ghost use Rattle.scope.specs.Steps.{named, Did};
 ghost use Rattle.scope_var_info.specs.Handles.{held, counted_o};
 ghost use Rattle.scope_find.specs.Answers.{count_of};
 ghost use Rattle.walk_ident.specs.Steps.{analysis_f, costly, test_stack, Fated, value_by, Has, constant_at, noted, counts_if, swap_f, value_f, const_f, Restored};
 
 pub mod assign;
 
+use def_file::form;
 use refusal::Refusal;
 use scope::{
     Scope, ScopeKind, VarDeclKind, VarType, add_read, close, find_binding, find_constant,
-    is_undefined, open_scope, prevent_inline, put_constant, put_value, value_ident, value_kind,
-    value_len, var_inline_prevented,
+    is_undefined, name_at, open_scope, prevent_inline, put_constant, put_value, value_ident,
+    value_kind, value_len, var_inline_prevented,
 };
 use scope_find::ident_at;
-use std::num::wrapping_add_u32;
-use words::{form_at, layout};
+use words::layout;
 use words_nodes::{put_void, skip, unwrap};
 use words_scopes::count_one;
 use words_state::{
-    SavedFields, restore_fields, set_changed, set_conds, set_ended, set_replaced, set_var_decl_kind,
+    SavedFields, in_test, is_first_run, restore_fields, set_changed, set_conds, set_ended,
+    set_replaced, set_var_decl_kind,
 };
 
-// What becomes of an identifier in Inlining: the value of the binding of a number takes its place.
+// What becomes of an identifier in Inlining: the value of the binding of a number takes its place. Three fates, and nothing is one of them.
 #[derive(Clone, Copy, Debug, PartialEq, Eq)]
 pub enum Found {
     Nothing,
@@ -51,16 +52,18 @@ fn costly(w: &[u32], x: u8) -> bool
     let Some(b) = find_binding(w, x) else {
         return false;
     };
-    let kind = value_kind(w, b);
-    kind != Some(21) && kind != Some(22)
+    match value_kind(w, b) {
+        Some(kind) => !kind.is_cheap(),
+        None => true,
+    }
 }
 
 // A read of x in a test prevents a costly value.
 fn test_read(w: &mut [u32], x: u8)
     requires { Good w.old }
-    ensures { Becomes w.old w.new (test_stack (yes (slice_index w.old 10)) x (stack w.old)) }
+    ensures { Becomes w.old w.new (test_stack (rest w.old).in_test x (stack w.old)) }
 {
-    if w[layout::IN_TEST] != 0 && costly(w, x) {
+    if in_test(w) && costly(w, x) {
         prevent_inline(w, x);
     }
 }
@@ -70,10 +73,9 @@ pub fn ident_analysis(w: &mut [u32], i: usize)
     requires { (Planted w.old) × (i < size w.old) × ((node_of w.old i).kind ≡ 21) }
     ensures { Act w.old w.new 0 (analysis_f i (abs w.old)) }
 {
-    let x = ident_at(w, i);
-    let f = form_at(w, i);
-    test_read(w, x);
-    add_read(w, x, f == 1);
+    let name = name_at(w, i);
+    test_read(w, name.ident);
+    add_read(w, name.ident, name.form == form::ARGUMENTS);
 }
 
 // What becomes of the identifier at node i, in Inlining.
@@ -97,16 +99,17 @@ pub fn fate(w: &[u32], i: usize) -> Found
     Found::Nothing
 }
 
-// Is the value of binding b the identifier at node i.
-fn same_ident(w: &[u32], i: usize, b: usize) -> bool
-    requires { (Planted w.now) × (i < size w.now) × ((node_of w.now i).kind ≡ 21) × (Has w.now b) }
-    ensures { result ≡ same_ident (tree_from (tree w.now) i) (value_by w.now b) }
+// Is the value of binding b the identifier x. The two stand in different stores of nodes, so that their identifiers are all that `==` can
+// compare.
+fn same_ident(w: &[u32], x: u8, b: usize) -> bool
+    requires { (Planted w.now) × (Has w.now b) }
+    ensures { result ≡ same_ident (named 0 x) (value_by w.now b) }
 {
-    let x = ident_at(w, i);
     value_ident(w, b) == Some(x as u32)
 }
 
-// The end of a replacement by the value of the innermost binding of x: a change, and counted (request 9), or neither.
+// The end of a replacement by the value of the innermost binding of x: a change, and counted (request 9), or neither. The test is a parameter, since
+// it is the definition's: the contract is that of one step with its test.
 fn counted(w: &mut [u32], x: u8, changed: bool)
     requires { Planted w.old }
     ensures { Turns w.old w.new (noted (counts_if changed x) (rest w.old)) }
@@ -115,7 +118,7 @@ fn counted(w: &mut [u32], x: u8, changed: bool)
         set_changed(w, true);
         count_one(w, x);
         let n = w[layout::REPLACED];
-        set_replaced(w, wrapping_add_u32(n, 1));
+        set_replaced(w, n.wrapping_add(1));
     }
 }
 
@@ -125,7 +128,7 @@ pub fn inline_value(w: &mut [u32], i: usize, p: u32, b: usize) -> Result<usize, 
     ensures { Did w.old w.new result (value_f p (value_by w.old b) i (abs w.old)) }
 {
     let x = ident_at(w, i);
-    let same = same_ident(w, i, b);
+    let same = same_ident(w, x, b);
     let m = value_len(w, b);
     put_value(w, i, p, b)?;
     counted(w, x, !same);
@@ -146,7 +149,7 @@ pub fn constant(w: &[u32], i: usize) -> Option<usize>
     requires { (Planted w.now) × (i < size w.now) × ((node_of w.now i).kind ≡ 21) }
     ensures { (count_of result ≡ counted_o (constant_at (abs w.now) i)) × (IfSome result (λ m. m ≤ 512)) }
 {
-    if w[layout::IS_FIRST_RUN] == 0 {
+    if !is_first_run(w) {
         return None;
     }
     let x = ident_at(w, i);
@@ -191,7 +194,7 @@ pub fn leave(w: &mut [u32], before: SavedFields)
 {
     let n = close(w);
     let ended = w[layout::ENDED];
-    set_ended(w, wrapping_add_u32(ended, n));
+    set_ended(w, ended.wrapping_add(n));
     restore_fields(w, before);
 }
 

@@ -3,7 +3,7 @@ use Rattle.std.proofs.Common.{Result, Ok, Err}
 use Rattle.refusal.specs.declared.Refusal.{Refusal}
 use Rattle.refusal.specs.Number.{number}
 use mathlib.Core.Path.{◌≡◌, refl, sym, ap, ap₂, ◌∙◌, subst}
-use mathlib.Core.Bool.{Bool, true, false, not}
+use mathlib.Core.Bool.{Bool, true, false}
 use mathlib.Core.List.{List}
 use mathlib.Core.Logic.{◌⊎◌, inl}
 use mathlib.Core.Option.{Option, none, some}
@@ -13,7 +13,7 @@ use native.Mathlib.Omega.{arith}
 use lib.ListN.{length, get_or, set}
 use lib.Seq.{get_or-take, set-get_or}
 use lib.Dec.{eqb}
-use borrow.Author.Tests.{eq-eqb, ne_eqb, eqb-true, eqb-false}
+use borrow.Author.Tests.{eq-eqb, ne_eqb}
 use Rattle.def_tree.specs.Base.{pick}
 use Rattle.def_tree.specs.Tree.{Tree, Forest, Core, no_core, count, counts, kind, form, num}
 use Rattle.def_tree.specs.Combine as Split
@@ -33,7 +33,6 @@ use Rattle.shape.proofs.Shapes.{shape-trees, room-stays, trees-end, first-stays}
 use Rattle.words_state.specs.State.{rest, abs, Turns}
 use Rattle.words_state.proofs.Fields.{ok-self, ok-then}
 use Rattle.laws_flat.specs.WalkF.{WalksF, name_last_f, declr_inlining_f, declr_to_f, visit_mut_var_declarator_f}
-use Rattle.walk_declarator.specs.declared.Spot.{Spot}
 use Rattle.walk_declarator.specs.Steps.{done_of, named, Moves, Stands, declr_after}
 use Rattle.walk_declarator.proofs.Acts.{rest-stack}
 use Rattle.walk_declarator.proofs.Parts.{forest-none, forest-some, over-name, stays-name, takes-name}
@@ -373,10 +372,3 @@ module _ {w : List ℕ} {n i p d : ℕ} (h : Here w n i p d) where
 
   pub headed-name : {k : ℕ} → (n ≡ 0 → ⊥) → k ≡ (node_of w i).kind → k ≡ 20 → Headed w n i false
   headed-name z e s = (bind_is z true (eq-eqb (node_of w i).kind 20 (sym e ∙ s)), record { some = omega (arith, z); kind = sym e ∙ s })
-
-  pub headed-is : {k : ℕ} → (n ≡ 0 → ⊥) → k ≡ (node_of w i).kind → Headed w n i (not (eqb k 20))
-  headed-is {k} z e = go (eqb k 20) refl
-    where
-      go : (p : Bool) → eqb k 20 ≡ p → Headed w n i (not p)
-      go true q = headed-name z e (eqb-true k 20 q)
-      go false q = headed-other z e (eqb-false k 20 q)

@@ -5,10 +5,9 @@ use mathlib.Core.Path.{◌≡◌, refl, sym, ap, subst}
 use mathlib.Core.Bool.{Bool, true, false, not}
 use mathlib.Core.List.{List}
 use mathlib.Core.Option.{Option, none, some}
-use Prim.Native.Nat.{ℕ, ◌+◌, ◌≤◌, ◌<◌}
+use Prim.Native.Nat.{ℕ, ◌+◌}
 use native.Mathlib.Omega.{arith}
 use lib.Dec.{eqb}
-use lib.ListN.{get_or}
 use Rattle.def_tree.specs.Base.{pick}
 use Rattle.def_tree.specs.Tree.{Tree, Core, form, num}
 use Rattle.def_tree.specs.Combine.{Res, stop, done, Nothing, and_then, carry, tree_at, iff, Flat, node_at, act, put, skip}
@@ -25,7 +24,7 @@ use Rattle.scope_var_info.specs.Handles.{held, counted_o}
 use Rattle.walk_ident.specs.Steps.{analysis_f, Fate, stays, undefined, inlined, fate_by, fate_of, fate_at, const_f, value_f, swap_f}
 use Rattle.walk_laws.specs.Did.{Did, Here}
 use Rattle.walk_laws.proofs.Heres.{here-still}
-use Rattle.walk_laws.proofs.Ways.{iff-yes, iff-no, in-inlining, in-analysis, ident-by}
+use Rattle.walk_laws.proofs.Ways.{iff-yes, iff-no, ident-by}
 
 -- where the tree was, a tree is
 module _ {w u : List ℕ} {i p d j : ℕ} (q : ℕ) (e : Tree) (h : Here w 1 i p d) where
@@ -87,11 +86,11 @@ module _ (v : WalksF) (p i : ℕ) {w u : List ℕ} {a : Result ℕ Refusal} wher
   found-value t e d = by-binding (fate-by (λ x. x ≡ inlined t) (find_binding (node_at (abs w) i).num (rest w).stack) e (λ x. absurd (let y : ◌≡◌ {A = ℕ} 0 1 = cc in omega arith)) (λ b x. fate-value b b.value t x d))
 
   -- no constant, by the phase
-  pub no-const-inlining : steps.constant_at (abs w) i ≡ none → (get_or w 6 0 ≡ 0 → ⊥) → Did w u a (ident_inlining_f v p i (abs w)) → Did w u a (after_ident_f v p i (abs w))
-  no-const-inlining e z d = ident-by v p i none e (iff-yes (ident_inlining_f v p i) (ident_analysis_f i) (in-inlining w z) d)
+  pub no-const-inlining : steps.constant_at (abs w) i ≡ none → (rest w).inlining ≡ true → Did w u a (ident_inlining_f v p i (abs w)) → Did w u a (after_ident_f v p i (abs w))
+  no-const-inlining e z d = ident-by v p i none e (iff-yes (ident_inlining_f v p i) (ident_analysis_f i) z d)
 
-  pub no-const-analysis : steps.constant_at (abs w) i ≡ none → get_or w 6 0 ≡ 0 → Did w u a (ident_analysis_f i (abs w)) → Did w u a (after_ident_f v p i (abs w))
-  no-const-analysis e z d = ident-by v p i none e (iff-no (ident_inlining_f v p i) (ident_analysis_f i) (in-analysis w z) d)
+  pub no-const-analysis : steps.constant_at (abs w) i ≡ none → (rest w).inlining ≡ false → Did w u a (ident_analysis_f i (abs w)) → Did w u a (after_ident_f v p i (abs w))
+  no-const-analysis e z d = ident-by v p i none e (iff-no (ident_inlining_f v p i) (ident_analysis_f i) z d)
 
 -- what the steps answered
 module _ (w : List ℕ) (i : ℕ) where

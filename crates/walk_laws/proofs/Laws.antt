@@ -1,7 +1,7 @@
 -- The laws by which the walks of the port meet the walks on the list: one after the other, refused, and between the two ends of a scope.
 -- Assumes nothing.
 use Rattle.std.proofs.Common.{◌≡◌, refl, sym, ap, ◌∙◌, Result, Ok, Err, List, ℕ, zero, suc, ◌+◌, ◌-◌, ◌≤◌, zero-add, suc-add, add-one, arith}
-use mathlib.Core.Path.{ap₂, subst}
+use mathlib.Core.Path.{ap₂}
 use Rattle.def_tree.specs.Combine.{Res, stop, done, M, Nothing, and_then, Flat, Walk, on_rest, within_f, many}
 use Rattle.refusal.specs.declared.Refusal.{Refusal}
 use Rattle.refusal.specs.Number.{number}

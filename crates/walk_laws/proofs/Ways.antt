@@ -9,15 +9,15 @@ use native.Mathlib.Numerals.{add-one}
 use native.Mathlib.Omega.{arith}
 use lib.ListN.{get_or}
 use lib.Dec.{eqb, ltb}
-use borrow.Author.Tests.{eq-eqb, ne_eqb, eqb-true, eqb-false, lt-ltb, le-ltb}
+use borrow.Author.Tests.{eq-eqb, ne_eqb, lt-ltb, le-ltb}
 use mathlib.Core.Option.{Option, none, some}
 use Rattle.def_tree.specs.Base.{pick}
 use Rattle.def_tree.specs.Tree.{Tree, count, form, num}
 use Rattle.def_tree.specs.Combine.{Res, stop, done, M, Nothing, and_then, ◌>>◌, iff, Flat, node_at, tree_at, Walk, Walks, on_rest, act, put, within_f, skip, many, split_f, each_but_f, on_kids_f}
-use Rattle.words.specs.Layout.{yes, tree, node_of}
+use Rattle.words.specs.Layout.{tree, node_of}
 use Rattle.words.proofs.Nodes.{tree-at}
 use Rattle.def_pass.specs.Scope.{VarType, ScopeKind, VarInfo, prevent_inline, add_read, find_constant}
-use Rattle.def_pass.specs.Walk.{St, modify, opening, restore, deeper, shallower, set_inlining, set_in_test, set_conds, set_var_decl_kind, set_pat_mode, as_param, decl_kind_of, set_changed, tally, same_ident, replace, when, mark, Handler, handlers, h_plain, h_while, h_for_in}
+use Rattle.def_pass.specs.Walk.{St, modify, opening, restore, deeper, shallower, set_inlining, set_in_test, set_conds, set_var_decl_kind, set_pat_mode, as_param, decl_kind_of, set_changed, tally, same_ident, replace, when, mark, Handler, handlers, h_plain}
 use Rattle.words_nodes.specs.Nodes.{Planted, tree_from}
 use Rattle.words_state.specs.State.{rest, abs, Fielded, Act, Turns}
 use Rattle.words_state.proofs.Fields.{ok-self}
@@ -176,18 +176,6 @@ iff-yes {w} {u} {a} m k e d = subst (λ (b : Bool). Did w u a (iff b m k (abs w)
 pub iff-no : {w u : List ℕ} {a : Result ℕ Refusal} {b : Bool} (m k : F ℕ) → b ≡ false → Did w u a (k (abs w)) → Did w u a (iff b m k (abs w))
 iff-no {w} {u} {a} m k e d = subst (λ (b : Bool). Did w u a (iff b m k (abs w))) (sym e) d
 
-yes-not : (n : ℕ) → (n ≡ 0 → ⊥) → yes n ≡ true
-yes-not zero z = absurd (z refl)
-yes-not (suc n) z = refl
-
-pub in-inlining : (w : List ℕ) → (get_or w 6 0 ≡ 0 → ⊥) → (rest w).inlining ≡ true
-unfolding rest
-in-inlining w z = yes-not (get_or w 6 0) z
-
-pub in-analysis : (w : List ℕ) → get_or w 6 0 ≡ 0 → (rest w).inlining ≡ false
-unfolding rest
-in-analysis w z = ap yes z
-
 -- visit_mut_stmts
 abbrev again : WalksF → ℕ → ℕ → ℕ → F ℕ
 again v p n i = on_rest (modify (set_inlining true)) >> many (v.full p) n i
@@ -199,18 +187,18 @@ abbrev twice : WalksF → ℕ → ℕ → ℕ → F ℕ
 twice v p n i = on_rest (modify (set_inlining false)) >> first v p n i
 
 module _ (v : WalksF) (p n i : ℕ) {w u : List ℕ} where
-  pub stmts-once : {a : Result ℕ Refusal} → get_or w 6 0 ≡ 0 → Did w u a (many (v.full p) n i (abs w)) → Did w u a (visit_mut_stmts_f v p n i (abs w))
+  pub stmts-once : {a : Result ℕ Refusal} → (rest w).inlining ≡ false → Did w u a (many (v.full p) n i (abs w)) → Did w u a (visit_mut_stmts_f v p n i (abs w))
   unfolding visit_mut_stmts_f
-  stmts-once z d = iff-no (twice v p n i) (many (v.full p) n i) (in-analysis w z) d
+  stmts-once z d = iff-no (twice v p n i) (many (v.full p) n i) z d
 
-  module _ (z : get_or w 6 0 ≡ 0 → ⊥) (t : Turns w u (set_inlining false (rest w))) where
+  module _ (z : (rest w).inlining ≡ true) (t : Turns w u (set_inlining false (rest w))) where
     pub stmts-stop : {x : List ℕ} {e : Refusal} → Did u x (Err e) (many (v.full p) n i (abs u)) → Did w x (Err e) (visit_mut_stmts_f v p n i (abs w))
     unfolding visit_mut_stmts_f
-    stmts-stop d = iff-yes (twice v p n i) (many (v.full p) n i) (in-inlining w z) (modify-then (set_inlining false) (first v p n i) t (did-stop (λ j. again v p n i) d))
+    stmts-stop d = iff-yes (twice v p n i) (many (v.full p) n i) z (modify-then (set_inlining false) (first v p n i) t (did-stop (λ j. again v p n i) d))
 
     pub stmts-then : {x y k : List ℕ} {b : Result ℕ Refusal} {j : ℕ} → Did u x (Ok j) (many (v.full p) n i (abs u)) → Turns x y (set_inlining true (rest x)) → Did y k b (many (v.full p) n i (abs y)) → Did w k b (visit_mut_stmts_f v p n i (abs w))
     unfolding visit_mut_stmts_f
-    stmts-then d s r = iff-yes (twice v p n i) (many (v.full p) n i) (in-inlining w z) (modify-then (set_inlining false) (first v p n i) t (did_then (λ j. again v p n i) d (modify-then (set_inlining true) (many (v.full p) n i) s r)))
+    stmts-then d s r = iff-yes (twice v p n i) (many (v.full p) n i) z (modify-then (set_inlining false) (first v p n i) t (did_then (λ j. again v p n i) d (modify-then (set_inlining true) (many (v.full p) n i) s r)))
 
 -- what was read of the node at i
 module _ {w : List ℕ} {i p d : ℕ} (h : Here w 1 i p d) {x : ℕ} where
@@ -304,22 +292,6 @@ module _ (v : WalksF) (p i : ℕ) {w u : List ℕ} {a : Result ℕ Refusal} wher
 pub own-by : (v : WalksF) (g : Handler) {w u : List ℕ} {a : Result ℕ Refusal} {i p d k : ℕ} → Here w 1 i p d → k ≡ (node_of w i).kind → get_or handlers k h_plain ≡ g → Did w u a (handle_f g v p i (abs w)) → Did w u a (own_f v p i (abs w))
 unfolding own_f
 own-by v g {w} {u} {a} {i} {p} {d} {k} h e s x = subst (λ (y : Handler). Did w u a (handle_f y v p i (abs w))) (sym (ap (λ (m : ℕ). get_or handlers m h_plain) (kind-is h e) ∙ s)) x
-
--- the kinds that a range of the dispatcher's tests leaves: 10 and 11, 13 and 14, and those with the default walk
-module _ (k : ℕ) where
-  pub kind-while : (k ≡ 9 → ⊥) → 9 ≤ k → k < 12 → get_or handlers k h_plain ≡ h_while
-  kind-while z l h = go (eqb k 10) refl
-    where
-      go : (b : Bool) → eqb k 10 ≡ b → get_or handlers k h_plain ≡ h_while
-      go true e = ap (λ (m : ℕ). get_or handlers m h_plain) (eqb-true k 10 e)
-      go false e = let s : k ≡ 11 = omega (arith, z, eqb-false k 10 e) in ap (λ (m : ℕ). get_or handlers m h_plain) s
-
-  pub kind-for-in : (k ≡ 12 → ⊥) → 12 ≤ k → k < 15 → get_or handlers k h_plain ≡ h_for_in
-  kind-for-in z l h = go (eqb k 13) refl
-    where
-      go : (b : Bool) → eqb k 13 ≡ b → get_or handlers k h_plain ≡ h_for_in
-      go true e = ap (λ (m : ℕ). get_or handlers m h_plain) (eqb-true k 13 e)
-      go false e = let s : k ≡ 14 = omega (arith, z, eqb-false k 13 e) in ap (λ (m : ℕ). get_or handlers m h_plain) s
 
 -- handlers from index n on, of which each is the default one or has an index that k is not
 abbrev Off : ℕ → ℕ → List Handler → Type 0

@@ -2,7 +2,7 @@
 -- what it asks for. Assumes nothing: these are definitions.
 use Rattle.std.specs.Prelude.{◌≡◌, List, ℕ, suc, ◌+◌, ◌≤◌, ◌<◌, eqb, Bool, true, false, not, ◌&&◌, ◌||◌}
 use Rattle.std.proofs.Math.Option.{Option, none, some}
-use Rattle.def_tree.specs.Combine.{done, ◌>>◌, and_then, iff, Flat, node_at, tree_at, forest_at, set_arity, Walk as One, Walks as Many, on_rest, skip, many, split_f, each_but_f, on_kids_f}
+use Rattle.def_tree.specs.Combine.{done, ◌>>◌, and_then, iff, node_at, tree_at, forest_at, set_arity, Walk as One, Walks as Many, on_rest, skip, many, split_f, each_but_f, on_kids_f}
 use Rattle.def_tree.specs.Tree.{Tree, Core}
 use Rattle.words.specs.Layout.{tree, node_of}
 use Rattle.def_pass.specs.Scope.{VarType}

@@ -2,9 +2,8 @@
 use Rattle.std.proofs.Common.{Result}
 use mathlib.Core.Path.{◌≡◌, refl, sym, ap, ◌∙◌}
 use mathlib.Core.List.{List}
-use mathlib.Core.Bool.{Bool, true, false, ◌||◌}
+use mathlib.Core.Bool.{Bool, true, false}
 use mathlib.Core.Option.{Option, none, some}
-use mathlib.Core.Logic.{◌⊎◌, ⊎_elim}
 use Prim.Native.Nat.{ℕ, zero, suc, ◌+◌, ◌-◌, ◌≤◌, ◌<◌}
 use native.Mathlib.Nat.{not-suc-le-zero}
 use native.Mathlib.Omega.{arith}
@@ -23,25 +22,16 @@ use Rattle.words_scopes.specs.State.{Becomes, stack}
 use Rattle.scope_values.specs.Steps.{Grown}
 use Rattle.refusal.specs.declared.Refusal.{Refusal}
 use Rattle.refusal.specs.Number.{refused}
-use Rattle.std.specs.Bool.{then_some}
-use Rattle.scope.specs.Given.{value_at}
-use Rattle.walk_declarator.proofs.Parts.{cheap-value}
 use Rattle.words_nodes.specs.Nodes.{Planted, tree_from, forest_from}
 use Rattle.words_nodes.proofs.Loops.{Open, open-past, forest-here, forest-past}
 use Rattle.words_nodes.proofs.Words.{tree-whole, in_tree}
 use Rattle.words_state.specs.State.{rest, abs, Act}
 use Rattle.scope_var_info.specs.Handles.{tree_o, of_binding}
 use Rattle.scope_var_info.proofs.Numbers.{tree-in}
-use Rattle.walk_write.specs.Answers.{cheap_at}
 use Rattle.walk_write.proofs.Steps.{Step, step-act, act-step, step-as, step-none, step_then, step-stop, step-tree, act-tree, act-count, mark-step, record-step}
 use Rattle.walk_write.proofs.Shapes.{head_of}
 use Rattle.walk_write.proofs.Writing.{num-here}
 use Rattle.walk_write.proofs.Marks.{kind-here}
-
--- the value that is recorded
-pub kept-is : (w : List ℕ) (j : ℕ) (p : Bool) → j < get_or w 0 0 → p ≡ is_cheap (tree_from (tree w) j) → value_at (tree w) (then_some p j) ≡ cheap_at w j
-unfolding tree_at tree_from
-kept-is w j p l e = sym (cheap-value w j p l) ∙ ap (λ (c : Bool). pick c (some (tree_at (abs w) j)) none) e
 
 -- a value recorded for the binding of l
 module _ {w : List ℕ} (g : Planted w) (l r : Tree) (x : ℕ) (q : num l ≡ x) (o : Option VarInfo) (p : find_binding x (stack w) ≡ o) where

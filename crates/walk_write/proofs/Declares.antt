@@ -5,13 +5,12 @@ use mathlib.Core.List.{List}
 use mathlib.Core.Bool.{Bool, true, false, not, ◌&&◌}
 use mathlib.Core.Option.{none, some}
 use mathlib.Core.Logic.{◌⊎◌, inr}
-use Prim.Native.Nat.{ℕ, zero, suc, ◌+◌, ◌-◌, ◌<◌}
+use Prim.Native.Nat.{ℕ, ◌+◌, ◌<◌}
 use native.Mathlib.Omega.{arith}
 use borrow.Author.Tests.{eq-eqb, ne_eqb}
 use lib.Dec.{eqb, ltb}
 use lib.ListN.{length, get_or, set, length-set}
 use lib.Seq.{get_or-set_same}
-use Rattle.def_tree.specs.Base.{pick}
 use Rattle.def_tree.specs.Tree.{Tree, node, form, num, kids, Core, no_core}
 use Rattle.def_tree.specs.Combine.{Res, stop, done, Nothing, M, tree_at, act}
 use Rattle.def_pass.specs.Tree.{head_t}
@@ -30,7 +29,7 @@ use Rattle.words_state.specs.State.{rest, abs, Act}
 use Rattle.words_state.proofs.Fields.{replants-ok, ok-then}
 use Rattle.walk_write.specs.Answers.{re_kind}
 use Rattle.walk_write.proofs.Steps.{Step, Does, step-act, act-step, step-as, step-none, record-step}
-use Rattle.walk_write.proofs.Marks.{kind-here, when-no, when-yes, phase-on, phase-off}
+use Rattle.walk_write.proofs.Marks.{kind-here, when-no, when-yes}
 use Rattle.walk_write.proofs.Shapes.{child-act}
 use Rattle.walk_write.proofs.Turned.{of_kind, turned-tree, turned-rest, turned-back}
 use Rattle.walk_write.proofs.Writing.{num-here, form-here}
@@ -43,6 +42,10 @@ changes false b = refl
 valued : (a b : Bool) (t : Tree) → (a && not false && no_value (recorded t) && b) ≡ false
 valued true b t = refl
 valued false b t = refl
+
+neither : (b : Bool) → (b && not true) ≡ false
+neither true = refl
+neither false = refl
 
 -- the name of a function
 module _ {w : List ℕ} (i : ℕ) where
@@ -58,32 +61,25 @@ module _ {w : List ℕ} (i : ℕ) where
     unfolding declare_name
     declare-other h = child-act i declare_name e (when-no (declare_m t no_init true v_var) g (ap (λ (p : Bool). p && not (rest w).inlining) (ap (λ (k : ℕ). eqb k 20) (kind-here w (i + 1) l) ∙ ne_eqb (node_of w (i + 1)).kind 20 h)))
 
+    pub declare-off : (rest w).inlining ≡ true → Act w w 0 (act (λ t. declare_name (head_t (kids t))) i (abs w))
+    unfolding declare_name
+    declare-off h = child-act i declare_name e (when-no (declare_m t no_init true v_var) g (ap (λ (p : Bool). is_bind t && not p) h ∙ neither (is_bind t)))
+
     module _ (k : (node_of w (i + 1)).kind ≡ 20) where
       test : (is_bind t && not (rest w).inlining) ≡ not (rest w).inlining
       test = ap (λ (p : Bool). p && not (rest w).inlining) (ap (λ (k : ℕ). eqb k 20) (kind-here w (i + 1) l) ∙ eq-eqb (node_of w (i + 1)).kind 20 k)
 
-      pub declare-off : (get_or w 6 0 ≡ 0 → ⊥) → Act w w 0 (act (λ t. declare_name (head_t (kids t))) i (abs w))
-      unfolding declare_name
-      declare-off h = child-act i declare_name e (when-no (declare_m t no_init true v_var) g (test ∙ ap not (phase-on w h)))
-
-      pub declare-on : {u : List ℕ} (f x : ℕ) (s : Result Unit Refusal) → get_or w 6 0 ≡ 0 → f ≡ (node_of w (i + 1)).form → x ≡ (node_of w (i + 1)).num → Grown w u (declare (ltb 1 f) x no_init false v_var (stack w)) s → Act w u (refused s) (act (λ t. declare_name (head_t (kids t))) i (abs w))
+      pub declare-on : {u : List ℕ} (f x : ℕ) (s : Result Unit Refusal) → (rest w).inlining ≡ false → f ≡ (node_of w (i + 1)).form → x ≡ (node_of w (i + 1)).num → Grown w u (declare (ltb 1 f) x no_init false v_var (stack w)) s → Act w u (refused s) (act (λ t. declare_name (head_t (kids t))) i (abs w))
       unfolding declare_name declare_m
       declare-on f x s z r q b =
           let to : ℕ → ℕ → Bool → Res St Nothing = λ h y p. grow (declare (ltb 1 h) y no_init p v_var) (rest w) in
-          child-act i declare_name e (when-yes (declare_m t no_init true v_var) (test ∙ ap not (phase-off w z))
+          child-act i declare_name e (when-yes (declare_m t no_init true v_var) (test ∙ ap not z)
           (step-as (ap (λ (h : ℕ). to h x false) (r ∙ sym (form-here w (i + 1) l)) ∙ ap (λ (y : ℕ). to (form t) y false) (q ∙ sym (num-here w (i + 1) l)) ∙ ap (λ (p : Bool). to (form t) (num t) p) (sym (changes (is_var (rest w).var_decl_kind) (rest w).inlining))) (record-step g (declare (ltb 1 f) x no_init false v_var) s b)))
 
 -- the binding of a pattern: its node is an identifier, without the flag, while it is recorded
 grown-tree : (w u : List ℕ) (st : Stack) (s : Result Unit Refusal) → Grown w u st s → tree u ≡ tree w
 grown-tree w u st (Ok _) b = b.0.tree
 grown-tree w u st (Err e) b = b.2.tree
-
-pub unflagged-less : (f : ℕ) {g n : ℕ} → g ≡ unflagged f → f < n → g < n
-unflagged-less f {g} {n} e h = rw e (go (ltb 1 f))
-  where
-    go : (b : Bool) → pick b (f - 2) f < n
-    go true = omega arith
-    go false = h
 
 as-ident : (t : Tree) → of_kind 21 (unflagged (form t)) t ≡ as_ident t
 as-ident (node k f a ts) = refl
@@ -122,11 +118,11 @@ module _ {w : List ℕ} (g : Planted w) (i : ℕ) (l : i < get_or w 0 0) (k : (n
     still-in = omega (arith, turned-in, sym (tree-length w₂) ∙ ap length tree-kept ∙ tree-length w₁)
 
     -- what turning it back asks for
-    pub bound-needs : b < 32 → Planted w₂ × (i < get_or w₂ 0 0) × (((node_of w₂ i).kind ≡ 20) ⊎ ((node_of w₂ i).kind ≡ 21)) × (20 < 64) × (b < 32)
+    pub bound-needs : b < 32 → Planted w₂ × (i < get_or w₂ 0 0) × (((node_of w₂ i).kind ≡ 20) ⊎ ((node_of w₂ i).kind ≡ 21)) × (b < 32)
     bound-needs h =
         let c : Core = re_kind 21 f (get_or (tree w) i no_core) in
         let e : node_of w₂ i ≡ c = sym (tree-at w₂ i still-in) ∙ ap (λ (xs : List Core). get_or xs i no_core) (tree-kept ∙ a.is) ∙ get_or-set_same (tree w) i c no_core inside in
-        (declared.ok.planted, still-in, inr (ap (λ (d : Core). d.kind) e), omega arith, h)
+        (declared.ok.planted, still-in, inr (ap (λ (d : Core). d.kind) e), h)
 
     pub bound-act : {w₃ : List ℕ} → Replants w₂ w₃ (set (tree w₂) i (re_kind 20 b (get_or (tree w₂) i no_core))) → Act w w₃ (refused s) (act (λ t. declare_m t (recorded (as_ident t)) false v) i (abs w))
     unfolding declare_m

@@ -13,24 +13,14 @@ use Rattle.def_tree.specs.Combine.{Nothing, M, on_rest, tree_at, act}
 use Rattle.def_tree.proofs.Whole.{kind_at}
 use Rattle.def_pass.specs.Scope.{prevent_inline, store_inline_barrier, mark_this_sensitive, ident_of}
 use Rattle.def_pass.specs.Walk.{St, when, mark, store_inline_barrier_m}
-use Rattle.words.specs.Layout.{node_of, yes}
+use Rattle.words.specs.Layout.{node_of}
 use Rattle.words.proofs.Nodes.{tree-length, tree-at}
 use Rattle.words_scopes.specs.State.{Becomes, stack}
-use Rattle.scope_find.proofs.Facts.{flag-set}
 use Rattle.scope_read_write.proofs.Limits.{becomes-self}
 use Rattle.words_nodes.specs.Nodes.{Planted}
 use Rattle.words_state.specs.State.{rest, abs, Act}
 use Rattle.walk_write.proofs.Steps.{Step, step-act, step-as, step-none, mark-step}
 use Rattle.walk_write.proofs.Writing.{num-here}
-
--- word 6 is the phase
-pub phase-on : (w : List ℕ) → (get_or w 6 0 ≡ 0 → ⊥) → (rest w).inlining ≡ true
-unfolding rest
-phase-on w h = flag-set (get_or w 6 0) h
-
-pub phase-off : (w : List ℕ) → get_or w 6 0 ≡ 0 → (rest w).inlining ≡ false
-unfolding rest
-phase-off w e = ap yes e
 
 -- a step that a test lets or not
 module _ {w : List ℕ} (m : M St Nothing) {b : Bool} where
@@ -54,13 +44,13 @@ module _ (w : List ℕ) (i : ℕ) (l : i < get_or w 0 0) where
   abbrev callee : Tree → M St Nothing
   callee c s = when (not s.inlining) (mark (mark_this_sensitive (ident_of (some c)))) s
 
-  pub callee-off : Planted w → (get_or w 6 0 ≡ 0 → ⊥) → Act w w 0 (act callee i (abs w))
-  callee-off g h = step-act (callee (tree_at (abs w) i)) (when-no (mark (mark_this_sensitive (ident_of (some (tree_at (abs w) i))))) g (ap not (phase-on w h)))
+  pub callee-off : Planted w → (rest w).inlining ≡ true → Act w w 0 (act callee i (abs w))
+  callee-off g h = step-act (callee (tree_at (abs w) i)) (when-no (mark (mark_this_sensitive (ident_of (some (tree_at (abs w) i))))) g (ap not h))
 
-  pub callee-on : {u : List ℕ} (o : Option ℕ) → Planted w → get_or w 6 0 ≡ 0 → ident_of (some (tree_at (abs w) i)) ≡ o → Becomes w u (mark_this_sensitive o (stack w)) → Act w u 0 (act callee i (abs w))
-  callee-on {u} o g z e b = step-act (callee (tree_at (abs w) i)) (when-yes (mark (mark_this_sensitive (ident_of (some (tree_at (abs w) i))))) (ap not (phase-off w z)) (mark-step g (mark_this_sensitive (ident_of (some (tree_at (abs w) i)))) (rw (sym e) at b)))
+  pub callee-on : {u : List ℕ} (o : Option ℕ) → Planted w → (rest w).inlining ≡ false → ident_of (some (tree_at (abs w) i)) ≡ o → Becomes w u (mark_this_sensitive o (stack w)) → Act w u 0 (act callee i (abs w))
+  callee-on {u} o g z e b = step-act (callee (tree_at (abs w) i)) (when-yes (mark (mark_this_sensitive (ident_of (some (tree_at (abs w) i))))) (ap not z) (mark-step g (mark_this_sensitive (ident_of (some (tree_at (abs w) i)))) (rw (sym e) at b)))
 
-pub callee-other : {w : List ℕ} (i : ℕ) → i < get_or w 0 0 → Planted w → get_or w 6 0 ≡ 0 → ((node_of w i).kind ≡ 21 → ⊥) → Act w w 0 (act (λ c s. when (not s.inlining) (mark (mark_this_sensitive (ident_of (some c)))) s) i (abs w))
+pub callee-other : {w : List ℕ} (i : ℕ) → i < get_or w 0 0 → Planted w → (rest w).inlining ≡ false → ((node_of w i).kind ≡ 21 → ⊥) → Act w w 0 (act (λ c s. when (not s.inlining) (mark (mark_this_sensitive (ident_of (some c)))) s) i (abs w))
 callee-other {w} i l g z h = callee-on w i l none g z (ident-none w i l h) (becomes-self w g.good)
 
 -- the parameter of a catch clause
@@ -74,18 +64,18 @@ module _ {w : List ℕ} (g : Planted w) (k x : ℕ) where
   test : k ≡ 20 → (eqb k 20 && not (rest w).inlining) ≡ not (rest w).inlining
   test e = ap (λ (p : Bool). p && not (rest w).inlining) (eq-eqb k 20 e)
 
-  pub caught-off : k ≡ 20 → (get_or w 6 0 ≡ 0 → ⊥) → Act w w 0 (on_rest caught (abs w))
-  caught-off e h = step-act caught (when-no (mark (prevent_inline x)) g (test e ∙ ap not (phase-on w h)))
+  pub caught-off : k ≡ 20 → (rest w).inlining ≡ true → Act w w 0 (on_rest caught (abs w))
+  caught-off e h = step-act caught (when-no (mark (prevent_inline x)) g (test e ∙ ap not h))
 
-  pub caught-on : {u : List ℕ} → k ≡ 20 → get_or w 6 0 ≡ 0 → Becomes w u (prevent_inline x (stack w)) → Act w u 0 (on_rest caught (abs w))
-  caught-on e z b = step-act caught (when-yes (mark (prevent_inline x)) (test e ∙ ap not (phase-off w z)) (mark-step g (prevent_inline x) b))
+  pub caught-on : {u : List ℕ} → k ≡ 20 → (rest w).inlining ≡ false → Becomes w u (prevent_inline x (stack w)) → Act w u 0 (on_rest caught (abs w))
+  caught-on e z b = step-act caught (when-yes (mark (prevent_inline x)) (test e ∙ ap not z) (mark-step g (prevent_inline x) b))
 
 -- a barrier
 module _ {w : List ℕ} (g : Planted w) where
-  pub barrier-off : (get_or w 6 0 ≡ 0 → ⊥) → Act w w 0 (on_rest store_inline_barrier_m (abs w))
+  pub barrier-off : (rest w).inlining ≡ true → Act w w 0 (on_rest store_inline_barrier_m (abs w))
   unfolding store_inline_barrier_m
-  barrier-off h = step-act store_inline_barrier_m (step-as (rw (phase-on w h) refl) (step-none g))
+  barrier-off h = step-act store_inline_barrier_m (step-as (rw h refl) (step-none g))
 
-  pub barrier-on : {u : List ℕ} → get_or w 6 0 ≡ 0 → Becomes w u (store_inline_barrier (stack w)) → Act w u 0 (on_rest store_inline_barrier_m (abs w))
+  pub barrier-on : {u : List ℕ} → (rest w).inlining ≡ false → Becomes w u (store_inline_barrier (stack w)) → Act w u 0 (on_rest store_inline_barrier_m (abs w))
   unfolding store_inline_barrier_m
-  barrier-on z b = step-act store_inline_barrier_m (step-as (rw (phase-off w z) refl) (mark-step g store_inline_barrier b))
+  barrier-on z b = step-act store_inline_barrier_m (step-as (rw z refl) (mark-step g store_inline_barrier b))

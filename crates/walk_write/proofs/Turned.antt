@@ -20,7 +20,7 @@ use Rattle.words_nodes.specs.Nodes.{Planted, One, NodePut, Replants, tree_from, 
 use Rattle.words_nodes.proofs.Trees.{flat-from, put_one}
 use Rattle.words_nodes.proofs.Words.{tree-whole}
 use Rattle.words_nodes.proofs.Apart.{replants}
-use Rattle.words_nodes.proofs.Splice.{put-tree}
+use Rattle.words.proofs.Stored.{put-tree}
 use Rattle.words_state.specs.State.{rest}
 use Rattle.words_state.proofs.Fields.{replants-rest}
 use Rattle.walk_write.specs.Answers.{re_kind}

@@ -7,16 +7,16 @@ ghost use Rattle.refusal.specs.Number.{refused};
 ghost use Rattle.words.specs.Layout.{tree, node_of};
 ghost use Rattle.words_nodes.specs.Nodes.{Planted, size};
 ghost use Rattle.words_state.specs.State.{abs, Act};
-ghost use Rattle.scope.specs.Given.{value_at};
-ghost use Rattle.walk_write.specs.Answers.{cheap_at};
 
 use super::{write_ident, write_trees};
+use def_file::form;
+use def_file::kind::Kind;
 use refusal::Refusal;
 use scope::{
-    find_binding, is_inline_prevented, prevent_inline, record_value, var_inline_prevented,
+    Write, find_binding, is_inline_prevented, prevent_inline, record_value, var_inline_prevented,
 };
 use scope_find::ident_at;
-use walk_declarator::is_cheap;
+use walk_declarator::kept_value;
 use words::kind_at;
 use words_nodes::skip;
 
@@ -28,23 +28,15 @@ pub fn assign_first(w: &mut [u32], f: u32, n: usize, i: usize) -> Result<(), Ref
     if n == 0 {
         return Ok(());
     }
-    if f != 0 {
-        return write_trees(w, n, i, true);
+    if f != form::ASSIGN {
+        return write_trees(w, n, i, Write::Forced);
     }
-    let k = kind_at(w, i);
-    write_trees(w, n, i, false)?;
-    if k == 20 {
-        return Ok(());
+    let kind = kind_at(w, i);
+    write_trees(w, n, i, Write::Plain)?;
+    match kind {
+        Kind::BindingIdent => Ok(()),
+        _ => write_trees(w, n, i, Write::Forced),
     }
-    write_trees(w, n, i, true)
-}
-
-// The value at j as it is recorded: itself, if it is a literal or an identifier, else none.
-fn kept_value(w: &[u32], j: usize) -> Option<usize>
-    requires { (Planted w.now) × (j < size w.now) }
-    ensures { value_at (tree w.now) result ≡ cheap_at w.now j }
-{
-    is_cheap(w, j).then_some(j)
 }
 
 // The value at j is recorded for the name at i, unless its binding is prevented.
@@ -68,11 +60,14 @@ pub fn assign_last(w: &mut [u32], n: usize, i: usize) -> Result<(), Refusal>
     requires { (Planted w.old) × (n ≤ length_f (plant (drop i (tree w.old)))) }
     ensures { Act w.old w.new (refused result) (act_f assign_last n i (abs w.old)) }
 {
-    if n == 0 || kind_at(w, i) != 20 {
+    if n == 0 {
         return Ok(());
     }
+    let Kind::BindingIdent = kind_at(w, i) else {
+        return Ok(());
+    };
     if n == 1 {
-        return write_ident(w, i, false);
+        return write_ident(w, i, Write::Plain);
     }
     let j = skip(w, i);
     if is_inline_prevented(w, j) {
@@ -80,6 +75,6 @@ pub fn assign_last(w: &mut [u32], n: usize, i: usize) -> Result<(), Refusal>
         prevent_inline(w, x);
         return Ok(());
     }
-    write_ident(w, i, false)?;
+    write_ident(w, i, Write::Plain)?;
     store_value(w, i, j)
 }

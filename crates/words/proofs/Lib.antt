@@ -1,4 +1,5 @@
--- What the proofs of several functions use; Nodes, Flags and Yes are also for callers.
+-- What the proofs of several functions use; all are also for callers.
 pub mod Nodes
 pub mod Flags
 pub mod Yes
+pub mod Stored

@@ -3,3 +3,4 @@ pub mod Layout
 pub mod Moved
 pub mod Flags
 pub mod Place
+pub mod Node

@@ -6,11 +6,6 @@ abbrev pub placed : Option ℕ → ℕ
 placed None = 0
 placed (Some k) = suc k
 
--- the place, e for none
-abbrev pub place_or : ℕ → Option ℕ → ℕ
-place_or e None = e
-place_or e (Some k) = k
-
 -- no word from place a up to e is x; word 0 stands at p, and each s behind the one before
 abbrev pub NoneAt : List ℕ → (p s a e x : ℕ) → Type 0
 NoneAt w p s a e x = (j : ℕ) → a ≤ j → j < e → get_or w (p + j * s) 0 ≡ x → ⊥

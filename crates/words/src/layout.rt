@@ -1,4 +1,5 @@
-// What stands where in the working words; specs/Layout.antt has the same table for the contracts.
+// What stands where in the working words; specs/Layout.antt has the same table for the contracts. Fixed stretches of lent words: the library has no
+// memory of its own.
 
 // Counts.
 pub const NODE_COUNT: usize = 0;

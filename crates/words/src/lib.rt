@@ -1,27 +1,47 @@
 // The working words: functions that copy, store, wipe, read and search them. What stands where is in specs/Layout.antt.
 #![tactic(auto)]
 
-ghost use Rattle.std.specs.Prelude.{◌≡◌, ◌+◌, ◌≤◌, ◌<◌, length};
-ghost use Rattle.words.specs.Layout.{yes, node_of};
+ghost use Rattle.std.specs.Prelude.{◌≡◌, ◌+◌, ◌*◌, ◌≤◌, ◌<◌, [], ◌∷◌, ◌++◌, get_or, length};
+ghost use Rattle.std.proofs.lemmas.List.Edits.{sets};
+ghost use Rattle.words.specs.Layout.{yes, core_from, node_of, tree};
+ghost use Rattle.def_file.specs.Named.{IsKindOf};
 ghost use Rattle.words.specs.Flags.{flag_at, Flagged};
-ghost use Rattle.words.specs.Moved.{Moved, Put, Zeroed, Merged, Cleared};
+ghost use Rattle.words.specs.Moved.{Moved, Zeroed, Merged, Cleared};
+ghost use Rattle.words.specs.Node.{IsNode, core_of, Packed, Apart, NodePut};
 ghost use Rattle.words.specs.Place.{FirstAt};
+ghost use Rattle.words.specs.Tab.{sum};
+
+use def_file::kind::Kind;
 
 pub mod layout;
 
-// The nodes from `at` on, `len` of them, of a store of nodes.
+// A node of a store: its kind, its form, how many children it has, and its number.
+#[derive(Clone, Copy, Debug, PartialEq, Eq)]
+pub struct Node {
+    pub kind: Kind,
+    pub form: u32,
+    pub arity: u32,
+    pub num: u32,
+}
+
+// The nodes from `at` on, `len` of them, of a store of nodes. A run of no nodes is spliced as any other, so that no call takes an Option apart.
 #[derive(Clone, Copy, Debug, PartialEq, Eq)]
 pub struct Run {
     pub at: usize,
     pub len: usize,
 }
 
+impl Run {
+    // No nodes.
+    pub const NONE: Run = Run { at: 0, len: 0 };
+}
+
 // The kind of node k of the tree.
-pub fn kind_at(w: &[u32], k: usize) -> u32
+pub fn kind_at(w: &[u32], k: usize) -> Kind
     requires { (16384 ≤ length w.now) × (k < 1024) }
-    ensures { result ≡ (node_of w.now k).kind }
+    ensures { IsKindOf (node_of w.now k).kind result }
 {
-    w[layout::NODES + k * 2] % 64
+    Kind::from(w[layout::NODES + k * 2] % 64)
 }
 
 // Its form.
@@ -48,7 +68,42 @@ pub fn num_at(w: &[u32], k: usize) -> u32
     w[layout::NODES + k * 2 + 1]
 }
 
-// Copies n words from a to b; the two stretches may meet.
+// Node k of the store at word `base`.
+pub fn node_at(w: &[u32], base: usize, k: usize) -> Node
+    requires { base + (k + 1) * 2 ≤ length w.now }
+    ensures { IsNode (core_from w.now (base + k * 2)) result }
+{
+    let first = w[base + k * 2];
+    Node {
+        kind: Kind::from(first % 64),
+        form: first / 64 % 32,
+        arity: first / 2048 % 65536,
+        num: w[base + k * 2 + 1],
+    }
+}
+
+// Stores node k of the tree.
+pub fn put_node(w: &mut [u32], k: usize, x: Node)
+    requires { (16384 ≤ length w.old) × (k < 1024) × Packed x }
+    ensures { NodePut w.old w.new k (core_of x) }
+{
+    let p = layout::NODES + k * 2;
+    w[p] = u32::from(x.kind) + 64 * (x.form + 32 * x.arity);
+    w[p + 1] = x.num;
+}
+
+// Appends a node.
+pub fn add_node(w: &mut [u32], x: Node)
+    requires { (16384 ≤ length w.old) × (get_or w.old 0 0 < 1024) × Packed x }
+    ensures { (tree w.new ≡ tree w.old ++ (core_of x ∷ [])) × (Apart w.old w.new) }
+{
+    let n = w[layout::NODE_COUNT] as usize;
+    put_node(w, n, x);
+    w[layout::NODE_COUNT] = (n + 1) as u32;
+}
+
+// Copies n words from a to b; the two stretches may meet. This and the next three are names for one call of the library each, for its law in the
+// contract.
 pub fn shift(w: &mut [u32], a: usize, b: usize, n: usize)
     requires { (a + n ≤ length w.old) × (b + n ≤ length w.old) }
     ensures { Moved w.old w.new a b n }
@@ -56,10 +111,10 @@ pub fn shift(w: &mut [u32], a: usize, b: usize, n: usize)
     w.copy_within(a..a + n, b);
 }
 
-// Stores the words of an array from p on.
-pub fn put<const N: usize>(w: &mut [u32], p: usize, a: [u32; N])
+// Stores the elements of an array from p on: words, or a file's bytes.
+pub fn put<T: Copy, const N: usize>(w: &mut [T], p: usize, a: [T; N])
     requires { p + N ≤ length w.old }
-    ensures { Put w.old w.new p a.entry }
+    ensures { w.new ≡ sets w.old p a }
 {
     w[p..p + N].copy_from_slice(&a);
 }
@@ -121,4 +176,16 @@ pub fn first_at(w: &[u32], p: usize, s: usize, a: usize, e: usize, x: u8) -> Opt
         }
     }
     None
+}
+
+// The sum of the words at the places from a up to e; word 0 stands at p, and each s behind the one before.
+pub fn sum_at(w: &[u32], p: usize, s: usize, a: usize, e: usize) -> usize
+    requires { (16384 ≤ length w.now) × (a ≤ e) × (e ≤ 256) × (s ≤ 10) × (p ≤ 8192) }
+    ensures { sum (λ j. get_or w.now (p + j * s) 0) a + result ≡ sum (λ j. get_or w.now (p + j * s) 0) e }
+{
+    let mut total: usize = 0;
+    for k in a..e {
+        total += w[p + k * s] as usize;
+    }
+    total
 }

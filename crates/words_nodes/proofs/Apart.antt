@@ -1,5 +1,5 @@
 -- What a change of the tree's words alone leaves as it was: the scopes, and all that is good but the tree. Assumes nothing.
-use mathlib.Core.Path.{◌≡◌, refl, ap, ◌∙◌}
+use mathlib.Core.Path.{◌≡◌, refl, ap}
 use mathlib.Core.List.{List, map}
 use Prim.Native.Nat.{ℕ, ◌+◌, ◌*◌, ◌≤◌, ◌<◌}
 use native.Mathlib.Omega.{arith}
@@ -13,12 +13,6 @@ use Rattle.words_scopes.specs.State.{bind_at, heads, flags, binds, consts, stack
 use Rattle.words_scopes.proofs.Words.{heads-part, part-consts, part-coff, part-crun, Runs, runs-off, runs-at, bind-same, free-same}
 use Rattle.words_scopes.proofs.Index.{begins, beside_same}
 use Rattle.words_nodes.specs.Nodes.{One, Planted, Apart, Replants}
-
-pub apart-self : (w : List ℕ) → Apart w w
-apart-self w = record { size = refl; low = λ j a b. refl; high = λ j a. refl }
-
-pub apart-then : {u v w : List ℕ} → Apart u v → Apart v w → Apart u w
-apart-then a b = record { size = b.size ∙ a.size; low = λ j l h. b.low j l h ∙ a.low j l h; high = λ j l. b.high j l ∙ a.high j l }
 
 pub apart-rest : {w w' : List ℕ} → Apart w w' → beyond w' ≡ beyond w
 apart-rest {w} {w'} a = beyond-same w w' a.size (λ j l. a.high j (omega arith))

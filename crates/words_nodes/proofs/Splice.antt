@@ -12,49 +12,16 @@ use Rattle.def_tree.specs.Combine.{re_arity}
 use Rattle.def_tree.proofs.Place.{plant-flat}
 use Rattle.def_tree.proofs.Whole.{Whole as Whole', whole_drop}
 use Rattle.def_pass.specs.Tree.{void_zero}
-use Rattle.words.specs.Tab.{tab-suc, tab-ext, set-tab}
 use Rattle.words.specs.Layout.{core_from, node_of, run, tree}
-use Rattle.words.specs.Moved.{Moved, Put}
-use Rattle.words.proofs.Nodes.{core-same, tree-length, tree-at, run_length, run-at, unpack-kind, unpack-form, unpack-arity}
+use Rattle.words.specs.Moved.{Moved}
+use Rattle.words.proofs.Nodes.{core-same, tree-length, tree-at, run_length, run-at}
 use Rattle.words_scopes.specs.State.{Names, Whole, value_of, run_of}
 use Rattle.words_nodes.specs.Nodes.{tree_from, Trees, Planted, Child, put_at, cut_at, Apart, NodePut, Slid, Replants}
 use Rattle.words_nodes.proofs.Lists.{spliced, names-append, names-take, names-drop, names-set}
 use Rattle.words_nodes.proofs.Trees.{one-whole, flat_append, length-flat, flat-from, put_one, cut-one, behind-le, child-lt, child-in, whole-trees}
 use Rattle.words_nodes.proofs.Words.{tree-whole}
-use Rattle.words_nodes.proofs.Apart.{apart-then, replants}
-
--- one node stored
-module _ (w : List ℕ) (k v x : ℕ) (long : 16384 ≤ length w) (l : k < 1024) where
-  abbrev p : ℕ
-  p = 16 + k * 2
-
-  abbrev w₁ : List ℕ
-  w₁ = set w p v
-
-  keeps : (j : ℕ) → (j ≡ p → ⊥) → (j ≡ p + 1 → ⊥) → get_or (set w₁ (p + 1) x) j 0 ≡ get_or w j 0
-  keeps j a b = get_or-set_other w₁ (p + 1) j x 0 b ∙ get_or-set_other w p j v 0 a
-
-  pub node-put : NodePut w (set w₁ (p + 1) x) k (core (v % 64) (v / 64 % 32) (v / 2048 % 65536) x)
-  node-put =
-      let a : get_or (set w₁ (p + 1) x) p 0 ≡ v = get_or-set_other w₁ (p + 1) p x 0 (λ e. omega arith) ∙ get_or-set_same w p v 0 (omega arith) in
-      let b : get_or (set w₁ (p + 1) x) (p + 1) 0 ≡ x = get_or-set_same w₁ (p + 1) x 0 (simp length-set (omega arith)) in
-      record {
-        apart = record { size = simp length-set; low = λ j y z. keeps j (λ e. omega arith) (λ e. omega arith); high = λ j y. keeps j (λ e. omega arith) (λ e. omega arith) };
-        count = keeps 0 (λ e. omega arith) (λ e. omega arith);
-        here = rw (a, b) refl;
-        other = λ j d. core-same w (set w₁ (p + 1) x) (16 + j * 2) (16 + j * 2) (keeps (16 + j * 2) (λ e. d (omega arith)) (λ e. omega arith)) (keeps (16 + j * 2 + 1) (λ e. omega arith) (λ e. d (omega arith)));
-      }
-
--- the tree with a node stored, and with one more
-pub put-tree : {w w' : List ℕ} {k : ℕ} {c : Core} → NodePut w w' k c → k < get_or w 0 0 → tree w' ≡ set (tree w) k c
-unfolding tree
-put-tree {w} {w'} {k} {c} s l = rw s.count (set-tab (get_or w 0 0) (λ j. node_of w j) (λ j. node_of w' j) k c l s.here (λ j a d. s.other j d))
-
-pub add-tree : {w u : List ℕ} {c : Core} (w' : List ℕ) → NodePut w u (get_or w 0 0) c → get_or w' 0 0 ≡ get_or w 0 0 + 1 → ((j : ℕ) → node_of w' j ≡ node_of u j) → tree w' ≡ tree w ++ (c ∷ [])
-unfolding tree
-add-tree {w} {u} {c} w' s e o =
-    let n : ℕ = get_or w 0 0 in
-    rw (e, tab-suc n (λ k. node_of w' k), o n, s.here) (ap (λ (l : List Core). l ++ (c ∷ [])) (tab-ext n (λ k. node_of w' k) (λ k. node_of w k) (λ k l. o k ∙ s.other k (λ q. omega arith))))
+use Rattle.words.proofs.Stored.{apart-then, node-put, put-tree}
+use Rattle.words_nodes.proofs.Apart.{replants}
 
 -- in the place of `old` nodes from i on stand vs
 pub record Spliced (w w' : List ℕ) (i old : ℕ) (vs : List Core) : Type 0 where
@@ -167,31 +134,19 @@ module _ {w u : List ℕ} {i old m : ℕ} (a : Slid w u i old m) (l : i + old �
         high = λ j q. let e : i + length (run w base at m) + j ≡ i + m + j = omega arith in rw e (copied-high src i m s f' (i + m + j) (omega arith) ∙ a.high j q);
       }
 
-pub void-spliced : {w u v : List ℕ} {i old : ℕ} → Slid w u i old 2 → i + old ≤ get_or w 0 0 → get_or w 0 0 + 2 ≤ 1024 + old → Put u v (16 + i * 2) (2078 ∷ 0 ∷ 22 ∷ 0 ∷ []) → Spliced w v i old (flat void_zero [])
-void-spliced {w} {u} {v} {i} {old} a l f s = record {
-  apart = apart-then a.apart (record { size = s.size; low = λ j x y. s.low j (omega arith); high = λ j x. s.high j (omega arith) });
-  count = s.low 0 (omega arith) ∙ a.count;
-  low = λ j q. core-same u v (16 + j * 2) (16 + j * 2) (s.low (16 + j * 2) (omega arith)) (s.low (16 + j * 2 + 1) (omega arith)) ∙ a.low j (omega arith);
+pub void-spliced : {w u v x : List ℕ} {i old : ℕ} → Slid w u i old 2 → i + old ≤ get_or w 0 0 → NodePut u v i (core 30 0 1 0) → NodePut v x (i + 1) (core 22 0 0 0) → Spliced w x i old (flat void_zero [])
+void-spliced {w} {u} {v} {x} {i} {old} a l s t = record {
+  apart = apart-then a.apart (apart-then s.apart t.apart);
+  count = t.count ∙ s.count ∙ a.count;
+  low = λ j q. t.other j (λ e. omega arith) ∙ s.other j (λ e. omega arith) ∙ a.low j (omega arith);
   new = new;
-  high = λ j q. core-same u v (16 + (i + 2 + j) * 2) (16 + (i + 2 + j) * 2) (s.high (16 + (i + 2 + j) * 2) (omega arith)) (s.high (16 + (i + 2 + j) * 2 + 1) (omega arith)) ∙ a.high j q;
+  high = λ j q. t.other (i + 2 + j) (λ e. omega arith) ∙ s.other (i + 2 + j) (λ e. omega arith) ∙ a.high j q;
 }
   where
-    new : (j : ℕ) → j < 2 → node_of v (i + j) ≡ get_or (flat void_zero []) j no_core
-    new zero h = let e : 16 + (i + 0) * 2 ≡ 16 + i * 2 + 0 = omega arith in let e1 : 16 + i * 2 + 0 + 1 ≡ 16 + i * 2 + 1 = omega arith in rw (e, s.here 0 (omega arith), e1, s.here 1 (omega arith)) refl
-    new (suc zero) h = let e : 16 + (i + 1) * 2 ≡ 16 + i * 2 + 2 = omega arith in let e1 : 16 + i * 2 + 2 + 1 ≡ 16 + i * 2 + 3 = omega arith in rw (e, s.here 2 (omega arith), e1, s.here 3 (omega arith)) refl
+    new : (j : ℕ) → j < 2 → node_of x (i + j) ≡ get_or (flat void_zero []) j no_core
+    new zero h = let e : i + 0 ≡ i = omega arith in rw e (t.other i (λ q. omega arith) ∙ s.here)
+    new (suc zero) h = t.here
     new (suc (suc j)) h = absurd (omega arith)
-
-pub node-stored : (w : List ℕ) (k kind form arity num : ℕ) → 16384 ≤ length w → k < 1024 → kind < 64 → form < 32 → arity < 65536 → NodePut w (set (set w (16 + k * 2) (kind + 64 * (form + 32 * arity))) (16 + k * 2 + 1) num) k (core kind form arity num)
-node-stored w k kind form arity num long l a b c =
-    rw (unpack-kind kind form arity a b, unpack-form kind form arity a b, unpack-arity kind form arity a b c) at (node-put w k (kind + 64 * (form + 32 * arity)) num long l)
-
-pub node-added : (w u : List ℕ) {c : Core} → 16384 ≤ length w → NodePut w u (get_or w 0 0) c → (tree (set u 0 (get_or w 0 0 + 1)) ≡ tree w ++ (c ∷ [])) × Apart w (set u 0 (get_or w 0 0 + 1))
-node-added w u long s =
-    let v : ℕ = get_or w 0 0 + 1 in
-    let o : (j : ℕ) → 0 < j → get_or (set u 0 v) j 0 ≡ get_or u j 0 = λ j a. get_or-set_other u 0 j v 0 (λ e. omega arith) in (
-      add-tree (set u 0 v) s (get_or-set_same u 0 v 0 (omega (arith, s.apart.size))) (λ j. core-same u (set u 0 v) (16 + j * 2) (16 + j * 2) (o (16 + j * 2) (omega arith)) (o (16 + j * 2 + 1) (omega arith))),
-      apart-then s.apart (record { size = simp length-set; low = λ j a b. o j (omega arith); high = λ j a. o j (omega arith) }),
-    )
 
 -- a recorded value in the place of the tree at i
 run-one : (xs : List Core) → 0 < length xs → run_of (value_of xs) ≡ xs → flat (first_t (plant xs)) [] ≡ xs

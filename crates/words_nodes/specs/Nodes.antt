@@ -5,7 +5,8 @@ use Rattle.def_tree.specs.Base.{pick}
 use Rattle.def_tree.specs.Tree.{Tree, Forest, count, counts, Core, no_core, flat, flats, take_f, plant, first_t}
 use Rattle.def_tree.specs.Combine.{re_arity}
 use Rattle.def_pass.specs.Tree.{height}
-use Rattle.words.specs.Layout.{Agree, node_of, run, tree, beyond}
+use Rattle.words.specs.Layout.{node_of, run, tree, beyond}
+pub use Rattle.words.specs.Node.{Apart, NodePut}
 use Rattle.words_scopes.specs.State.{Good, Others, stack}
 use Rattle.refusal.specs.declared.Refusal.{Refusal}
 use Rattle.refusal.specs.Number.{number}
@@ -47,19 +48,6 @@ put_at xs i e = take i xs ++ flat e (drop (i + count (tree_from xs i)) xs)
 -- without the tree at i, of which the node at q has one child less
 unfoldable pub cut_at : List Core → ℕ → ℕ → List Core
 cut_at xs q i = set (take i xs ++ drop (i + count (tree_from xs i)) xs) q (re_arity ((get_or xs q no_core).arity - 1) (get_or xs q no_core))
-
--- no word but those of the tree has changed
-pub record Apart (w w' : List ℕ) : Type 0 where
-  pub size : length w' ≡ length w
-  pub low : Agree 1 16 w w'
-  pub high : (j : ℕ) → 2064 ≤ j → get_or w' j 0 ≡ get_or w j 0
-
--- node k was stored as c
-pub record NodePut (w w' : List ℕ) (k : ℕ) (c : Core) : Type 0 where
-  pub apart : Apart w w'
-  pub count : get_or w' 0 0 ≡ get_or w 0 0
-  pub here : node_of w' k ≡ c
-  pub other : (j : ℕ) → (j ≡ k → ⊥) → node_of w' j ≡ node_of w j
 
 -- the nodes behind the first i + old now stand behind the first i + m, and are counted so
 pub record Slid (w w' : List ℕ) (i old m : ℕ) : Type 0 where

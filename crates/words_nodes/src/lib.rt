@@ -1,15 +1,17 @@
 // Operations on the tree's nodes as they stand in the working words. Each contract speaks of the list of nodes.
 #![tactic(auto)]
 
-ghost use Rattle.std.specs.Prelude.{◌≡◌, ℕ, ◌+◌, ◌*◌, ◌-◌, ◌≤◌, ◌<◌, length, drop, [], ◌∷◌, ◌++◌};
-ghost use Rattle.def_tree.specs.Tree.{count, core};
+ghost use Rattle.std.specs.Prelude.{◌≡◌, ◌+◌, ◌*◌, ◌-◌, ◌≤◌, ◌<◌, length, drop};
+ghost use Rattle.def_tree.specs.Tree.{count};
 ghost use Rattle.def_pass.specs.Tree.{has_this, void_zero};
 ghost use Rattle.words.specs.Layout.{tree, run};
 ghost use Rattle.words_scopes.specs.State.{Whole};
-ghost use Rattle.words_nodes.specs.Nodes.{Planted, Trees, Child, tree_from, value_from, put_at, cut_at, Measured, Swapped, Apart, NodePut, Slid, Replants, size};
+ghost use Rattle.words_nodes.specs.Nodes.{Planted, Trees, Child, tree_from, value_from, put_at, cut_at, Measured, Swapped, Slid, Replants, size};
 
+use def_file::form;
+use def_file::kind::Kind;
 use refusal::Refusal;
-use words::{Run, arity_at, kind_at, layout, put, shift};
+use words::{Node, Run, arity_at, kind_at, layout, node_at, put_node, shift};
 
 // The index behind the subtree at i.
 pub fn skip(w: &[u32], i: usize) -> usize
@@ -35,16 +37,16 @@ pub fn has_this(w: &[u32], i: usize) -> bool
     let mut more: usize = 1;
     // A while: the index moves by a subtree's length.
     while 0 < more {
-        let k = kind_at(w, at);
-        if k == 26 {
-            return true;
-        }
-        if k == 39 || k == 7 {
-            at = skip(w, at);
-            more -= 1;
-        } else {
-            more = more - 1 + arity_at(w, at) as usize;
-            at += 1;
+        match kind_at(w, at) {
+            Kind::This => return true,
+            Kind::FnExpr | Kind::FnDecl => {
+                at = skip(w, at);
+                more -= 1;
+            }
+            _ => {
+                more = more - 1 + arity_at(w, at) as usize;
+                at += 1;
+            }
         }
     }
     false
@@ -58,31 +60,12 @@ pub fn within_height(w: &[u32], base: usize, at: usize, end: usize, left: u32) -
     if left == 0 {
         return None;
     }
-    let n = w[base + at * 2] / 2048 % 65536;
+    let n = node_at(w, base, at).arity;
     let mut j = at + 1;
     for _k in 0..n {
         j = within_height(w, base, j, end, left - 1)?;
     }
     Some(j)
-}
-
-// Stores node k.
-pub fn put_node(w: &mut [u32], k: usize, kind: u32, form: u32, arity: u32, num: u32)
-    requires { (16384 ≤ length w.old) × (k < 1024) × (kind < 64) × (form < 32) × (arity < 65536) }
-    ensures { NodePut w.old w.new k (core kind form arity num) }
-{
-    w[layout::NODES + k * 2] = kind + 64 * (form + 32 * arity);
-    w[layout::NODES + k * 2 + 1] = num;
-}
-
-// Appends a node.
-pub fn add_node(w: &mut [u32], kind: u32, form: u32, arity: u32, num: u32)
-    requires { (16384 ≤ length w.old) × (size w.old < 1024) × (kind < 64) × (form < 32) × (arity < 65536) }
-    ensures { (tree w.new ≡ tree w.old ++ (core kind form arity num ∷ [])) × (Apart w.old w.new) }
-{
-    let n = w[layout::NODE_COUNT] as usize;
-    put_node(w, n, kind, form, arity, num);
-    w[layout::NODE_COUNT] = (n + 1) as u32;
 }
 
 // The nodes behind the `old` from i on move, so that there is place for m.
@@ -127,7 +110,7 @@ pub fn replace_at(w: &mut [u32], i: usize, p: u32, base: usize, r: Run) -> Resul
     Ok(())
 }
 
-// The subtree at i, at depth p, gives way to `void 0`: kind 30 with one child, kind 22.
+// The subtree at i, at depth p, gives way to `void 0`.
 pub fn put_void(w: &mut [u32], i: usize, p: u32) -> Result<(), Refusal>
     requires { (Planted w.old) × (i < size w.old) }
     ensures { Swapped result w.old w.new p i void_zero }
@@ -141,7 +124,20 @@ pub fn put_void(w: &mut [u32], i: usize, p: u32) -> Result<(), Refusal>
         return Err(Refusal::Room);
     }
     slide(w, i, old, 2);
-    put(w, layout::NODES + i * 2, [2078, 0, 22, 0]);
+    let void = Node {
+        kind: Kind::Unary,
+        form: form::VOID,
+        arity: 1,
+        num: 0,
+    };
+    let zero = Node {
+        kind: Kind::LITERAL,
+        form: 0,
+        arity: 0,
+        num: 0,
+    };
+    put_node(w, i, void);
+    put_node(w, i + 1, zero);
     Ok(())
 }
 

@@ -19,7 +19,8 @@ pub fn prevent(b: &mut Binding)
     b.prevented = true;
 }
 
-// Prevents the binding if x is its identifier or its value, and else leaves it.
+// Prevents the binding if x is its identifier or its value, and else leaves it. The scope document names a binding behind a reference and a lent
+// slice of bindings, each with its fact, so that this and `mark_all` are two functions.
 pub fn mark(b: &mut Binding, x: u32)
     ensures { b.new ≡ marked x b.old }
 {
@@ -35,13 +36,4 @@ pub fn mark_all(bs: &mut [Binding], x: u32)
     for b in bs.iter_mut() {
         mark(b, x);
     }
-}
-
-// The same for an array by value: what a caller above cites.
-pub fn all_marked(bs: [Binding; 8], x: u32) -> [Binding; 8]
-    ensures { result ≡ map (marked x) bs }
-{
-    let mut a = bs;
-    mark_all(&mut a, x);
-    a
 }

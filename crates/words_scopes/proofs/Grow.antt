@@ -224,10 +224,38 @@ module _ (w t v : List ℕ) (g : Good w) (h : get_or w 1 0 + get_or w 3 0 < 256)
   grown b e = (subst (λ (v : VarInfo). Becomes w w' (append v (stack w))) e pushed, pushed-past, count, pushed-consts)
 
 -- a binding without a value, by its words and by its record
-pub bare-is : (i k a p u s h c : ℕ) (r : Record) → var_type_of k ≡ type_of r.kind → alias_at a ≡ alias_of r.alias → p ≡ from_bool r.prevented → u ≡ from_bool r.undefined → s ≡ from_bool r.this_sensitive → h ≡ from_bool r.hoisted
-    → bare_of i k a r.reads p u s h c ≡ recorded i r c
-bare-is i k a p u s h c r ek ea ep eu es eh =
-    bind-eq refl ek ea refl (ap yes ep ∙ yes-from_bool r.prevented) (ap yes eu ∙ yes-from_bool r.undefined) refl (ap yes es ∙ yes-from_bool r.this_sensitive) (ap yes eh ∙ yes-from_bool r.hoisted) refl
+pub bare-is : (i k a c : ℕ) (r : Record) → var_type_of k ≡ type_of r.kind → alias_at a ≡ alias_of r.alias
+    → bare_of i k a r.reads (from_bool r.prevented) (from_bool r.undefined) (from_bool r.this_sensitive) (from_bool r.hoisted) c ≡ recorded i r c
+bare-is i k a c r ek ea =
+    bind-eq refl ek ea refl (yes-from_bool r.prevented) (yes-from_bool r.undefined) refl (yes-from_bool r.this_sensitive) (yes-from_bool r.hoisted) refl
+
+-- ten words wiped, the first of them stored, and the next seven
+pub filled : {u z v : List ℕ} {p id k a n q d s h : ℕ} → p + 10 ≤ length u → Zeroed u z p 10 → Put (set z p id) v (p + 1) (k ∷ a ∷ n ∷ q ∷ d ∷ s ∷ h ∷ []) → Put u v p (id ∷ k ∷ a ∷ n ∷ q ∷ d ∷ s ∷ h ∷ 0 ∷ 0 ∷ [])
+filled {u} {z} {v} {p} {id} {k} {a} {n} {q} {d} {s} {h} long zs one = record {
+  size = one.size ∙ length-set z p id ∙ zs.size;
+  here = here;
+  low = λ j l. one.low j (omega arith) ∙ get_or-set_other z p j id 0 (λ e. omega arith) ∙ zs.low j l;
+  high = λ j l. one.high j (omega arith) ∙ get_or-set_other z p j id 0 (λ e. omega arith) ∙ zs.high j l;
+}
+  where
+    mid : (j : ℕ) → j < 7 → get_or v (p + suc j) 0 ≡ get_or (k ∷ a ∷ n ∷ q ∷ d ∷ s ∷ h ∷ []) j 0
+    mid j l = let e : p + suc j ≡ p + 1 + j = omega arith in rw e (one.here j l)
+
+    end : (j : ℕ) → 8 ≤ j → j < 10 → get_or v (p + j) 0 ≡ 0
+    end j l m = one.high (p + j) (omega arith) ∙ get_or-set_other z p (p + j) id 0 (λ e. omega arith) ∙ zs.here j m
+
+    here : (j : ℕ) → j < 10 → get_or v (p + j) 0 ≡ get_or (id ∷ k ∷ a ∷ n ∷ q ∷ d ∷ s ∷ h ∷ 0 ∷ 0 ∷ []) j 0
+    here zero l = let e : p + 0 ≡ p = omega arith in rw e (one.low p (omega arith) ∙ get_or-set_same z p id 0 (omega (arith, zs.size)))
+    here (suc zero) l = mid 0 (omega arith)
+    here (suc (suc zero)) l = mid 1 (omega arith)
+    here (suc (suc (suc zero))) l = mid 2 (omega arith)
+    here (suc (suc (suc (suc zero)))) l = mid 3 (omega arith)
+    here (suc (suc (suc (suc (suc zero))))) l = mid 4 (omega arith)
+    here (suc (suc (suc (suc (suc (suc zero)))))) l = mid 5 (omega arith)
+    here (suc (suc (suc (suc (suc (suc (suc zero))))))) l = mid 6 (omega arith)
+    here (suc (suc (suc (suc (suc (suc (suc (suc zero)))))))) l = end 8 (omega arith) l
+    here (suc (suc (suc (suc (suc (suc (suc (suc (suc zero))))))))) l = end 9 (omega arith) l
+    here (suc (suc (suc (suc (suc (suc (suc (suc (suc (suc j)))))))))) l = absurd (omega arith)
 
 -- the first n bindings are kept
 module _ {w : List ℕ} (y : List ℕ) (g : Good w) (n : ℕ) (h : n ≤ get_or w 1 0) (bs : Agree 2064 3088 w y) (bt : Agree 4112 (4112 + n * 10) w y) where

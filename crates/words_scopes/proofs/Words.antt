@@ -1,5 +1,5 @@
 -- How reads and stores of the words show in the stack of scopes. Assumes nothing.
-use Rattle.std.proofs.Common.{◌≡◌, ℕ, zero, suc, ◌+◌, ◌-◌, ◌*◌, ◌%◌, ◌<◌, ◌≤◌, Bool, true, false, not, ◌&&◌, ◌||◌, T, eqb, List, [], ◌∷◌, ◌++◌, map, length, get_or, drop, set, sym, refl, ap, ◌∙◌, subst, ⊎_elim, eq-or-lt_of_le, arith, length-drop, length-set, get_or-drop, get_or-set_other, get_or-set_same, drop-set-lt, eq-eqb, ne_eqb}
+use Rattle.std.proofs.Common.{◌≡◌, ℕ, zero, suc, ◌+◌, ◌-◌, ◌*◌, ◌%◌, ◌<◌, ◌≤◌, Bool, true, false, not, ◌&&◌, ◌||◌, T, eqb, List, [], ◌∷◌, ◌++◌, map, length, get_or, take, drop, set, min, sym, refl, ap, ◌∙◌, subst, ⊎_elim, eq-or-lt_of_le, arith, length-drop, length-set, get_or-drop, get_or-take, get_or-set_other, get_or-set_same, drop-set-lt, eq-eqb, ne_eqb}
 use Rattle.std.proofs.Common as std
 use mathlib.Core.Option.{Option, none, some}
 use Rattle.words_prevent.specs.Mark as marks
@@ -8,7 +8,7 @@ use Rattle.def_tree.specs.Base.{pick}
 use Rattle.def_tree.specs.Tree.{Tree, Core, no_core}
 use Rattle.def_pass.specs.Tree.{is_ident, num}
 use Rattle.def_pass.specs.Scope.{VarType, VarInfo, Stack, Free, change, prevent, count_one, prevent_inline, prevent_one, value_is, has_in}
-use Rattle.words.specs.Tab.{tab, length-tab, get_d-tab, tab-ext, set-tab, take-tab, sum-ext, sum-part, sum-le, below_or_not}
+use Rattle.words.specs.Tab.{tab, sum, length-tab, get_d-tab, tab-ext, set-tab, take-tab, sum-ext, sum-part, sum-le, below_or_not}
 use Rattle.words.specs.Flags.{flag_at}
 use Rattle.words.specs.Layout.{yes, Agree, core_from, tree, beyond}
 use Rattle.words.proofs.Flags.{flag_same}
@@ -525,6 +525,12 @@ module _ {w₀ w : List ℕ} {x k : ℕ} (s : Swept w₀ w x k) where
       ap (λ (m : ℕ). get_or bs m no_record) (omega arith) ∙ f j (omega arith) (omega arith)
       ∙ ap (λ (b : VarInfo). marks.marked x (record { id = b.id; value = name_of b.value; prevented = b.inline_prevented })) (s.left (k + j) (omega arith) h)
 
+-- the first of them, as many as there are bindings
+pub ahead-take : (w : List ℕ) (x k : ℕ) (bs : List Binding) {e : ℕ} → e ≡ min (get_or w 1 0 - k) 8 → Ahead w x k 0 bs → Ahead w x k 0 (take e bs)
+ahead-take w x k bs {e} m f j l h =
+    let z : 0 + j ≡ j = omega arith in
+    rw z (get_or-take e bs j no_record (omega arith)) ∙ rw z at (f j l h)
+
 pub ahead-next : (w : List ℕ) (x k i : ℕ) (bs : List Binding) → Ahead w x k i bs → Ahead w x (k + 1) (i + 1) bs
 ahead-next w x k i bs f j l h =
     ap (λ (m : ℕ). get_or bs m no_record) (omega arith) ∙ f (j + 1) (omega arith) (omega arith) ∙ ap (λ (m : ℕ). marks.marked x (record_at w m)) (omega arith)
@@ -551,3 +557,10 @@ swept_all {w₀} {w} x g s =
     rw (s.kept.counts 1 (omega arith) (omega arith)) (tab-ext n (λ k. bind_at w k) (λ k. prevent_one x (bind_at w₀ k)) s.done ∙ sym (map-tab (prevent_one x) n (λ k. bind_at w₀ k))) in
     kept-becomes g s.kept (map (prevent_one x) (tab n (λ k. bind_at w₀ k))) (prevent_inline x (split (heads w₀) (flags w₀) (tab n (λ k. bind_at w₀ k)) (consts w₀))) (runs-good g s.runs s.kept) new
     (laws.prevent-split x (heads w₀) (flags w₀) (tab n (λ k. bind_at w₀ k)) (consts w₀))
+
+-- the lengths of constants and of bindings, as their tables have them
+pub words-const : (w : List ℕ) (k : ℕ) → sum (λ j. get_or w (6673 + j * 2) 0) k ≡ coff w k
+words-const w k = sum-ext (λ j. get_or w (6673 + j * 2) 0) (λ j. clen_at w j) k (λ j l. let e : 6673 + j * 2 ≡ 6672 + j * 2 + 1 = omega arith in ap (λ (i : ℕ). get_or w i 0) e)
+
+pub words-bind : (w : List ℕ) (k : ℕ) → sum (λ j. get_or w (4120 + j * 10) 0) k ≡ off w k
+words-bind w k = sum-ext (λ j. get_or w (4120 + j * 10) 0) (λ j. len_at w j) k (λ j l. let e : 4120 + j * 10 ≡ 4112 + j * 10 + 8 = omega arith in ap (λ (i : ℕ). get_or w i 0) e)

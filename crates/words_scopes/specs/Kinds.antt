@@ -52,4 +52,4 @@ IsTypeWord t n = (var_type_of n ≡ type_of t) × (n < 4)
 
 -- a number is the word of a kind of scope
 abbrev pub IsKindWord : ScopeKind → ℕ → Type 0
-IsKindWord k n = scope_kind_of n ≡ kind_of k
+IsKindWord k n = (scope_kind_of n ≡ kind_of k) × (n < 5)

@@ -11,6 +11,7 @@ pub use Rattle.words_scopes.specs.Kinds.{var_type_of, alias_at, scope_kind_of}
 use Rattle.words_scopes.specs.Kinds.{type_of, alias_of}
 use Rattle.words_scopes.specs.declared.Record.{Record}
 use Rattle.def_pass.specs.Scope.{ScopeKind, VarInfo, Scope, Stack, Free, has_in, value_is}
+use Rattle.std.specs.Int.{from_bool}
 use Rattle.words.specs.Tab.{tab, sum}
 use Rattle.words.specs.Flags.{flag_at}
 use Rattle.words.specs.Layout.{yes, Agree, run, tree, beyond}
@@ -55,6 +56,14 @@ bare_of i k a r p u s h c = record { id = i; kind = var_type_of k; alias_of = al
 -- a binding without a value, by its record
 abbrev pub recorded : ℕ → Record → ℕ → VarInfo
 recorded i r c = record { id = i; kind = type_of r.kind; alias_of = alias_of r.alias; read_cnt = r.reads; inline_prevented = r.prevented; is_undefined = r.undefined; value = none; this_sensitive = r.this_sensitive; hoisted = r.hoisted; count = c }
+
+-- the words of a record, by those of its kind and its alias
+abbrev pub words_of : Record → ℕ → ℕ → List ℕ
+words_of r kind alias = kind ∷ alias ∷ r.reads ∷ from_bool r.prevented ∷ from_bool r.undefined ∷ from_bool r.this_sensitive ∷ from_bool r.hoisted ∷ []
+
+-- the words xs stand for a record
+abbrev pub AreWords : Record → List ℕ → Type 0
+AreWords r xs = (xs ≡ words_of r (slice_index_or xs 0 0) (slice_index_or xs 1 0)) × (var_type_of (slice_index_or xs 0 0) ≡ type_of r.kind) × (alias_at (slice_index_or xs 1 0) ≡ alias_of r.alias)
 
 -- r says what the words of record k say, whether it is a binding's or past the last
 pub record Recorded (w : List ℕ) (k : ℕ) (r : Record) : Type 0 where

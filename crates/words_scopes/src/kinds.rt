@@ -1,7 +1,9 @@
-// The kinds of bindings and of scopes, and the words that stand for them.
+// The kinds of bindings and of scopes, and the words that stand for them. Back from a word by `from_word` and not by `From`: a number past the last
+// case is taken for that, which a conversion does not say; `Kind` of def_file holds such a number.
 
 ghost use Rattle.std.specs.Prelude.{◌≡◌};
-ghost use Rattle.words_scopes.specs.Kinds.{type_of, alias_of, var_type_of, alias_at, IsTypeWord, IsKindWord};
+ghost use Rattle.def_pass.specs.Scope.{is_param, is_var, is_const};
+ghost use Rattle.words_scopes.specs.Kinds.{type_of, alias_of, kind_of, var_type_of, alias_at, scope_kind_of, IsTypeWord, IsKindWord};
 
 #[derive(Clone, Copy, Debug, PartialEq, Eq)]
 pub enum VarDeclKind {
@@ -10,6 +12,7 @@ pub enum VarDeclKind {
     Const,
 }
 
+// A parameter's, or a declaration's: neither is the lack of the other, so no Option.
 #[derive(Clone, Copy, Debug, PartialEq, Eq)]
 pub enum VarType {
     Param,
@@ -26,7 +29,21 @@ pub enum ScopeKind {
 }
 
 impl ScopeKind {
+    // An associated constant, and `Scope::new` below, where today `Default` might stand: the scope document names them.
     pub const DEFAULT: ScopeKind = ScopeKind::Fn { named: false };
+
+    // The kind that a word stands for.
+    pub fn from_word(n: u32) -> ScopeKind
+        ensures { kind_of result ≡ scope_kind_of n }
+    {
+        match n {
+            0 => ScopeKind::Cond,
+            1 => ScopeKind::Loop,
+            2 => ScopeKind::Block,
+            3 => ScopeKind::Fn { named: false },
+            _ => ScopeKind::Fn { named: true },
+        }
+    }
 }
 
 // A scope that has no records yet.
@@ -54,6 +71,27 @@ impl VarType {
             2 => VarType::Declared(VarDeclKind::Let),
             _ => VarType::Declared(VarDeclKind::Const),
         }
+    }
+
+    // Is it a parameter's.
+    pub fn is_param(self) -> bool
+        ensures { result ≡ is_param (type_of self) }
+    {
+        matches!(self, VarType::Param)
+    }
+
+    // Is it a `var`'s.
+    pub fn is_var(self) -> bool
+        ensures { result ≡ is_var (type_of self) }
+    {
+        matches!(self, VarType::Declared(VarDeclKind::Var))
+    }
+
+    // Is it the type of a constant.
+    pub fn is_const(self) -> bool
+        ensures { result ≡ is_const (type_of self) }
+    {
+        matches!(self, VarType::Declared(VarDeclKind::Const))
     }
 }
 
@@ -84,7 +122,7 @@ impl From<ScopeKind> for u32 {
     }
 }
 
-// The word that stands for the type of the binding that a value names, if it names one.
+// The word that stands for the type of the binding that a value names, if it names one. No `From`: Option and u32 are both of the library.
 pub fn alias_word(alias: Option<VarType>) -> u32
     ensures { alias_at result ≡ alias_of alias }
 {

@@ -1,19 +1,22 @@
-// The scope state in lent words: leaf functions whose contracts speak of the definition's stack of scopes.
+// The scope state in lent words: leaf functions whose contracts speak of the definition's stack of scopes. The words stay a lent slice and `Good` a
+// clause: a struct around a `&mut` makes its lender forget the words unless each function promises that the same slice comes back, so that one clause
+// goes and another comes, and its model is equal to the slice only by a proof.
 #![tactic(auto)]
 
-ghost use Rattle.std.specs.Prelude.{◌≡◌, ◌+◌, ◌-◌, ◌*◌, ◌<◌, ◌≤◌, not, ◌&&◌, ◌∷◌, length, slice_index, IfSome};
+ghost use Rattle.std.specs.Prelude.{◌≡◌, ℕ, ◌+◌, ◌-◌, ◌*◌, ◌<◌, ◌≤◌, not, ◌&&◌, ◌∷◌, length, slice_index, IfSome};
 ghost use Rattle.std.proofs.Math.Option.{none};
-ghost use Rattle.def_pass.specs.Scope.{prevent, count_one, change, prevent_one, prevent_inline, append, fresh, new_scope};
+ghost use Rattle.def_pass.specs.Scope.{prevent, defined, count_one, change, prevent_one, prevent_inline, append, fresh, new_scope};
 ghost use Rattle.words_prevent.specs.Mark.{marked};
 ghost use Rattle.words.specs.Place.{placed};
 ghost use Rattle.words_scopes.specs.Kinds.{type_of, alias_of, kind_of};
-ghost use Rattle.words_scopes.specs.State.{Good, Past, Becomes, stack, heads, binds, place, off, bind_at, name_of, hit_at, Window, recorded, Recorded, drop_inner};
+ghost use Rattle.words_scopes.specs.State.{AreWords, Good, Past, Becomes, stack, heads, binds, place, off, bind_at, name_of, hit_at, Window, recorded, Recorded, drop_inner};
 ghost use Rattle.words_scopes.specs.Index.{Entered, Restored};
 
+use def_file::kind::Kind;
 use kinds::{ScopeKind, VarType, alias_from_word, alias_word};
 use std::num::wrapping_add_u32;
-use words::{first_at, layout, merge, put, wipe};
-use words_prevent::{Binding, all_marked};
+use words::{first_at, layout, merge, node_at, put, sum_at, wipe};
+use words_prevent::{Binding, mark_all};
 
 pub mod kinds;
 
@@ -29,17 +32,50 @@ pub struct Record {
     pub hoisted: bool,
 }
 
+impl Record {
+    // That of a binding that was not read yet.
+    pub fn fresh(kind: VarType, alias: Option<VarType>, prevented: bool, undefined: bool) -> Record
+        ensures { (i : ℕ) → recorded i result 0 ≡ fresh i (type_of kind) (alias_of alias) prevented undefined none }
+    {
+        Record {
+            kind,
+            alias,
+            reads: 0,
+            prevented,
+            undefined,
+            this_sensitive: false,
+            hoisted: false,
+        }
+    }
+
+    // The words that stand for it, from the kind's on; `record_at` is the way back.
+    pub fn words(self) -> [u32; 7]
+        ensures { AreWords self result }
+    {
+        [
+            u32::from(self.kind),
+            alias_word(self.alias),
+            self.reads,
+            u32::from(self.prevented),
+            u32::from(self.undefined),
+            u32::from(self.this_sensitive),
+            u32::from(self.hoisted),
+        ]
+    }
+}
+
 // The innermost binding of x, if there is one.
 pub fn find_binding(w: &[u32], x: u8) -> Option<usize>
     requires { Good w.now }
     ensures place { placed result ≡ place x (heads w.now) (binds w.now) }
     ensures bound { IfSome result (λ k. k < slice_index w.now 1) }
 {
-    let n = w[layout::INDEX + x as usize] as usize;
-    if n == 0 { None } else { Some(n - 1) }
+    let n = w[layout::INDEX + usize::from(x)] as usize;
+    n.checked_sub(1)
 }
 
-// The same by a walk from the current scope to the root.
+// The same by a walk from the current scope to the root, without the index: scope_calls sets both side by side. `find_constant` of scope_constants is
+// the same walk, but goes on past a constant without a value.
 pub fn find_by_walk(w: &[u32], x: u8) -> Option<usize>
     requires { Good w.now }
     ensures place { placed result ≡ place x (heads w.now) (binds w.now) }
@@ -57,7 +93,7 @@ pub fn find_by_walk(w: &[u32], x: u8) -> Option<usize>
     None
 }
 
-// Marks the innermost binding of x, if there is one.
+// Marks the innermost binding of x, if there is one. This and the next two are of one field each, with a definition each.
 pub fn prevent_found(w: &mut [u32], x: u8)
     requires { Good w.old }
     ensures { Becomes w.old w.new (change x prevent (stack w.old)) }
@@ -66,6 +102,16 @@ pub fn prevent_found(w: &mut [u32], x: u8)
         return;
     };
     w[layout::BINDINGS + k * 10 + layout::PREVENTED] = 1;
+}
+
+// The innermost binding of x, if there is one, is no longer undefined.
+pub fn define(w: &mut [u32], x: u8)
+    requires { Good w.old }
+    ensures { Becomes w.old w.new (change x defined (stack w.old)) }
+{
+    if let Some(k) = find_binding(w, x) {
+        w[layout::BINDINGS + k * 10 + layout::UNDEFINED] = 0;
+    }
 }
 
 // Counts a replacement at the innermost binding of x, if there is one (request 9).
@@ -88,10 +134,11 @@ pub fn named(w: &[u32], k: usize, at: usize) -> Option<u32>
     if w[layout::BINDINGS + k * 10 + layout::LENGTH] == 0 {
         return None;
     }
-    if w[layout::VALUES + at * 2] % 64 == 21 {
-        return Some(w[layout::VALUES + at * 2 + 1]);
-    }
-    None
+    let x = node_at(w, layout::VALUES, at);
+    let Kind::Ident = x.kind else {
+        return None;
+    };
+    Some(x.num)
 }
 
 // Whether binding k, whose record begins at word p, gets a mark that it has not: it has none, and x is its identifier or its value, which begins at
@@ -105,7 +152,8 @@ fn to_mark(w: &[u32], k: usize, p: usize, at: usize, x: u8) -> bool
             || w[p + layout::LENGTH] != 0 && named(w, k, at) == Some(u32::from(x)))
 }
 
-// The bindings from k on as records, oldest first, as many as an array holds; the value of k begins at node at.
+// The bindings from k on as records, oldest first, as many as an array holds; the value of k begins at node at. An array of a fixed length, since
+// there is no heap, and the words have no records to lend; past the last binding stands a record of no identifier.
 fn records(w: &[u32], k: usize, at: usize) -> [Binding; 8]
     requires { (Good w.now) × (k < slice_index w.now 1) × (at ≡ off w.now k) }
     ensures { (length result ≡ 8) × (Window (λ b. b) w.now k result) }
@@ -118,6 +166,7 @@ fn records(w: &[u32], k: usize, at: usize) -> [Binding; 8]
         prevented: false,
     }; 8];
     let mut o = at;
+    // By the index, which is the binding's too.
     for i in 0..e {
         let j = k + i;
         bs[i] = Binding {
@@ -130,18 +179,20 @@ fn records(w: &[u32], k: usize, at: usize) -> [Binding; 8]
     bs
 }
 
-// The same records, x and its aliases among them marked; beside the pass, so that the pass keeps its registers.
+// The same records in the same array, x and its aliases among them marked; beside the pass, so that the pass keeps its registers.
 #[inline(never)]
 fn marks_of(w: &[u32], k: usize, at: usize, x: u8) -> [Binding; 8]
     requires { (Good w.now) × (k < slice_index w.now 1) × (at ≡ off w.now k) }
     ensures { Window (marked x) w.now k result }
 {
-    let bs = records(w, k, at);
-    all_marked(bs, x as u32)
+    let mut bs = records(w, k, at);
+    mark_all(&mut bs, u32::from(x));
+    bs
 }
 
 // Marks every binding of x, and every binding whose value is x, in all scopes: one pass through the bindings, each looked at by name and by value
-// together. Where a mark is missing, a window of records is made from that binding on, and marked as a lent slice.
+// together. Where a mark is missing, a window of records is made from that binding on, and marked as a lent slice. No `for`: the index moves by a
+// window's length there, and elsewhere by one.
 pub fn prevent_inline(w: &mut [u32], x: u8)
     requires { Good w.old }
     ensures { Becomes w.old w.new (prevent_inline x (stack w.old)) }
@@ -150,13 +201,14 @@ pub fn prevent_inline(w: &mut [u32], x: u8)
     let mut j: usize = 0;
     let mut p: usize = layout::BINDINGS;
     let mut o: usize = 0;
+    // The index moves by one binding, or by a window.
     while j < n {
         let m = w[p + layout::LENGTH] as usize;
         if to_mark(w, j, p, o, x) {
             let bs = marks_of(w, j, o, x);
             let e = (n - j).min(8);
-            for i in 0..e {
-                if bs[i].prevented {
+            for b in &bs[..e] {
+                if b.prevented {
                     w[layout::BINDINGS + j * 10 + layout::PREVENTED] = 1;
                 }
                 o += w[layout::BINDINGS + j * 10 + layout::LENGTH] as usize;
@@ -176,11 +228,7 @@ pub fn offset_from(w: &[u32], k: usize, at: usize, e: usize) -> usize
     requires { (Good w.now) × (k ≤ e) × (e ≤ slice_index w.now 1) × (at ≡ off w.now k) × (at ≤ 512) }
     ensures { (result ≡ off w.now e) × (result ≤ 512) }
 {
-    let mut sum = at;
-    for j in k..e {
-        sum += w[layout::BINDINGS + j * 10 + layout::LENGTH] as usize;
-    }
-    sum
+    at + sum_at(w, layout::BINDINGS + layout::LENGTH, 10, k, e)
 }
 
 // How many nodes the values before binding k have.
@@ -191,7 +239,8 @@ pub fn offset(w: &[u32], k: usize) -> usize
     offset_from(w, 0, 0, k)
 }
 
-// Enters binding n, of identifier x, into the tables beside the bindings; the current scope begins at binding a.
+// Enters binding n, of identifier x, into the tables beside the bindings; the current scope begins at binding a. In the words 0 is none, here and in
+// `restore`, as layout.rt has it.
 fn enter(w: &mut [u32], n: usize, x: u8, a: usize)
     requires { (16384 ≤ length w.old) × (n < 256) }
     ensures { Entered w.old w.new n x a }
@@ -241,22 +290,10 @@ pub fn append_record(w: &mut [u32], id: u8, r: Record, count: u32)
     let d = w[layout::SCOPE_COUNT] as usize - 1;
     let a = w[layout::SCOPES + d * 4 + layout::FIRST_BINDING] as usize;
     enter(w, n, id, a);
-    put(
-        w,
-        layout::BINDINGS + n * 10,
-        [
-            u32::from(id),
-            u32::from(r.kind),
-            alias_word(r.alias),
-            r.reads,
-            u32::from(r.prevented),
-            u32::from(r.undefined),
-            u32::from(r.this_sensitive),
-            u32::from(r.hoisted),
-            0,
-            0,
-        ],
-    );
+    let p = layout::BINDINGS + n * 10;
+    wipe(w, p, 10);
+    w[p] = u32::from(id);
+    put(w, p + layout::KIND, r.words());
     w[layout::COUNTS + n] = count;
     w[layout::BINDING_COUNT] = (n + 1) as u32;
 }
@@ -273,15 +310,7 @@ pub fn push(
     requires { (Good w.old) × (slice_index w.old 1 + slice_index w.old 3 < 256) × (0 < slice_index w.old 2) }
     ensures { Becomes w.old w.new (append (fresh id (type_of kind) (alias_of alias) prevented undefined none) (stack w.old)) }
 {
-    let r = Record {
-        kind,
-        alias,
-        reads: 0,
-        prevented,
-        undefined,
-        this_sensitive: false,
-        hoisted: false,
-    };
+    let r = Record::fresh(kind, alias, prevented, undefined);
     append_record(w, id, r, 0);
 }
 

@@ -27,7 +27,7 @@ mode_of (suc (suc zero)) = as_catch
 mode_of (suc (suc (suc n))) = declaring
 
 abbrev pub IsModeWord : PatFoldingMode → ℕ → Type 0
-IsModeWord m n = mode_of n ≡ pat_mode_of m
+IsModeWord m n = (mode_of n ≡ pat_mode_of m) × (n < 4)
 
 -- word 5 changed, 6 phase Inlining, 7 is_first_run, 8 var_decl_kind, 9 pat_mode, 10 in_test, 11 right sides open in their Cond scopes, 12 the ended
 -- total, 13 the replacements made

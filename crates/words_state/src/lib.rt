@@ -60,10 +60,10 @@ pub fn save_fields(w: &[u32]) -> SavedFields
     ensures { Fielded result (rest w.now) }
 {
     SavedFields {
-        inlining: w[layout::INLINING] != 0,
+        inlining: inlining(w),
         var_decl_kind: var_decl_kind(w),
         pat_mode: pat_mode(w),
-        in_test: w[layout::IN_TEST] != 0,
+        in_test: in_test(w),
     }
 }
 
@@ -75,6 +75,39 @@ pub fn restore_fields(w: &mut [u32], f: SavedFields)
     set_var_decl_kind(w, f.var_decl_kind);
     set_pat_mode(w, f.pat_mode);
     set_in_test(w, f.in_test);
+}
+
+// A field of the visitor that is a flag, as its word has it.
+#[tactic(auto, unfolding(crate::specs::State::rest))]
+pub fn changed(w: &[u32]) -> bool
+    requires { 16384 ≤ length w.now }
+    ensures { result ≡ (rest w.now).changed }
+{
+    w[layout::CHANGED] != 0
+}
+
+#[tactic(auto, unfolding(crate::specs::State::rest))]
+pub fn inlining(w: &[u32]) -> bool
+    requires { 16384 ≤ length w.now }
+    ensures { result ≡ (rest w.now).inlining }
+{
+    w[layout::INLINING] != 0
+}
+
+#[tactic(auto, unfolding(crate::specs::State::rest))]
+pub fn is_first_run(w: &[u32]) -> bool
+    requires { 16384 ≤ length w.now }
+    ensures { result ≡ (rest w.now).is_first_run }
+{
+    w[layout::IS_FIRST_RUN] != 0
+}
+
+#[tactic(auto, unfolding(crate::specs::State::rest))]
+pub fn in_test(w: &[u32]) -> bool
+    requires { 16384 ≤ length w.now }
+    ensures { result ≡ (rest w.now).in_test }
+{
+    w[layout::IN_TEST] != 0
 }
 
 #[tactic(auto, unfolding(crate::specs::State::rest))]
@@ -93,6 +126,7 @@ pub fn pat_mode(w: &[u32]) -> PatFoldingMode
     PatFoldingMode::from_word(w[layout::PAT_MODE])
 }
 
+// A setter for each field, each with an equation of its own: a trait with a place and a law for each field would be as many items, and the trait.
 pub fn set_changed(w: &mut [u32], v: bool)
     requires { Planted w.old }
     ensures { Turns w.old w.new (set_changed v (rest w.old)) }

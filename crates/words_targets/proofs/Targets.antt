@@ -11,6 +11,9 @@ use lib.Dec.{eqb}
 use lib.ListN.{get_or, drop, drop_of_length-le}
 use lib.Seq.{drop-cons}
 use Rattle.def_tree.specs.Tree.{Core, no_core}
+use Rattle.def_file.specs.Named.{Coded}
+use Rattle.def_file.specs.declared.kind.Kind.{Kind}
+use Rattle.def_file.specs.declared.kind.Kind.TheVariants.{VarDecl, VarDeclarator, BindingIdent, Ident}
 use Rattle.def_pass.specs.Targets.{aims}
 use Rattle.laws_flat.specs.PassF.{some!, next_is, targets_l}
 use Rattle.words.specs.Flags.{flag_at, Flagged}
@@ -22,6 +25,15 @@ use Rattle.words.proofs.Nodes.{tree-length, tree-at, tree-same}
 use Rattle.words_scopes.specs.State.{Named, Names, targeted}
 use Rattle.std.proofs.Common.{Some, None}
 use Rattle.words_targets.specs.Targets.{Script, Aimed, Beside, hits, Scanned, Targeted}
+
+-- a name, and what has its target in its first child, by the kind and by its number
+pub name-number : {k : Kind} {n : ℕ} → (k ≡ BindingIdent) ⊎ (k ≡ Ident) → Coded k n → (n ≡ 20) ⊎ (n ≡ 21)
+name-number (inl a) h = inl (rw a at h)
+name-number (inr b) h = inr (rw b at h)
+
+pub first-number : {k : Kind} {n : ℕ} → (k ≡ VarDecl) ⊎ (k ≡ VarDeclarator) → Coded k n → (n ≡ 5) ⊎ (n ≡ 6)
+first-number (inl a) h = inl (rw a at h)
+first-number (inr b) h = inr (rw b at h)
 
 -- what begins with a node targets, by its kind
 module _ (i : ℕ) (c : Core) (cs : List Core) where
@@ -37,14 +49,8 @@ module _ (i : ℕ) (c : Core) (cs : List Core) where
       let last : (eqb c.kind 20 || eqb c.kind 21) ≡ false = rw (ne_eqb c.kind 20 a, ne_eqb c.kind 21 b) refl in
       ap {B = Bool} (λ (x : Bool). elim x [ true ↦ some! c.arity && next_is i cs | false ↦ (eqb c.kind 20 || eqb c.kind 21) && eqb c.num i ]) first ∙ ap (λ (x : Bool). x && eqb c.num i) last
 
-  five-or-six : 5 ≤ c.kind → c.kind ≤ 6 → (c.kind ≡ 5) ⊎ (c.kind ≡ 6)
-  five-or-six a b = go c.kind a b
-    where
-      go : (n : ℕ) → 5 ≤ n → n ≤ 6 → (n ≡ 5) ⊎ (n ≡ 6)
-      go n a b = ⊎_elim (λ (l : n < 6). inl (omega arith)) (λ (l : 6 ≤ n). inr (omega arith)) (below_or_not n 6)
-
-  pub next-first : 5 ≤ c.kind → c.kind ≤ 6 → next_is i (c ∷ cs) ≡ (some! c.arity && next_is i cs)
-  next-first a b = ⊎_elim (λ (e : c.kind ≡ 5). rw e refl) (λ (e : c.kind ≡ 6). rw e refl) (five-or-six a b)
+  pub next-first : (c.kind ≡ 5) ⊎ (c.kind ≡ 6) → next_is i (c ∷ cs) ≡ (some! c.arity && next_is i cs)
+  next-first o = ⊎_elim (λ (e : c.kind ≡ 5). rw e refl) (λ (e : c.kind ≡ 6). rw e refl) o
 
 pub some-none : (n : ℕ) → n ≡ 0 → some! n ≡ false
 some-none n e = rw e refl
@@ -73,28 +79,22 @@ module _ (w : List ℕ) (j k : ℕ) (q : (i : ℕ) → next_is i (drop j (tree w
   here : (i : ℕ) → next_is i (drop j (tree w)) ≡ next_is i (node ∷ cs)
   here i = q i ∙ ap (λ (xs : List Core). next_is i xs) (node-next w k h)
 
-  pub aimed-own : Script w → {n x : ℕ} → n ≡ node.kind → x ≡ node.num → 20 ≤ n → n ≤ 21 → Aimed (Some x) (λ i. next_is i (drop j (tree w)))
-  aimed-own s {n} {x} d e low high = (rw e (own either), λ i. here i ∙ by i either ∙ ap (λ (m : ℕ). eqb m i) (sym e))
+  pub aimed-own : Script w → {x : ℕ} → x ≡ node.num → (node.kind ≡ 20) ⊎ (node.kind ≡ 21) → Aimed (Some x) (λ i. next_is i (drop j (tree w)))
+  aimed-own s e o = (rw e (named o), λ i. here i ∙ by i o ∙ ap (λ (m : ℕ). eqb m i) (sym e))
     where
-      either : (n ≡ 20) ⊎ (n ≡ 21)
-      either = ⊎_elim (λ (l : n < 21). inl (omega arith)) (λ (l : 21 ≤ n). inr (omega arith)) (below_or_not n 21)
-
       named : Named node
       named = rw (tree-at w k h) at (s.names k)
 
-      own : (n ≡ 20) ⊎ (n ≡ 21) → node.num < 256
-      own o = named (rw d at o)
+      by : (i : ℕ) → (node.kind ≡ 20) ⊎ (node.kind ≡ 21) → next_is i (node ∷ cs) ≡ eqb node.num i
+      by i (inl a) = next-binding i node cs a
+      by i (inr b) = next-ident i node cs b
 
-      by : (i : ℕ) → (n ≡ 20) ⊎ (n ≡ 21) → next_is i (node ∷ cs) ≡ eqb node.num i
-      by i (inl a) = next-binding i node cs (sym d ∙ a)
-      by i (inr b) = next-ident i node cs (sym d ∙ b)
+  pub aimed-other : (node.kind ≡ 5 → ⊥) → (node.kind ≡ 6 → ⊥) → (node.kind ≡ 20 → ⊥) → (node.kind ≡ 21 → ⊥) → Aimed None (λ i. next_is i (drop j (tree w)))
+  aimed-other a b c e i = here i ∙ next-other i node cs a b c e
 
-  pub aimed-other : {n : ℕ} → n ≡ node.kind → (n ≡ 5 → ⊥) → (n ≡ 6 → ⊥) → (n ≡ 20 → ⊥) → (n ≡ 21 → ⊥) → Aimed None (λ i. next_is i (drop j (tree w)))
-  aimed-other d a b c e i = here i ∙ next-other i node cs (λ z. a (d ∙ z)) (λ z. b (d ∙ z)) (λ z. c (d ∙ z)) (λ z. e (d ∙ z))
-
-  module _ {n m : ℕ} (d : n ≡ node.kind) (e : m ≡ node.arity) (low : 5 ≤ n) (high : n ≤ 6) where
+  module _ {m : ℕ} (e : m ≡ node.arity) (o : (node.kind ≡ 5) ⊎ (node.kind ≡ 6)) where
     first : (i : ℕ) → next_is i (drop j (tree w)) ≡ (some! node.arity && next_is i cs)
-    first i = here i ∙ next-first i node cs (omega (arith, d)) (omega (arith, d))
+    first i = here i ∙ next-first i node cs o
 
     pub aimed-bare : m ≡ 0 → Aimed None (λ i. next_is i (drop j (tree w)))
     aimed-bare z i = first i ∙ ap (λ (b : Bool). b && next_is i cs) (some-none node.arity (sym e ∙ z))

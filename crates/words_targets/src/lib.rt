@@ -2,21 +2,13 @@
 // working words.
 #![tactic(auto)]
 
-ghost use Rattle.std.specs.Prelude.{◌≡◌, ℕ, ◌≤◌, ◌<◌, length, get_or, drop};
-ghost use Rattle.def_pass.specs.Targets.{aims};
+ghost use Rattle.std.specs.Prelude.{◌≡◌, ℕ, ◌<◌, get_or, drop};
 ghost use Rattle.laws_flat.specs.PassF.{next_is};
 ghost use Rattle.words.specs.Layout.{tree};
-ghost use Rattle.words_scopes.specs.State.{Names};
 ghost use Rattle.words_targets.specs.Targets.{Script, Aimed, Scanned, Targeted};
 
+use def_file::kind::Kind;
 use words::{arity_at, kind_at, layout, num_at, set_flag, wipe};
-
-// Has a node of kind k a target: assignment, update, for-in, for-of.
-fn aims(k: u32) -> bool
-    ensures { result ≡ aims k }
-{
-    matches!(k, 13 | 14 | 31 | 33)
-}
 
 // The identifier that is targeted by what begins at node j: its own, if it is a binding or an identifier; that of its first child, if it is a
 // declaration or a declarator.
@@ -27,8 +19,8 @@ fn aimed_at(w: &[u32], j: usize) -> Option<u32>
     let n = w[layout::NODE_COUNT] as usize;
     for k in j..n {
         match kind_at(w, k) {
-            20 | 21 => return Some(num_at(w, k)),
-            5 | 6 => {
+            Kind::BindingIdent | Kind::Ident => return Some(num_at(w, k)),
+            Kind::VarDecl | Kind::VarDeclarator => {
                 if arity_at(w, k) == 0 {
                     return None;
                 }
@@ -44,7 +36,7 @@ fn scan_node(w: &mut [u32], k: usize)
     requires { (Script w.old) × (k < get_or w.old 0 0) }
     ensures { Scanned w.old w.new k }
 {
-    if !aims(kind_at(w, k)) || arity_at(w, k) == 0 {
+    if !kind_at(w, k).aims() || arity_at(w, k) == 0 {
         return;
     }
     if let Some(x) = aimed_at(w, k + 1) {

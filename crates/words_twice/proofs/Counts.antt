@@ -8,6 +8,8 @@ use native.Mathlib.Omega.{arith}
 use borrow.Author.Tests.{lt-ltb, le-ltb}
 use lib.Dec.{eqb, ltb}
 use mir.Val.{bool_byte}
+use Rattle.std.proofs.Common.{Option, Some, None}
+use Rattle.std.specs.Bool.{then_some}
 use lib.ListN.{length, get_or, length-append}
 use Rattle.def_tree.specs.Base.{pick, to_nat}
 use Rattle.def_tree.specs.Tree.{Tree, Forest, node, nil, cons, kind, kids, length_f, count, counts, tail_f, Core, no_core}
@@ -17,7 +19,8 @@ use Rattle.def_pass.specs.Tree.{head_t}
 use Rattle.def_pass.specs.Twice.{is_function, binds, no_literal, declarators, vars, vars_f, params, any_of, twice}
 use Rattle.words_nodes.specs.Nodes.{tree_from, forest_from}
 use Rattle.words_nodes.proofs.Loops.{Open, open_in, open-past}
-use Rattle.words_twice.specs.Twice.{tally, own}
+use Rattle.words_twice.specs.declared.Tally.{Tally}
+use Rattle.words_twice.specs.Twice.{tally, one, over, own, Counts}
 use Rattle.words_twice.proofs.Places.{forest-none, forest-cons, forest-in, counts-forest}
 
 pub tally-append : (c : Bool) (ds es : List Bool) → tally c (ds ++ es) ≡ tally c ds + tally c es
@@ -49,10 +52,6 @@ pub record Tallied (f : Forest → ℕ) (xs : List Core) (i n sum at more : ℕ)
 pub tallied-none : (f : Forest → ℕ) {xs : List Core} {i n : ℕ} → Open xs i n → Tallied f xs i n 0 i n
 tallied-none f o = record { still = o; is = omega arith }
 
--- the same of a loop that has looked at k of the n trees
-pub tallied-first : (f : Forest → ℕ) {xs : List Core} {i n : ℕ} → Open xs i n → Tallied f xs i n 0 i (n - 0)
-tallied-first f {xs} {i} {n} o = let e : n - 0 ≡ n = omega arith in rw e (tallied-none f o)
-
 module _ {f : Forest → ℕ} {xs : List Core} {i n sum at more : ℕ} (h : Tallied f xs i n sum at more) where
   pub tallied-all : more ≡ 0 → f nil ≡ 0 → sum ≡ f (forest_from xs n i)
   tallied-all z e = let q : f (forest_from xs more at) ≡ 0 = ap f (ap (λ (k : ℕ). forest_from xs k at) z ∙ forest-none xs at) ∙ e in omega (arith, h.is)
@@ -72,26 +71,67 @@ module _ {f : Forest → ℕ} {xs : List Core} {i n sum at k : ℕ} (h : Tallied
   pub tallied-next : (r : ℕ) {next : ℕ} → ((ts : Forest) → f (cons (tree_from xs at) ts) ≡ r + f ts) → next ≡ at + count (tree_from xs at) → Tallied f xs i n (sum + r) next (n - (k + 1))
   tallied-next r {next} e q = let m : n - (k + 1) ≡ n - k - 1 = omega arith in rw m (tallied-past h w (omega arith) r e q)
 
+-- both counts
+pub record Tallies (f : Forest → List Bool) (xs : List Core) (i n : ℕ) (sum : Tally) (at more : ℕ) : Type 0 where
+  pub all : Tallied (λ ts. tally true (f ts)) xs i n sum.all at more
+  pub costly : Tallied (λ ts. tally false (f ts)) xs i n sum.costly at more
+
+-- trees that each make at most one declaration
+pub one-few : (c : Bool) (r : Option Bool) → tally c (one r) ≤ 1
+one-few c None = omega arith
+one-few true (Some d) = omega arith
+one-few false (Some true) = omega arith
+one-few false (Some false) = omega arith
+
+module _ (f : Tree → List Bool) {xs : List Core} {i n at k : ℕ} {sum : Tally} (h : Tallies (over f) xs i n sum at (n - k)) (w : Whole xs) (z : k < n) (r : Option Bool) (e : one r ≡ f (tree_from xs at)) {next : ℕ} (q : next ≡ at + count (tree_from xs at)) where
+  each : (c : Bool) (ts : Forest) → tally c (over f (cons (tree_from xs at) ts)) ≡ tally c (one r) + tally c (over f ts)
+  each c ts = tally-append c (f (tree_from xs at)) (over f ts) ∙ ap (λ (ds : List Bool). tally c ds + tally c (over f ts)) (sym e)
+
+  pub tallies-next : {s : Tally} → s.all ≡ sum.all + tally true (one r) → s.costly ≡ sum.costly + tally false (one r) → Tallies (over f) xs i n s next (n - (k + 1))
+  tallies-next a b = record { all = rw a (tallied-next h.all w z (tally true (one r)) (each true) q); costly = rw b (tallied-next h.costly w z (tally false (one r)) (each false) q) }
+
+pub over-declarators : (x : ℕ) (ts : Forest) → over (λ t. declarators x (cons t nil)) ts ≡ declarators x ts
+over-declarators x nil = refl
+over-declarators x (cons t ts) = go (binds x (head_t (kids t))) (over-declarators x ts)
+  where
+    go : (b : Bool) → over (λ t. declarators x (cons t nil)) ts ≡ declarators x ts
+        → elim b as (λ x. List Bool) [ true ↦ no_literal (head_t (tail_f (kids t))) ∷ [] | false ↦ [] ] ++ over (λ t. declarators x (cons t nil)) ts ≡ elim b as (λ x. List Bool) [ true ↦ no_literal (head_t (tail_f (kids t))) ∷ declarators x ts | false ↦ declarators x ts ]
+    go true e = ap (λ (ds : List Bool). no_literal (head_t (tail_f (kids t))) ∷ ds) e
+    go false e = e
+
+pub over-params : (x : ℕ) (ts : Forest) → over (λ t. params x (cons t nil)) ts ≡ params x ts
+over-params x nil = refl
+over-params x (cons t ts) = go (binds x (some t)) (over-params x ts)
+  where
+    go : (b : Bool) → over (λ t. params x (cons t nil)) ts ≡ params x ts → elim b as (λ x. List Bool) [ true ↦ false ∷ [] | false ↦ [] ] ++ over (λ t. params x (cons t nil)) ts ≡ elim b as (λ x. List Bool) [ true ↦ false ∷ params x ts | false ↦ params x ts ]
+    go true e = ap (λ (ds : List Bool). false ∷ ds) e
+    go false e = e
+
+-- a parameter, by whether it is a binding of that name
+pub one-param : (x : ℕ) (t : Tree) → one (then_some (binds x (some t)) false) ≡ params x (cons t nil)
+one-param x t = go (binds x (some t))
+  where
+    go : (b : Bool) → one (then_some b false) ≡ elim b as (λ x. List Bool) [ true ↦ false ∷ [] | false ↦ [] ]
+    go true = refl
+    go false = refl
+
 -- 1 for yes, 0 for no, as `usize::from` and as the definition count
 pub counted : (b : Bool) {r : ℕ} → r ≡ bool_byte b → r ≡ to_nat b
 counted true e = e
 counted false e = e
 
 -- one declarator
+module _ (i : ℕ) (t : Tree) where
+  abbrev by : Bool → List Bool
+  by b = elim b as (λ x. List Bool) [ true ↦ no_literal (head_t (tail_f (kids t))) ∷ [] | false ↦ [] ]
+
+  pub declarator-none : binds i (head_t (kids t)) ≡ false → declarators i (cons t nil) ≡ []
+  declarator-none e = ap by e
+
+  pub declarator-is : binds i (head_t (kids t)) ≡ true → declarators i (cons t nil) ≡ no_literal (head_t (tail_f (kids t))) ∷ []
+  declarator-is e = ap by e
+
 module _ (c : Bool) (i : ℕ) where
-  pub one-declarator : (t : Tree) (ts : Forest) → tally c (declarators i (cons t ts)) ≡ tally c (declarators i (cons t nil)) + tally c (declarators i ts)
-  one-declarator t ts = go (binds i (head_t (kids t)))
-    where
-      go : (b : Bool) → tally c (elim b as (λ x. List Bool) [ true ↦ no_literal (head_t (tail_f (kids t))) ∷ declarators i ts | false ↦ declarators i ts ]) ≡ tally c (elim b as (λ x. List Bool) [ true ↦ no_literal (head_t (tail_f (kids t))) ∷ [] | false ↦ [] ]) + tally c (declarators i ts)
-      go true = omega arith
-      go false = omega arith
-
-  pub declarator-none : (t : Tree) → binds i (head_t (kids t)) ≡ false → tally c (declarators i (cons t nil)) ≡ 0
-  declarator-none t e = ap (λ (b : Bool). tally c (elim b as (λ x. List Bool) [ true ↦ no_literal (head_t (tail_f (kids t))) ∷ [] | false ↦ [] ])) e
-
-  pub declarator-is : (t : Tree) → binds i (head_t (kids t)) ≡ true → tally c (declarators i (cons t nil)) ≡ to_nat (c || no_literal (head_t (tail_f (kids t))))
-  declarator-is t e = ap (λ (b : Bool). tally c (elim b as (λ x. List Bool) [ true ↦ no_literal (head_t (tail_f (kids t))) ∷ [] | false ↦ [] ])) e ∙ omega arith
-
   -- one node: a function, or not
   pub vars-shut : (t : Tree) (ts : Forest) → is_function (kind t) ≡ true → tally c (vars_f i (cons t ts)) ≡ 0 + tally c (vars_f i ts)
   vars-shut (node k f a us) ts e = ap (λ (b : Bool). tally c (elim b as (λ x. List Bool) [ true ↦ [] | false ↦ own i (node k f a us) ++ vars_f i us ] ++ vars_f i ts)) e ∙ omega arith
@@ -115,10 +155,6 @@ module _ (i : ℕ) where
       go true l = omega arith
       go false l = omega arith
 
-  length-le : (ts : Forest) → length_f ts ≤ counts ts
-  length-le nil = omega arith
-  length-le (cons (node k f a us) ts) = omega (arith, length-le ts)
-
   mutual
     vars-le : (t : Tree) → length (vars i t) + 1 ≤ count t
     vars-le (node k f a ts) = go (is_function k) (eqb k 5 && eqb f 0) (vars_f-le ts)
@@ -132,9 +168,6 @@ module _ (i : ℕ) where
     vars_f-le nil = omega arith
     vars_f-le (cons t ts) = omega (arith, length-append (vars i t) (vars_f i ts), vars-le t, vars_f-le ts)
 
-  pub declarators-few : (c : Bool) (ts : Forest) → tally c (declarators i ts) ≤ counts ts
-  declarators-few c ts = omega (arith, tally-le c (declarators i ts), declarators-le ts, length-le ts)
-
   pub vars-few : (c : Bool) (ts : Forest) → tally c (vars_f i ts) ≤ counts ts
   vars-few c ts = omega (arith, tally-le c (vars_f i ts), vars_f-le ts)
 
@@ -146,13 +179,6 @@ module _ (i : ℕ) where
       go true l = omega arith
       go false l = omega arith
 
-pub one-param : (i : ℕ) (t : Tree) (ts : Forest) → length (params i (cons t ts)) ≡ to_nat (binds i (some t)) + length (params i ts)
-one-param i t ts = go (binds i (some t))
-  where
-    go : (b : Bool) → length {A = Bool} (elim b as (λ x. List Bool) [ true ↦ false ∷ params i ts | false ↦ params i ts ]) ≡ to_nat b + length (params i ts)
-    go true = omega arith
-    go false = omega arith
-
 -- the two counts are the test
 no-literals : (i : ℕ) (ts : Forest) (ds : List Bool) → any_of (params i ts ++ ds) ≡ any_of ds
 no-literals i nil ds = refl
@@ -162,12 +188,15 @@ no-literals i (cons t ts) ds = go (binds i (some t)) (no-literals i ts ds)
     go true e = e
     go false e = e
 
-module _ (i : ℕ) (ts : Forest) {p v : ℕ} (a : p ≡ length (params i ts)) (b : v ≡ tally true (vars_f i ts)) where
-  long : length (params i ts ++ vars_f i ts) ≡ p + v
-  long = length-append (params i ts) (vars_f i ts) ∙ omega (arith, a, b, tally-all (vars_f i ts))
+module _ (i : ℕ) (ts : Forest) {p v : Tally} (a : Counts p (over (λ t. params i (cons t nil)) ts)) (b : Counts v (vars_f i ts)) where
+  long : length (params i ts ++ vars_f i ts) ≡ p.all + v.all
+  long = length-append (params i ts) (vars_f i ts) ∙ omega (arith, a.all, ap (tally true) (over-params i ts), tally-all (params i ts), b.all, tally-all (vars_f i ts))
 
-  pub once : p + v < 2 → false ≡ twice ts i
+  pub once : p.all + v.all < 2 → false ≡ twice ts i
   once l = sym (ap (λ (x : Bool). x && any_of (params i ts ++ vars_f i ts)) (le-ltb 1 (length (params i ts ++ vars_f i ts)) (omega (arith, long))))
 
-  pub more-than-once : 2 ≤ p + v → {e : ℕ} → e ≡ tally false (vars_f i ts) → ltb 0 e ≡ twice ts i
-  more-than-once l q = ap (ltb 0) q ∙ tally-any (vars_f i ts) ∙ sym (no-literals i ts (vars_f i ts)) ∙ sym (ap (λ (x : Bool). x && any_of (params i ts ++ vars_f i ts)) (lt-ltb 1 (length (params i ts ++ vars_f i ts)) (omega (arith, long))))
+  pub more-than-once : 2 ≤ p.all + v.all → ltb 0 v.costly ≡ twice ts i
+  more-than-once l = ap (ltb 0) b.costly ∙ tally-any (vars_f i ts) ∙ sym (no-literals i ts (vars_f i ts)) ∙ sym (ap (λ (x : Bool). x && any_of (params i ts ++ vars_f i ts)) (lt-ltb 1 (length (params i ts ++ vars_f i ts)) (omega (arith, long))))
+
+  pub both-few : p.all + v.all ≤ counts ts + counts ts
+  both-few = omega (arith, a.all, ap (tally true) (over-params i ts), tally-all (params i ts), params-few i ts, b.all, vars-few i true ts)

@@ -1,15 +1,16 @@
 -- What the words show of a node, as the counts see it. Assumes nothing.
-use mathlib.Core.Path.{◌≡◌, sym, ap, ap₂, ◌∙◌}
-use mathlib.Core.Bool.{Bool, true, false, ◌&&◌, ◌||◌, not}
+use mathlib.Core.Path.{◌≡◌, refl, sym, ap, ap₂, ◌∙◌}
+use mathlib.Core.Bool.{Bool, true, false, ◌&&◌, not}
 use mathlib.Core.Option.{some}
-use mathlib.Core.List.{List, []}
+use mathlib.Core.List.{List, [], ◌∷◌}
+use Rattle.std.proofs.Common.{Option, Some, None}
 use Prim.Native.Nat.{ℕ, ◌+◌, ◌-◌, ◌≤◌, ◌<◌}
 use native.Mathlib.Omega.{arith}
 use borrow.Author.Tests.{eq-eqb, ne_eqb}
 use lib.Dec.{eqb}
 use lib.ListN.{length, get_or}
-use Rattle.def_tree.specs.Base.{pick, to_nat}
-use Rattle.def_tree.specs.Tree.{Tree, Forest, node, nil, cons, kind, kids, tail_f, count, counts, Core, no_core}
+use Rattle.def_tree.specs.Base.{pick}
+use Rattle.def_tree.specs.Tree.{Tree, Forest, node, nil, cons, kind, kids, tail_f, count, Core, no_core}
 use Rattle.def_tree.proofs.Place.{append_f}
 use Rattle.def_pass.specs.Tree.{head_t, is_lit}
 use Rattle.def_pass.specs.Twice.{is_function, binds, no_literal, declarators, vars_f}
@@ -18,9 +19,10 @@ use Rattle.words.proofs.Nodes.{tree-length, tree-at}
 use Rattle.words_nodes.specs.Nodes.{Planted, tree_from, forest_from}
 use Rattle.words_nodes.proofs.Loops.{Open, open-first, open_in, open-past}
 use Rattle.words_nodes.proofs.Words.{tree-whole, in_tree}
-use Rattle.words_twice.specs.Twice.{tally, own, Stand}
+use Rattle.words_twice.specs.declared.Tally.{Tally}
+use Rattle.words_twice.specs.Twice.{tally, one, over, own, Counts, Stand}
 use Rattle.words_twice.proofs.Places.{tree_is, forest-none, forest-cons, open-stand}
-use Rattle.words_twice.proofs.Counts.{Tallied, tallied-le, declarator-none, declarator-is, vars-shut, vars-open}
+use Rattle.words_twice.proofs.Counts.{Tallied, Tallies, tallied-past, tallied-in, tallied-le, vars-few, declarator-none, declarator-is, over-declarators, vars-shut, vars-open}
 
 module _ {w : List ℕ} (g : Planted w) {j : ℕ} (l : j < get_or w 0 0) where
   abbrev t : Tree
@@ -51,21 +53,21 @@ module _ {w : List ℕ} (g : Planted w) {j : ℕ} (l : j < get_or w 0 0) where
   binds-is : (x : ℕ) → binds x (some t) ≡ (eqb n.kind 20 && eqb n.num x)
   binds-is x = ap (λ (u : Tree). binds x (some u)) node-tree
 
-  pub binds-kind : (x : ℕ) {k : ℕ} → k ≡ n.kind → (k ≡ 20 → ⊥) → eqb k 20 ≡ binds x (some t)
-  binds-kind x {k} q h = ne_eqb k 20 h ∙ sym (binds-is x ∙ ap (λ (b : Bool). b && eqb n.num x) (ap (λ (m : ℕ). eqb m 20) (sym q) ∙ ne_eqb k 20 h))
+  pub binds-none : (x : ℕ) → (n.kind ≡ 20 → ⊥) → false ≡ binds x (some t)
+  binds-none x h = sym (binds-is x ∙ ap (λ (b : Bool). b && eqb n.num x) (ne_eqb n.kind 20 h))
 
-  pub binds-by : (x : ℕ) {k m : ℕ} → k ≡ n.kind → k ≡ 20 → m ≡ n.num → eqb m x ≡ binds x (some t)
-  binds-by x {k} q e s = ap (λ (m : ℕ). eqb m x) s ∙ sym (binds-is x ∙ ap (λ (b : Bool). b && eqb n.num x) (ap (λ (m : ℕ). eqb m 20) (sym q) ∙ eq-eqb k 20 e))
+  pub binds-by : (x : ℕ) {m : ℕ} → n.kind ≡ 20 → m ≡ n.num → eqb m x ≡ binds x (some t)
+  binds-by x e s = ap (λ (m : ℕ). eqb m x) s ∙ sym (binds-is x ∙ ap (λ (b : Bool). b && eqb n.num x) (eq-eqb n.kind 20 e))
 
   -- a declarator
-  module _ (all : Bool) (x : ℕ) {c : ℕ} (ec : c ≡ n.arity) where
-    abbrev Is : Bool → Type 0
-    Is r = to_nat r ≡ tally all (declarators x (cons t nil))
+  module _ (x : ℕ) {c : ℕ} (ec : c ≡ n.arity) where
+    abbrev Is : Option Bool → Type 0
+    Is r = one r ≡ declarators x (cons t nil)
 
-    pub declares-none : c ≡ 0 → Is false
+    pub declares-none : c ≡ 0 → Is None
     declares-none z =
         let e : kids t ≡ nil = node-kids ∙ ap (λ (k : ℕ). forest_from (tree w) k (j + 1)) (sym ec ∙ z) ∙ forest-none (tree w) (j + 1) in
-        sym (declarator-none all x t (ap (λ (ts : Forest). binds x (head_t ts)) e))
+        sym (declarator-none x t (ap (λ (ts : Forest). binds x (head_t ts)) e))
 
     module _ (z : c ≡ 0 → ⊥) where
       some-kids : 0 < n.arity
@@ -87,42 +89,38 @@ module _ {w : List ℕ} (g : Planted w) {j : ℕ} (l : j < get_or w 0 0) where
       head-is = ap (λ (ts : Forest). binds x (head_t ts)) split
 
       module _ {r : Bool} (er : r ≡ first) where
-        pub declares-other : r ≡ false → Is false
-        declares-other o = sym (declarator-none all x t (head-is ∙ sym er ∙ o))
+        pub declares-other : r ≡ false → Is None
+        declares-other o = sym (declarator-none x t (head-is ∙ sym er ∙ o))
 
         module _ (o : r ≡ true) where
-          bound : tally all (declarators x (cons t nil)) ≡ to_nat (all || no_literal (head_t (forest_from (tree w) (n.arity - 1) e)))
-          bound = declarator-is all x t (head-is ∙ sym er ∙ o) ∙ ap (λ (ts : Forest). to_nat (all || no_literal (head_t (tail_f ts)))) split
+          bound : declarators x (cons t nil) ≡ no_literal (head_t (forest_from (tree w) (n.arity - 1) e)) ∷ []
+          bound = declarator-is x t (head-is ∙ sym er ∙ o) ∙ ap (λ (ts : Forest). no_literal (head_t (tail_f ts)) ∷ []) split
 
-          pub declares-all : all ≡ true → Is true
-          declares-all a = sym (bound ∙ ap (λ (b : Bool). to_nat (b || no_literal (head_t (forest_from (tree w) (n.arity - 1) e)))) a)
+          pub declares-bare : c ≡ 1 → Is (Some false)
+          declares-bare q =
+              let m : n.arity - 1 ≡ 0 = omega (arith, ec) in
+              sym (bound ∙ ap (λ (ts : Forest). no_literal (head_t ts) ∷ []) (ap (λ (k : ℕ). forest_from (tree w) k e) m ∙ forest-none (tree w) e))
 
-          module _ (a : all ≡ false) where
-            bound_by : tally all (declarators x (cons t nil)) ≡ to_nat (no_literal (head_t (forest_from (tree w) (n.arity - 1) e)))
-            bound_by = bound ∙ ap (λ (b : Bool). to_nat (b || no_literal (head_t (forest_from (tree w) (n.arity - 1) e)))) a
+          module _ (q : c ≡ 1 → ⊥) where
+            second-open : Open (tree w) e (n.arity - 1)
+            second-open = open-past (tree-whole g) kids-open some-kids
 
-            pub declares-bare : c ≡ 1 → Is (not (eqb c 1))
-            declares-bare q =
-                let m : n.arity - 1 ≡ 0 = omega (arith, ec) in
-                ap (λ (b : Bool). to_nat (not b)) (eq-eqb c 1 q) ∙ sym (bound_by ∙ ap (λ (ts : Forest). to_nat (no_literal (head_t ts))) (ap (λ (k : ℕ). forest_from (tree w) k e) m ∙ forest-none (tree w) e))
+            more_kids : 0 < n.arity - 1
+            more_kids = omega (arith, ec)
 
-            module _ (q : c ≡ 1 → ⊥) where
-              second-open : Open (tree w) e (n.arity - 1)
-              second-open = open-past (tree-whole g) kids-open some-kids
+            pub second-in : e < get_or w 0 0
+            second-in = in_tree g second-open more_kids
 
-              more_kids : 0 < n.arity - 1
-              more_kids = omega (arith, ec)
+            value-is : no_literal (head_t (forest_from (tree w) (n.arity - 1) e)) ≡ not (eqb (node_of w e).kind 22)
+            value-is =
+                ap (λ (ts : Forest). no_literal (head_t ts)) (forest-cons (tree-whole g) second-open more_kids)
+                ∙ ap (λ (u : Tree). not (is_lit u)) (tree_is (tree w) e (rw tree-length second-in)) ∙ ap (λ (y : Core). not (eqb y.kind 22)) (tree-at w e second-in)
 
-              pub second-in : e < get_or w 0 0
-              second-in = in_tree g second-open more_kids
+            pub declares-literal : (node_of w e).kind ≡ 22 → Is (Some false)
+            declares-literal h = sym (bound ∙ ap (λ (d : Bool). d ∷ []) (value-is ∙ ap not (eq-eqb (node_of w e).kind 22 h)))
 
-              value-is : no_literal (head_t (forest_from (tree w) (n.arity - 1) e)) ≡ not (eqb (node_of w e).kind 22)
-              value-is =
-                  ap (λ (ts : Forest). no_literal (head_t ts)) (forest-cons (tree-whole g) second-open more_kids)
-                  ∙ ap (λ (u : Tree). not (is_lit u)) (tree_is (tree w) e (rw tree-length second-in)) ∙ ap (λ (y : Core). not (eqb y.kind 22)) (tree-at w e second-in)
-
-              pub declares-value : {k : ℕ} → k ≡ (node_of w e).kind → Is (not (eqb k 22))
-              declares-value h = sym (bound_by ∙ ap to_nat (value-is ∙ ap (λ (k : ℕ). not (eqb k 22)) (sym h)))
+            pub declares-value : ((node_of w e).kind ≡ 22 → ⊥) → Is (Some true)
+            declares-value h = sym (bound ∙ ap (λ (d : Bool). d ∷ []) (value-is ∙ ap not (ne_eqb (node_of w e).kind 22 h)))
 
   -- a `var`
   module _ (all : Bool) (x : ℕ) where
@@ -142,8 +140,8 @@ module _ {w : List ℕ} (g : Planted w) {j : ℕ} (l : j < get_or w 0 0) where
       pub own-let : (n.form ≡ 0 → ⊥) → 0 ≡ tally all (own x t)
       own-let h = sym (ap (tally all) (own-form ∙ ap by (ne_eqb n.form 0 h)))
 
-      pub own-var : n.form ≡ 0 → {c r : ℕ} → c ≡ n.arity → r ≡ tally all (declarators x (forest_from (tree w) c (j + 1))) → r ≡ tally all (own x t)
-      own-var h q s = s ∙ ap (λ (k : ℕ). tally all (declarators x (forest_from (tree w) k (j + 1)))) q ∙ sym (ap (tally all) (own-form ∙ ap by (eq-eqb n.form 0 h)))
+      pub own-var : n.form ≡ 0 → {c r : ℕ} → c ≡ n.arity → r ≡ tally all (over (λ t. declarators x (cons t nil)) (forest_from (tree w) c (j + 1))) → r ≡ tally all (own x t)
+      own-var h {c} q s = s ∙ ap (tally all) (over-declarators x (forest_from (tree w) c (j + 1))) ∙ ap (λ (k : ℕ). tally all (declarators x (forest_from (tree w) k (j + 1)))) q ∙ sym (ap (tally all) (own-form ∙ ap by (eq-eqb n.form 0 h)))
 
     -- a function, or not
     pub shut-here : {k : ℕ} → k ≡ n.kind → is_function k ≡ true → (ts : Forest) → tally all (vars_f x (cons t ts)) ≡ 0 + tally all (vars_f x ts)
@@ -154,6 +152,29 @@ module _ {w : List ℕ} (g : Planted w) {j : ℕ} (l : j < get_or w 0 0) where
         vars-open all x t ts (ap is_function (ap kind node-tree ∙ sym q) ∙ h)
         ∙ ap₂ {C = ℕ} (λ (m : ℕ) (us : Forest). m + tally all (vars_f x (append_f us ts))) (sym s) (node-kids ∙ ap (λ (y : Core). forest_from (tree w) y.arity (j + 1)) (sym (tree-at w j l)))
 
--- a sum is at most the nodes
-pub sum-few : {w : List ℕ} → Planted w → {f : Forest → ℕ} {i n sum at more : ℕ} → ((ts : Forest) → f ts ≤ counts ts) → Tallied f (tree w) i n sum at more → sum ≤ 1024
-sum-few {w} g {f} {i} {n} h s = omega (arith, tallied-le s (h (forest_from (tree w) n i)), tree-length w, g.good.nodes)
+-- a loop over nodes, past functions
+module _ {w : List ℕ} (g : Planted w) (x : ℕ) {i n at more : ℕ} {sum : Tally} (h : Tallies (vars_f x) (tree w) i n sum at more) where
+  module _ (z : 0 < more) where
+    abbrev l : at < get_or w 0 0
+    l = in_tree g h.all.still z
+
+    pub tallies-shut : is_function (node_of w at).kind ≡ true → {next : ℕ} → next ≡ at + count (tree_from (tree w) at) → Tallies (vars_f x) (tree w) i n sum next (more - 1)
+    tallies-shut f {next} q =
+        let a : sum.all + 0 ≡ sum.all = omega arith in
+        let b : sum.costly + 0 ≡ sum.costly = omega arith in
+        let s : Tallied (λ ts. tally true (vars_f x ts)) (tree w) i n (sum.all + 0) next (more - 1) = tallied-past h.all (tree-whole g) z 0 (shut-here g l true x refl f) q in
+        let t : Tallied (λ ts. tally false (vars_f x ts)) (tree w) i n (sum.costly + 0) next (more - 1) = tallied-past h.costly (tree-whole g) z 0 (shut-here g l false x refl f) q in
+        record { all = rw a at s; costly = rw b at t }
+
+    pub tallies-open : is_function (node_of w at).kind ≡ false → {t : Tally} → Counts t (own x (tree_from (tree w) at)) → {c : ℕ} → c ≡ (get_or (tree w) at no_core).arity → Tallies (vars_f x) (tree w) i n (record { all = sum.all + t.all; costly = sum.costly + t.costly }) (at + 1) (more - 1 + c)
+    tallies-open f {t} s q = record {
+      all = tallied-in h.all (tree-whole g) z t.all (open-here g l true x refl f s.all) q;
+      costly = tallied-in h.costly (tree-whole g) z t.costly (open-here g l false x refl f s.costly) q;
+    }
+
+  -- the sums are at most the nodes
+  pub tallies-few : (sum.all ≤ 1024) × (sum.costly ≤ 1024)
+  tallies-few = (
+    omega (arith, tallied-le h.all (vars-few x true (forest_from (tree w) n i)), tree-length w, g.good.nodes),
+    omega (arith, tallied-le h.costly (vars-few x false (forest_from (tree w) n i)), tree-length w, g.good.nodes),
+  )

@@ -20,11 +20,11 @@ use Rattle.words.proofs.Nodes.{tree-length, tree-at}
 use Rattle.words.specs.Tab.{same_or_not}
 use Rattle.words_scopes.specs.State.{Named, Names}
 use Rattle.words_nodes.specs.Nodes.{Planted, One, Apart, NodePut, Replants, tree_from, forest_from, put_at}
-use Rattle.words_nodes.proofs.Apart.{apart-self, apart-then, replants}
+use Rattle.words.proofs.Stored.{apart-self, apart-then, put-tree}
+use Rattle.words_nodes.proofs.Apart.{replants}
 use Rattle.words_nodes.proofs.Words.{tree-whole, in_tree}
 use Rattle.words_nodes.proofs.Trees.{flat-from, put_one, length-flat, count-some}
 use Rattle.words_nodes.proofs.Loops.{open-first}
-use Rattle.words_nodes.proofs.Splice.{put-tree}
 use Rattle.words_twice.specs.Twice.{outside, Stand, Plain, flag_node, flagged_from}
 use Rattle.words_twice.proofs.Places.{split-trees, open-stand}
 use Rattle.words_twice.proofs.Bare.{bare, bare-node, bare-flags, same_test, same-trees}

@@ -2,34 +2,29 @@
 // literal, flagged in the tree as read. The functions have the names of the definition.
 #![tactic(auto)]
 
-ghost use Rattle.std.specs.Prelude.{◌≡◌, ◌+◌, ◌<◌, length, get_or, set};
+ghost use Rattle.std.specs.Prelude.{◌≡◌, List, Bool, ℕ, ◌+◌, ◌<◌, get_or, set};
 ghost use Rattle.std.proofs.Math.Option.{some};
-ghost use Rattle.def_tree.specs.Base.{to_nat};
-ghost use Rattle.def_tree.specs.Tree.{no_core, nil, cons, counts};
-ghost use Rattle.def_pass.specs.Twice.{is_function, binds, declarators, vars_f, params, twice};
+ghost use Rattle.def_tree.specs.Tree.{Tree, no_core, nil, cons, counts};
+ghost use Rattle.def_file.specs.Named.{Coded};
+ghost use Rattle.def_pass.specs.Twice.{binds, declarators, vars_f, twice};
 ghost use Rattle.laws_flat.specs.PassF.{flagged_l};
 ghost use Rattle.words.specs.Layout.{tree};
 ghost use Rattle.words_nodes.specs.Nodes.{Planted, Replants, tree_from, forest_from, size};
-ghost use Rattle.words_twice.specs.Twice.{tally, own, outside, Stand, Plain, flag_node, flagged_from};
+ghost use Rattle.words_twice.specs.Twice.{one, over, Counts, Says, own, outside, Stand, Plain, flag_node, flagged_from};
 
-use words::{arity_at, form_at, kind_at, num_at};
-use words_nodes::{put_node, skip};
-
-// Is a node of kind k a function.
-fn is_function(k: u32) -> bool
-    ensures { result ≡ is_function k }
-{
-    matches!(k, 7 | 39 | 40)
-}
+use def_file::form;
+use def_file::kind::Kind;
+use words::{Node, arity_at, form_at, kind_at, layout, node_at, num_at, put_node};
+use words_nodes::skip;
 
 // How many of the c children of a function stand outside it: its name, if it has one.
-fn outside(k: u32, f: u32, c: usize) -> usize
-    ensures { result ≡ outside k f c }
+fn outside(kind: Kind, f: u32, c: usize) -> usize
+    ensures { (k : ℕ) → Coded kind k → result ≡ outside k f c }
 {
-    if 0 < c && (k == 7 || (k == 39 && f == 1)) {
-        1
-    } else {
-        0
+    match kind {
+        Kind::FnDecl if 0 < c => 1,
+        Kind::FnExpr if 0 < c && f == form::NAMED => 1,
+        _ => 0,
     }
 }
 
@@ -38,83 +33,91 @@ fn binds(w: &[u32], j: usize, x: u32) -> bool
     requires { (Planted w.now) × (j < size w.now) }
     ensures { result ≡ binds x (some (tree_from (tree w.now) j)) }
 {
-    kind_at(w, j) == 20 && num_at(w, j) == x
+    match kind_at(w, j) {
+        Kind::BindingIdent => num_at(w, j) == x,
+        _ => false,
+    }
 }
 
-// Does the declarator at j declare x, and, unless all are counted, with an initialiser that is no literal.
-fn declares(w: &[u32], j: usize, x: u32, all: bool) -> bool
+// Does the declarator at j declare x, and if so, with an initialiser that is no literal.
+fn declares(w: &[u32], j: usize, x: u32) -> Option<bool>
     requires { (Planted w.now) × (j < size w.now) }
-    ensures { to_nat result ≡ tally all (declarators x (cons (tree_from (tree w.now) j) nil)) }
+    ensures { one result ≡ declarators x (cons (tree_from (tree w.now) j) nil) }
 {
     let c = arity_at(w, j);
     if c == 0 || !binds(w, j + 1, x) {
-        return false;
+        return None;
     }
-    if all {
-        return true;
+    if c == 1 {
+        return Some(false);
     }
-    c != 1 && kind_at(w, skip(w, j + 1)) != 22
+    Some(!matches!(kind_at(w, skip(w, j + 1)), Kind::LITERAL))
 }
 
-// How many of the n declarators from i on do.
-fn declarators(w: &[u32], i: usize, n: usize, x: u32, all: bool) -> usize
-    requires { (Planted w.now) × (Stand (tree w.now) i n) }
-    ensures { result ≡ tally all (declarators x (forest_from (tree w.now) n i)) }
+// Declarations counted: all, and those with an initialiser that is no literal.
+#[derive(Clone, Copy, Debug, PartialEq, Eq)]
+struct Tally {
+    all: usize,
+    costly: usize,
+}
+
+impl Tally {
+    const NONE: Tally = Tally { all: 0, costly: 0 };
+}
+
+// Counts what the n trees from i on declare: of each, `declares` says whether it does, and if so, with an initialiser that is no literal.
+fn count_trees<F: Fn(usize) -> Option<bool>>(w: &[u32], i: usize, n: usize, declares: F) -> Tally
+    requires { (Planted w.now) × (Stand (tree w.now) i n) × ((j : ℕ) → j < size w.now → F.pre declares j) }
+    ensures { (f : Tree → List Bool) → Says w.now (F.post declares) f → Counts result (over f (forest_from (tree w.now) n i)) }
 {
-    let mut sum: usize = 0;
+    let mut sum = Tally::NONE;
     let mut at = i;
     for _k in 0..n {
-        sum += usize::from(declares(w, at, x, all));
+        if let Some(costly) = declares(at) {
+            sum.all += 1;
+            sum.costly += usize::from(costly);
+        }
         at = skip(w, at);
     }
     sum
 }
 
-// How many of the declarators of the node at j do, if it is a `var`.
-fn var_at(w: &[u32], j: usize, x: u32, all: bool) -> usize
+// How many of the declarators of the node at j declare x, if it is a `var`.
+fn var_at(w: &[u32], j: usize, x: u32) -> Tally
     requires { (Planted w.now) × (j < size w.now) }
-    ensures { result ≡ tally all (own x (tree_from (tree w.now) j)) }
+    ensures { Counts result (own x (tree_from (tree w.now) j)) }
 {
-    if kind_at(w, j) != 5 || form_at(w, j) != 0 {
-        return 0;
+    let Kind::VarDecl = kind_at(w, j) else {
+        return Tally::NONE;
+    };
+    if form_at(w, j) != form::VAR {
+        return Tally::NONE;
     }
     let n = arity_at(w, j) as usize;
-    declarators(w, j + 1, n, x, all)
+    count_trees(w, j + 1, n, |at| declares(w, at, x))
 }
 
-// How many declarators do in the n trees from i on, nested functions passed over.
-fn vars(w: &[u32], i: usize, n: usize, x: u32, all: bool) -> usize
+// How many declarators declare x in the n trees from i on, nested functions passed over.
+fn vars(w: &[u32], i: usize, n: usize, x: u32) -> Tally
     requires { (Planted w.now) × (Stand (tree w.now) i n) }
-    ensures { result ≡ tally all (vars_f x (forest_from (tree w.now) n i)) }
+    ensures { Counts result (vars_f x (forest_from (tree w.now) n i)) }
 {
-    let mut sum: usize = 0;
+    let mut sum = Tally::NONE;
     let mut at = i;
     let mut more = n;
     // A while: the index moves by a subtree's length.
     while 0 < more {
         let kind = kind_at(w, at);
-        if is_function(kind) {
+        if kind.is_function() {
             at = skip(w, at);
             more -= 1;
         } else {
-            sum += var_at(w, at, x, all);
+            let here = var_at(w, at, x);
+            sum.all += here.all;
+            sum.costly += here.costly;
             more = more - 1 + arity_at(w, at) as usize;
             at += 1;
         }
-    }
-    sum
-}
-
-// How many of the n trees from i on are bindings of x: the parameters of that name.
-fn params(w: &[u32], i: usize, n: usize, x: u32) -> usize
-    requires { (Planted w.now) × (Stand (tree w.now) i n) }
-    ensures { result ≡ length (params x (forest_from (tree w.now) n i)) }
-{
-    let mut sum: usize = 0;
-    let mut at = i;
-    for _k in 0..n {
-        sum += usize::from(binds(w, at, x));
-        at = skip(w, at);
     }
     sum
 }
@@ -125,24 +128,27 @@ fn twice(w: &[u32], i: usize, n: usize, x: u32) -> bool
     requires { (Planted w.now) × (Stand (tree w.now) i n) }
     ensures { result ≡ twice (forest_from (tree w.now) n i) x }
 {
-    let p = params(w, i, n, x);
-    let v = vars(w, i, n, x, true);
-    2 <= p + v && 0 < vars(w, i, n, x, false)
+    // A parameter has no initialiser.
+    let p = count_trees(w, i, n, |at| binds(w, at, x).then_some(false));
+    let v = vars(w, i, n, x);
+    2 <= p.all + v.all && 0 < v.costly
 }
 
-// The node at j, if it is a binding that the m trees from a on declare twice, is flagged: 2 on its form.
+// The node at j, if it is a binding that the m trees from a on declare twice, is flagged on its form.
 fn flag_node(w: &mut [u32], j: usize, a: usize, m: usize)
     requires { (Planted w.old) × (j < size w.old) × (Stand (tree w.old) a m) × (Plain (tree w.old) j) }
     ensures { Replants w.old w.new (set (tree w.old) j (flag_node (twice (forest_from (tree w.old) m a)) (get_or (tree w.old) j no_core))) }
 {
-    if kind_at(w, j) != 20 {
+    let x = node_at(w, layout::NODES, j);
+    let Kind::BindingIdent = x.kind else {
         return;
-    }
-    let x = num_at(w, j);
-    if twice(w, a, m, x) {
-        let f = form_at(w, j);
-        let c = arity_at(w, j);
-        put_node(w, j, 20, f + 2, c, x);
+    };
+    if twice(w, a, m, x.num) {
+        let flagged = Node {
+            form: x.form + form::TWICE,
+            ..x
+        };
+        put_node(w, j, flagged);
     }
 }
 
@@ -158,7 +164,7 @@ fn flags(w: &mut [u32], i: usize, n: usize, a: usize, m: usize) -> usize
     while 0 < more {
         let k = kind_at(w, at);
         let c = arity_at(w, at) as usize;
-        if is_function(k) {
+        if k.is_function() {
             let f = form_at(w, at);
             let out = outside(k, f, c);
             let inside = flags(w, at + 1, out, a, m);

@@ -1,5 +1,5 @@
 -- Runs: as many as are done, and what is left of them. Assumes nothing.
-use Rattle.std.proofs.Common.{arith}
+use Rattle.std.proofs.Common.{sym, ◌∙◌, arith}
 use Rattle.std.proofs.lemmas.Result.{err_from_is_err_and}
 use Rattle.pass_run.proofs.Turns.{going-none, going_end, going-stop, going-last, going_on}
 use Rattle.pass_run.proofs.runs.Goals as goal
@@ -18,17 +18,17 @@ returns-in_err-visit_mut_program c =
     let p = err_from_is_err_and c.from_residual.result c.from_residual.ensures.1 in
     rw (p.1, p.2) (going-stop c.args.n c.loop-k.k c.loop-k.invariant c.loop-k-test.true c.set_changed.ensures c.visit_mut_program.ensures _ c.in_err-visit_mut_program.was)
 
-pub bounds-w-5 : goal.bounds-w-5
-bounds-w-5 c = omega (arith, c.visit_mut_program.ensures.ok.planted.good.long)
+pub changed-requires : goal.changed-requires
+changed-requires c = c.visit_mut_program.ensures.ok.planted.good.long
 
-pub returns-then-w-eq0 : goal.returns-then-w-eq0
-returns-then-w-eq0 c = going-last c.args.n c.loop-k.k c.loop-k.invariant c.loop-k-test.true c.set_changed.ensures c.visit_mut_program.ensures _ c.in_ok-visit_mut_program.was c.if-w-eq0.true
+pub returns-then-not-changed : goal.returns-then-not-changed
+returns-then-not-changed c = going-last c.args.n c.loop-k.k c.loop-k.invariant c.loop-k-test.true c.set_changed.ensures c.visit_mut_program.ensures _ c.in_ok-visit_mut_program.was (sym c.changed.ensures ∙ c.if-not-changed.true)
 
 pub set_is_first_run-requires : goal.set_is_first_run-requires
 set_is_first_run-requires c = c.visit_mut_program.ensures.ok.planted
 
 pub loop-k-preserved : goal.loop-k-preserved
-loop-k-preserved c = going_on c.args.n c.loop-k.k c.loop-k.invariant c.loop-k-test.true c.set_changed.ensures c.visit_mut_program.ensures _ c.in_ok-visit_mut_program.was c.if-w-eq0.false c.set_is_first_run.ensures
+loop-k-preserved c = going_on c.args.n c.loop-k.k c.loop-k.invariant c.loop-k-test.true c.set_changed.ensures c.visit_mut_program.ensures _ c.in_ok-visit_mut_program.was (sym c.changed.ensures ∙ c.if-not-changed.false) c.set_is_first_run.ensures
 
 pub returns : goal.returns
 returns c = going_end c.args.n c.loop-k.k c.loop-k.invariant (omega arith)

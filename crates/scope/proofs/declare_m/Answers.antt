@@ -1,8 +1,6 @@
-use lib.Dec.{ltb}
 use Rattle.scope.proofs.Undefined as undefined
 use Rattle.scope.proofs.Moves as moves
 use Rattle.words.specs.Layout.{tree}
-use Rattle.words_nodes.specs.Nodes.{tree_from}
 use Rattle.words_state.specs.State.{rest}
 use Rattle.def_pass.specs.Scope.{declare}
 use Rattle.words_scopes.specs.Kinds.{type_of}
@@ -13,7 +11,6 @@ pub returns : goal.returns
 returns c =
     let w = c.args.w.now in
     let e = c.sited-e.result in
-    let t = tree_from (tree w) c.args.i in
     let k = type_of c.args.kind in
-    let m = moves.moves-by (undefined.declare-m-is c.args.f c.args.x e t c.args.is_change c.undefined_now-undefined.result k (rest w) c.undefined_now-undefined.ensures) (moves.grown-moves (declare (ltb 1 c.args.f) c.args.x (init_from e t) c.undefined_now-undefined.result k) c.requires c.declare.auto.w c.declare.result c.declare.ensures) in
+    let m = moves.moves-by (undefined.declare-m-is c.args.name.form c.args.name.ident c.twice.result (tree w) e c.args.is_change c.undefined_now-undefined.result k (rest w) c.twice.ensures c.undefined_now-undefined.ensures) (moves.grown-moves (declare c.twice.result c.args.name.ident (init_from (tree w) e) c.undefined_now-undefined.result k) c.requires c.declare.auto.w c.declare.result c.declare.ensures) in
     rw c.sited-e.ensures.1 at m

@@ -19,7 +19,7 @@ returns c =
     let t = node_tree w c.args.i in
     let b = bind_at w c.in-Some.k in
     let matters : c.if-this_sensitive.result ≡ (b.this_sensitive && is_member t) = elim c.if-this_sensitive.branch [
-      | then-this_sensitive v ↦ rw (sym c.this_sensitive.ensures ∙ v.if-this_sensitive.true) (v.result-is ∙ v.is_member.ensures ∙ ap (λ (n : ℕ). eqb n 37 || eqb n 38) (v.kind_at.ensures ∙ sym (ap kind (facts.node-tree w c.args.i c.requires.1))))
+      | then-this_sensitive v ↦ rw (sym c.this_sensitive.ensures ∙ v.if-this_sensitive.true) (v.result-is ∙ v.is_member.ensures _ v.kind_at.ensures.1 ∙ ap (λ (n : ℕ). eqb n 37 || eqb n 38) (sym (ap kind (facts.node-tree w c.args.i c.requires.1))))
       | else-this_sensitive v ↦ rw (sym c.this_sensitive.ensures ∙ v.if-this_sensitive.false) (v.result-is ∙ v.if-this_sensitive.false)
     ] in
     ap not matters ∙ sym (ap (λ (o : Option VarInfo). has_same_this o (some t)) (facts.found_at w c.args.x (suc c.in-Some.k) c.in-Some.ensures.place))

@@ -4,6 +4,7 @@ use Rattle.def_tree.specs.Base.{pick}
 use Rattle.def_pass.specs.Scope.{Stack, prevent_inline, prevent_inline_of_params, add_write}
 use Rattle.words_scopes.specs.State.{Becomes, stack}
 use Rattle.scope_find.specs.Answers.{write_to}
+use Rattle.scope_read_write.specs.Writes.{forced}
 use Rattle.scope_read_write.proofs.Again as again
 use Rattle.scope_read_write.proofs.Limits as limits
 use Rattle.scope_read_write.proofs.add_write.Goals as goal
@@ -39,5 +40,5 @@ pub returns : goal.returns
 unfolding add_write
 returns c =
     let j = (goal.at.returns c).Joined-args in
-    limits.stepped_then c.write_to.new.w (λ (st : Stack). write_to c.args.x c.args.force st) c.write_to.result
+    limits.stepped_then c.write_to.new.w (λ (st : Stack). write_to c.args.x (forced c.args.how) st) c.write_to.result
     (limits.becomes-then (λ (st : Stack). pick c.args.args (prevent_inline_of_params st) st) (rw c.write_prevents_inline-far.ensures at (marked j)) (params j)) c.write_to.ensures

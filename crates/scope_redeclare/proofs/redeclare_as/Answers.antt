@@ -1,5 +1,6 @@
 -- Its value first, then its marks. Assumes nothing.
-use Rattle.std.proofs.Common.{refl, sym, ◌∙◌, arith}
+use Rattle.std.proofs.Common.{refl, ◌∙◌, arith}
+use Rattle.std.proofs.lemmas.Result.{err_from_is_err_and}
 use Rattle.def_pass.specs.Scope.{VarInfo, redeclare, with_value}
 use Rattle.words_scopes.specs.State.{bind_at}
 use Rattle.scope_values.specs.Steps.{put_at, run_value}
@@ -7,19 +8,20 @@ use Rattle.scope_values.proofs.Listed as listed
 use Rattle.scope_redeclare.proofs.Again.{over-re, twice, listed-count}
 use Rattle.scope_redeclare.proofs.redeclare_as.Goals as goal
 
-pub passes-requires : goal.passes-requires
-passes-requires c = listed.passes-asks c.args.w.now c.requires.0 c.args.k c.requires.1 c.args.r c.requires.2
+pub room_for-requires : goal.room_for-requires
+room_for-requires c = listed.passes-asks c.args.w.now c.requires.0 c.args.k c.requires.1 c.args.r c.requires.2
 
-pub returns-then-passes : goal.returns-then-passes
-returns-then-passes c =
+pub returns-in_err-room_for : goal.returns-in_err-room_for
+returns-in_err-room_for c =
     let w = c.args.w.now in
     let r = c.args.r in
     let new = redeclare c.args.prevented c.args.undefined (run_value w r) (bind_at w c.args.k) in
     let o = over-re w c.requires.0 c.args.k r.len c.requires.1 new (listed.count-tree w r.at r.len c.requires.2.one) in
-    (refl, o ∙ sym c.passes.ensures ∙ c.if-passes.true, listed.still-self w c.requires.0)
+    let e = err_from_is_err_and c.from_residual.result c.from_residual.ensures.1 in
+    rw (e.1, e.2) (c.in_err-room_for.ensures.0, o ∙ c.in_err-room_for.ensures.1, listed.still-self w c.requires.0)
 
 pub set_run-requires : goal.set_run-requires
-set_run-requires c = listed.set-asks c.args.w.now c.requires.0 c.args.k c.requires.1 c.args.r c.requires.2 c.passes.result c.passes.ensures c.if-passes.false
+set_run-requires c = listed.set-asks c.args.w.now c.requires.0 c.args.k c.requires.1 c.args.r c.requires.2 _ refl c.in_ok-room_for.ensures
 
 pub redeclare_seen-requires : goal.redeclare_seen-requires
 redeclare_seen-requires c =

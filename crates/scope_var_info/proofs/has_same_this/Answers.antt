@@ -6,15 +6,7 @@ use Rattle.words_scopes.specs.State.{stack}
 use Rattle.scope_var_info.proofs.Numbers as numbers
 use Rattle.scope_var_info.proofs.has_same_this.Goals as goal
 
-pub has_same_this-requires : goal.has_same_this-requires
-has_same_this-requires c = (c.requires, c.in_tree.ensures.0 c.if-in_tree.true)
-
-pub returns-then-in_tree : goal.returns-then-in_tree
-returns-then-in_tree c =
+pub returns-else-not-in_tree : goal.returns-else-not-in_tree
+returns-else-not-in_tree c =
     let w = c.args.w.now in
-    c.has_same_this.ensures ∙ ap (λ (t : Tree). has_same_this (find_binding c.args.x (stack w)) (some t)) (numbers.node-from w c.args.i) ∙ sym (ap (has_same_this (find_binding c.args.x (stack w))) (numbers.tree-in w c.args.i (c.in_tree.ensures.0 c.if-in_tree.true)))
-
-pub returns : goal.returns
-returns c =
-    let w = c.args.w.now in
-    sym (ap (has_same_this (find_binding c.args.x (stack w))) (c.in_tree.ensures.1 c.if-in_tree.false) ∙ numbers.same_none (find_binding c.args.x (stack w)))
+    c.has_same_this.ensures ∙ ap (λ (t : Tree). has_same_this (find_binding c.args.x (stack w)) (some t)) (numbers.node-from w c.args.i) ∙ sym (ap (has_same_this (find_binding c.args.x (stack w))) (numbers.tree-in w c.args.i (c.in_tree.ensures.0 c.if-not-in_tree.false)))

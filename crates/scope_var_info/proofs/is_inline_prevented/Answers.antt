@@ -6,15 +6,7 @@ use Rattle.words_scopes.specs.State.{stack}
 use Rattle.scope_var_info.proofs.Numbers as numbers
 use Rattle.scope_var_info.proofs.is_inline_prevented.Goals as goal
 
-pub is_inline_prevented-requires : goal.is_inline_prevented-requires
-is_inline_prevented-requires c = (c.requires, c.in_tree.ensures.0 c.if-in_tree.true)
-
 pub returns-then-in_tree : goal.returns-then-in_tree
 returns-then-in_tree c =
     let w = c.args.w.now in
     c.is_inline_prevented.ensures ∙ ap (λ (t : Tree). is_inline_prevented t (stack w)) (numbers.node-from w c.args.i) ∙ sym (ap (λ (o : Option Tree). prevented_o o (stack w)) (numbers.tree-in w c.args.i (c.in_tree.ensures.0 c.if-in_tree.true)))
-
-pub returns : goal.returns
-returns c =
-    let w = c.args.w.now in
-    sym (ap (λ (o : Option Tree). prevented_o o (stack w)) (c.in_tree.ensures.1 c.if-in_tree.false))

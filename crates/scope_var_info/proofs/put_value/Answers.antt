@@ -1,4 +1,3 @@
-use mathlib.Core.Path.{sym, ◌∙◌}
 use native.Mathlib.Omega.{arith}
 use Prim.Native.Nat.{suc}
 use Rattle.words.specs.Layout.{tree}
@@ -8,16 +7,15 @@ use Rattle.scope_var_info.specs.Handles.{numbered, tree_o}
 use Rattle.scope_var_info.proofs.Numbers as numbers
 use Rattle.scope_var_info.proofs.put_value.Goals as goal
 
-pub returns-then-len-eq0 : goal.returns-then-len-eq0
-returns-then-len-eq0 c =
+pub returns-in-None : goal.returns-in-None
+returns-in-None c =
     let w = c.args.w.now in
-    let v = value_o (numbered (stack w) (suc c.args.b)) in
-    numbers.puts_none w c.args.p c.args.i (tree_o (tree w) c.args.i) v (numbers.count_none v (sym c.value_len-len.ensures.0 ∙ c.if-len-eq0.true))
+    numbers.puts_none w c.args.p c.args.i (tree_o (tree w) c.args.i) (value_o (numbered (stack w) (suc c.args.b))) c.in-None.ensures
 
 pub put_held-requires : goal.put_held-requires
-put_held-requires c = (c.requires, omega arith, omega arith, (numbers.sits-at c.value_at-at.ensures c.value_len-len.ensures.0 c.if-len-eq0.false).1)
+put_held-requires c = (c.requires, omega arith, omega arith, c.in-Some.ensures.1)
 
-pub returns : goal.returns
-returns c =
+pub returns-in-Some : goal.returns-in-Some
+returns-in-Some c =
     let w = c.args.w.now in
-    numbers.puts-as w c.args.p c.args.i c.put_held.result _ (tree_o (tree w) c.args.i) _ (value_o (numbered (stack w) (suc c.args.b))) (numbers.sits-at c.value_at-at.ensures c.value_len-len.ensures.0 c.if-len-eq0.false).0 c.put_held.ensures
+    numbers.puts-as w c.args.p c.args.i c.put_held.result _ (tree_o (tree w) c.args.i) _ (value_o (numbered (stack w) (suc c.args.b))) c.in-Some.ensures.0 c.put_held.ensures

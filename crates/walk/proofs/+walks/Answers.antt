@@ -75,38 +75,35 @@ use Rattle.walk.proofs.+walks.Answers.Unary as of_unary
 use Rattle.walk.proofs.+walks.Answers.Whiles as of_whiles
 use Rattle.walk.proofs.+walks.Goals as goal
 
-pub after-kind_at-k-requires : goal.after-kind_at-k-requires
-after-kind_at-k-requires = of_after.after-kind_at-k-requires
+pub after-kind_at-requires : goal.after-kind_at-requires
+after-kind_at-requires = of_after.after-kind_at-requires
 
 pub after-ident-requires : goal.after-ident-requires
 after-ident-requires = of_after.after-ident-requires
 
-pub after-returns-then-k-eq21 : goal.after-returns-then-k-eq21
-after-returns-then-k-eq21 = of_after.after-returns-then-k-eq21
+pub after-returns-in-Ident : goal.after-returns-in-Ident
+after-returns-in-Ident = of_after.after-returns-in-Ident
 
 pub after-logic-requires : goal.after-logic-requires
 after-logic-requires = of_after.after-logic-requires
 
-pub after-returns-then-k-eq32 : goal.after-returns-then-k-eq32
-after-returns-then-k-eq32 = of_after.after-returns-then-k-eq32
+pub after-returns-in-Bin : goal.after-returns-in-Bin
+after-returns-in-Bin = of_after.after-returns-in-Bin
 
-pub after-returns-then-k-ne33 : goal.after-returns-then-k-ne33
-after-returns-then-k-ne33 = of_after.after-returns-then-k-ne33
-
-pub after-form_at-f-requires : goal.after-form_at-f-requires
-after-form_at-f-requires = of_after.after-form_at-f-requires
-
-pub after-returns-then-f-ne0 : goal.after-returns-then-f-ne0
-after-returns-then-f-ne0 = of_after.after-returns-then-f-ne0
-
-pub after-returns-then-w-eq0 : goal.after-returns-then-w-eq0
-after-returns-then-w-eq0 = of_after.after-returns-then-w-eq0
+pub after-form_at-requires : goal.after-form_at-requires
+after-form_at-requires = of_after.after-form_at-requires
 
 pub after-after_assign-requires : goal.after-after_assign-requires
 after-after_assign-requires = of_after.after-after_assign-requires
 
-pub after-returns : goal.after-returns
-after-returns = of_after.after-returns
+pub after-returns-then-inlining : goal.after-returns-then-inlining
+after-returns-then-inlining = of_after.after-returns-then-inlining
+
+pub after-returns-else-form_at-eq-ASSIGN : goal.after-returns-else-form_at-eq-ASSIGN
+after-returns-else-form_at-eq-ASSIGN = of_after.after-returns-else-form_at-eq-ASSIGN
+
+pub after-returns-in_default : goal.after-returns-in_default
+after-returns-in_default = of_after.after-returns-in_default
 
 pub arm-returns-in_err-enter : goal.arm-returns-in_err-enter
 arm-returns-in_err-enter = of_arm.arm-returns-in_err-enter
@@ -393,23 +390,17 @@ declr-returns-then-nameless = of_declr.declr-returns-then-nameless
 pub declr-init-requires : goal.declr-init-requires
 declr-init-requires = of_declr.declr-init-requires
 
-pub declr-returns-then-w-ne0 : goal.declr-returns-then-w-ne0
-declr-returns-then-w-ne0 = of_declr.declr-returns-then-w-ne0
+pub declr-returns-then-inlining : goal.declr-returns-then-inlining
+declr-returns-then-inlining = of_declr.declr-returns-then-inlining
 
 pub declr-overflow_add-i-3 : goal.declr-overflow_add-i-3
 declr-overflow_add-i-3 = of_declr.declr-overflow_add-i-3
 
-pub declr-ident_at-requires : goal.declr-ident_at-requires
-declr-ident_at-requires = of_declr.declr-ident_at-requires
+pub declr-name_at-bound-requires : goal.declr-name_at-bound-requires
+declr-name_at-bound-requires = of_declr.declr-name_at-bound-requires
 
 pub declr-overflow_add-i-4 : goal.declr-overflow_add-i-4
 declr-overflow_add-i-4 = of_declr.declr-overflow_add-i-4
-
-pub declr-form_at-requires : goal.declr-form_at-requires
-declr-form_at-requires = of_declr.declr-form_at-requires
-
-pub declr-overflow_add-i-5 : goal.declr-overflow_add-i-5
-declr-overflow_add-i-5 = of_declr.declr-overflow_add-i-5
 
 pub declr-over-requires : goal.declr-over-requires
 declr-over-requires = of_declr.declr-over-requires
@@ -468,8 +459,8 @@ fexpr-overflow_add-i = of_fexpr.fexpr-overflow_add-i
 pub fexpr-func-requires : goal.fexpr-func-requires
 fexpr-func-requires = of_fexpr.fexpr-func-requires
 
-pub fexpr-returns-then-f-ne1 : goal.fexpr-returns-then-f-ne1
-fexpr-returns-then-f-ne1 = of_fexpr.fexpr-returns-then-f-ne1
+pub fexpr-returns-then-f-ne-NAMED : goal.fexpr-returns-then-f-ne-NAMED
+fexpr-returns-then-f-ne-NAMED = of_fexpr.fexpr-returns-then-f-ne-NAMED
 
 pub fexpr-write_name-requires : goal.fexpr-write_name-requires
 fexpr-write_name-requires = of_fexpr.fexpr-write_name-requires
@@ -564,11 +555,11 @@ fors-loops-requires = of_fors.fors-loops-requires
 pub fors-returns-in_err-j : goal.fors-returns-in_err-j
 fors-returns-in_err-j = of_fors.fors-returns-in_err-j
 
-pub fors-returns-then-f-eq0 : goal.fors-returns-then-f-eq0
-fors-returns-then-f-eq0 = of_fors.fors-returns-then-f-eq0
+pub fors-returns-then-f-eq-EMPTY_HEAD : goal.fors-returns-then-f-eq-EMPTY_HEAD
+fors-returns-then-f-eq-EMPTY_HEAD = of_fors.fors-returns-then-f-eq-EMPTY_HEAD
 
-pub fors-returns-else-f-eq0 : goal.fors-returns-else-f-eq0
-fors-returns-else-f-eq0 = of_fors.fors-returns-else-f-eq0
+pub fors-returns-else-f-eq-EMPTY_HEAD : goal.fors-returns-else-f-eq-EMPTY_HEAD
+fors-returns-else-f-eq-EMPTY_HEAD = of_fors.fors-returns-else-f-eq-EMPTY_HEAD
 
 pub full-returns-then-l-eq0 : goal.full-returns-then-l-eq0
 full-returns-then-l-eq0 = of_full.full-returns-then-l-eq0
@@ -582,14 +573,14 @@ full-kind_at-requires = of_full.full-kind_at-requires
 pub full-ident-requires : goal.full-ident-requires
 full-ident-requires = of_full.full-ident-requires
 
-pub full-returns-then-kind_at-eq21 : goal.full-returns-then-kind_at-eq21
-full-returns-then-kind_at-eq21 = of_full.full-returns-then-kind_at-eq21
+pub full-returns-in-Ident : goal.full-returns-in-Ident
+full-returns-in-Ident = of_full.full-returns-in-Ident
 
 pub full-overflow_add-result : goal.full-overflow_add-result
 full-overflow_add-result = of_full.full-overflow_add-result
 
-pub full-returns-then-bare : goal.full-returns-then-bare
-full-returns-then-bare = of_full.full-returns-then-bare
+pub full-returns-in_default : goal.full-returns-in_default
+full-returns-in_default = of_full.full-returns-in_default
 
 pub full-own-requires : goal.full-own-requires
 full-own-requires = of_full.full-own-requires
@@ -642,8 +633,8 @@ ident-ident_analysis-requires = of_ident.ident-ident_analysis-requires
 pub ident-skip-requires : goal.ident-skip-requires
 ident-skip-requires = of_ident.ident-skip-requires
 
-pub ident-returns-then-w-eq0 : goal.ident-returns-then-w-eq0
-ident-returns-then-w-eq0 = of_ident.ident-returns-then-w-eq0
+pub ident-returns-then-not-inlining : goal.ident-returns-then-not-inlining
+ident-returns-then-not-inlining = of_ident.ident-returns-then-not-inlining
 
 pub ident-fate-requires : goal.ident-fate-requires
 ident-fate-requires = of_ident.ident-fate-requires
@@ -711,17 +702,11 @@ init-returns-then-is_const = of_init.init-returns-then-is_const
 pub init-overflow_add-i : goal.init-overflow_add-i
 init-overflow_add-i = of_init.init-overflow_add-i
 
-pub init-ident_at-requires : goal.init-ident_at-requires
-init-ident_at-requires = of_init.init-ident_at-requires
+pub init-name_at-bound-requires : goal.init-name_at-bound-requires
+init-name_at-bound-requires = of_init.init-name_at-bound-requires
 
 pub init-overflow_add-i-2 : goal.init-overflow_add-i-2
 init-overflow_add-i-2 = of_init.init-overflow_add-i-2
-
-pub init-form_at-requires : goal.init-form_at-requires
-init-form_at-requires = of_init.init-form_at-requires
-
-pub init-overflow_add-i-3 : goal.init-overflow_add-i-3
-init-overflow_add-i-3 = of_init.init-overflow_add-i-3
 
 pub init-skip-j-requires : goal.init-skip-j-requires
 init-skip-j-requires = of_init.init-skip-j-requires
@@ -765,8 +750,8 @@ items-form_at-f-requires = of_items.items-form_at-f-requires
 pub items-body-requires : goal.items-body-requires
 items-body-requires = of_items.items-body-requires
 
-pub items-returns-then-f-ne1 : goal.items-returns-then-f-ne1
-items-returns-then-f-ne1 = of_items.items-returns-then-f-ne1
+pub items-returns-then-f-ne-TEST : goal.items-returns-then-f-ne-TEST
+items-returns-then-f-ne-TEST = of_items.items-returns-then-f-ne-TEST
 
 pub items-arity_at-n-requires : goal.items-arity_at-n-requires
 items-arity_at-n-requires = of_items.items-arity_at-n-requires
@@ -813,23 +798,23 @@ kids-many-requires = of_kids.kids-many-requires
 pub kids-returns : goal.kids-returns
 kids-returns = of_kids.kids-returns
 
-pub logic-kind_at-k-requires : goal.logic-kind_at-k-requires
-logic-kind_at-k-requires = of_logic.logic-kind_at-k-requires
+pub logic-kind_at-requires : goal.logic-kind_at-requires
+logic-kind_at-requires = of_logic.logic-kind_at-requires
 
 pub logic-skip-requires : goal.logic-skip-requires
 logic-skip-requires = of_logic.logic-skip-requires
 
-pub logic-returns-then-k-ne32 : goal.logic-returns-then-k-ne32
-logic-returns-then-k-ne32 = of_logic.logic-returns-then-k-ne32
+pub logic-returns-in_default : goal.logic-returns-in_default
+logic-returns-in_default = of_logic.logic-returns-in_default
 
 pub logic-form_at-f-requires : goal.logic-form_at-f-requires
 logic-form_at-f-requires = of_logic.logic-form_at-f-requires
 
-pub logic-skip-requires-then-f-ge2 : goal.logic-skip-requires-then-f-ge2
-logic-skip-requires-then-f-ge2 = of_logic.logic-skip-requires-then-f-ge2
+pub logic-skip-requires-then-f-ge-PAST_LOGICAL : goal.logic-skip-requires-then-f-ge-PAST_LOGICAL
+logic-skip-requires-then-f-ge-PAST_LOGICAL = of_logic.logic-skip-requires-then-f-ge-PAST_LOGICAL
 
-pub logic-returns-then-f-ge2 : goal.logic-returns-then-f-ge2
-logic-returns-then-f-ge2 = of_logic.logic-returns-then-f-ge2
+pub logic-returns-then-f-ge-PAST_LOGICAL : goal.logic-returns-then-f-ge-PAST_LOGICAL
+logic-returns-then-f-ge-PAST_LOGICAL = of_logic.logic-returns-then-f-ge-PAST_LOGICAL
 
 pub logic-arity_at-n-requires : goal.logic-arity_at-n-requires
 logic-arity_at-n-requires = of_logic.logic-arity_at-n-requires
@@ -909,8 +894,8 @@ name-skip-requires = of_name.name-skip-requires
 pub name-returns : goal.name-returns
 name-returns = of_name.name-returns
 
-pub own-kind_at-k-requires : goal.own-kind_at-k-requires
-own-kind_at-k-requires = of_own.own-kind_at-k-requires
+pub own-kind_at-requires : goal.own-kind_at-requires
+own-kind_at-requires = of_own.own-kind_at-requires
 
 pub own-body-requires : goal.own-body-requires
 own-body-requires = of_own.own-body-requires
@@ -951,8 +936,8 @@ own-assign-requires = of_own.own-assign-requires
 pub own-call-requires : goal.own-call-requires
 own-call-requires = of_own.own-call-requires
 
-pub own-call-requires-in-36 : goal.own-call-requires-in-36
-own-call-requires-in-36 = of_own.own-call-requires-in-36
+pub own-call-requires-in-New : goal.own-call-requires-in-New
+own-call-requires-in-New = of_own.own-call-requires-in-New
 
 pub own-fexpr-requires : goal.own-fexpr-requires
 own-fexpr-requires = of_own.own-fexpr-requires
@@ -969,65 +954,65 @@ own-forin-requires = of_own.own-forin-requires
 pub own-kids-requires : goal.own-kids-requires
 own-kids-requires = of_own.own-kids-requires
 
-pub own-returns-in-1 : goal.own-returns-in-1
-own-returns-in-1 = of_own.own-returns-in-1
+pub own-returns-in-Script : goal.own-returns-in-Script
+own-returns-in-Script = of_own.own-returns-in-Script
 
-pub own-returns-in-2 : goal.own-returns-in-2
-own-returns-in-2 = of_own.own-returns-in-2
+pub own-returns-in-Block : goal.own-returns-in-Block
+own-returns-in-Block = of_own.own-returns-in-Block
 
-pub own-returns-in-5 : goal.own-returns-in-5
-own-returns-in-5 = of_own.own-returns-in-5
+pub own-returns-in-VarDecl : goal.own-returns-in-VarDecl
+own-returns-in-VarDecl = of_own.own-returns-in-VarDecl
 
-pub own-returns-in-6 : goal.own-returns-in-6
-own-returns-in-6 = of_own.own-returns-in-6
+pub own-returns-in-VarDeclarator : goal.own-returns-in-VarDeclarator
+own-returns-in-VarDeclarator = of_own.own-returns-in-VarDeclarator
 
-pub own-returns-in-7 : goal.own-returns-in-7
-own-returns-in-7 = of_own.own-returns-in-7
+pub own-returns-in-FnDecl : goal.own-returns-in-FnDecl
+own-returns-in-FnDecl = of_own.own-returns-in-FnDecl
 
-pub own-returns-in-9 : goal.own-returns-in-9
-own-returns-in-9 = of_own.own-returns-in-9
+pub own-returns-in-If : goal.own-returns-in-If
+own-returns-in-If = of_own.own-returns-in-If
 
-pub own-returns-in-12 : goal.own-returns-in-12
-own-returns-in-12 = of_own.own-returns-in-12
+pub own-returns-in-For : goal.own-returns-in-For
+own-returns-in-For = of_own.own-returns-in-For
 
-pub own-returns-in-16 : goal.own-returns-in-16
-own-returns-in-16 = of_own.own-returns-in-16
+pub own-returns-in-Try : goal.own-returns-in-Try
+own-returns-in-Try = of_own.own-returns-in-Try
 
-pub own-returns-in-17 : goal.own-returns-in-17
-own-returns-in-17 = of_own.own-returns-in-17
+pub own-returns-in-CatchClause : goal.own-returns-in-CatchClause
+own-returns-in-CatchClause = of_own.own-returns-in-CatchClause
 
-pub own-returns-in-19 : goal.own-returns-in-19
-own-returns-in-19 = of_own.own-returns-in-19
+pub own-returns-in-SwitchCase : goal.own-returns-in-SwitchCase
+own-returns-in-SwitchCase = of_own.own-returns-in-SwitchCase
 
-pub own-returns-in-20 : goal.own-returns-in-20
-own-returns-in-20 = of_own.own-returns-in-20
+pub own-returns-in-BindingIdent : goal.own-returns-in-BindingIdent
+own-returns-in-BindingIdent = of_own.own-returns-in-BindingIdent
 
-pub own-returns-in-30 : goal.own-returns-in-30
-own-returns-in-30 = of_own.own-returns-in-30
+pub own-returns-in-Unary : goal.own-returns-in-Unary
+own-returns-in-Unary = of_own.own-returns-in-Unary
 
-pub own-returns-in-31 : goal.own-returns-in-31
-own-returns-in-31 = of_own.own-returns-in-31
+pub own-returns-in-Update : goal.own-returns-in-Update
+own-returns-in-Update = of_own.own-returns-in-Update
 
-pub own-returns-in-33 : goal.own-returns-in-33
-own-returns-in-33 = of_own.own-returns-in-33
+pub own-returns-in-Assign : goal.own-returns-in-Assign
+own-returns-in-Assign = of_own.own-returns-in-Assign
 
-pub own-returns-in-35 : goal.own-returns-in-35
-own-returns-in-35 = of_own.own-returns-in-35
+pub own-returns-in-Call : goal.own-returns-in-Call
+own-returns-in-Call = of_own.own-returns-in-Call
 
-pub own-returns-in-36 : goal.own-returns-in-36
-own-returns-in-36 = of_own.own-returns-in-36
+pub own-returns-in-New : goal.own-returns-in-New
+own-returns-in-New = of_own.own-returns-in-New
 
-pub own-returns-in-39 : goal.own-returns-in-39
-own-returns-in-39 = of_own.own-returns-in-39
+pub own-returns-in-FnExpr : goal.own-returns-in-FnExpr
+own-returns-in-FnExpr = of_own.own-returns-in-FnExpr
 
-pub own-returns-in-40 : goal.own-returns-in-40
-own-returns-in-40 = of_own.own-returns-in-40
+pub own-returns-in-Arrow : goal.own-returns-in-Arrow
+own-returns-in-Arrow = of_own.own-returns-in-Arrow
 
-pub own-returns-in-10 : goal.own-returns-in-10
-own-returns-in-10 = of_own.own-returns-in-10
+pub own-returns-in-While : goal.own-returns-in-While
+own-returns-in-While = of_own.own-returns-in-While
 
-pub own-returns-in-13 : goal.own-returns-in-13
-own-returns-in-13 = of_own.own-returns-in-13
+pub own-returns-in-ForIn : goal.own-returns-in-ForIn
+own-returns-in-ForIn = of_own.own-returns-in-ForIn
 
 pub own-returns-in_default : goal.own-returns-in_default
 own-returns-in_default = of_own.own-returns-in_default
@@ -1062,8 +1047,8 @@ parts-skip-at-requires = of_parts.parts-skip-at-requires
 pub parts-full-requires : goal.parts-full-requires
 parts-full-requires = of_parts.parts-full-requires
 
-pub parts-returns-in_err-at : goal.parts-returns-in_err-at
-parts-returns-in_err-at = of_parts.parts-returns-in_err-at
+pub parts-returns-in_err-at-in-CatchClause : goal.parts-returns-in_err-at-in-CatchClause
+parts-returns-in_err-at-in-CatchClause = of_parts.parts-returns-in_err-at-in-CatchClause
 
 pub parts-loop-k-preserved : goal.parts-loop-k-preserved
 parts-loop-k-preserved = of_parts.parts-loop-k-preserved
@@ -1074,8 +1059,8 @@ parts-returns = of_parts.parts-returns
 pub stmts-many-requires : goal.stmts-many-requires
 stmts-many-requires = of_stmts.stmts-many-requires
 
-pub stmts-returns-then-w-eq0 : goal.stmts-returns-then-w-eq0
-stmts-returns-then-w-eq0 = of_stmts.stmts-returns-then-w-eq0
+pub stmts-returns-then-not-inlining : goal.stmts-returns-then-not-inlining
+stmts-returns-then-not-inlining = of_stmts.stmts-returns-then-not-inlining
 
 pub stmts-many-requires-2 : goal.stmts-many-requires-2
 stmts-many-requires-2 = of_stmts.stmts-many-requires-2
@@ -1140,8 +1125,8 @@ unary-form_at-f-requires = of_unary.unary-form_at-f-requires
 pub unary-kids-requires : goal.unary-kids-requires
 unary-kids-requires = of_unary.unary-kids-requires
 
-pub unary-returns-then-f-ne6 : goal.unary-returns-then-f-ne6
-unary-returns-then-f-ne6 = of_unary.unary-returns-then-f-ne6
+pub unary-returns-then-f-ne-DELETE : goal.unary-returns-then-f-ne-DELETE
+unary-returns-then-f-ne-DELETE = of_unary.unary-returns-then-f-ne-DELETE
 
 pub unary-returns : goal.unary-returns
 unary-returns = of_unary.unary-returns

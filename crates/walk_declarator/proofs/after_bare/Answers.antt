@@ -5,8 +5,6 @@ use Rattle.def_tree.specs.Combine.{ret}
 use Rattle.words.specs.Layout.{tree}
 use Rattle.words_scopes.specs.Kinds.{type_of}
 use Rattle.words_state.specs.State.{rest, abs}
-use Rattle.scope.proofs.Given as given
-use Rattle.scope_var_info.specs.Handles.{tree_o}
 use Rattle.walk_declarator.specs.Steps.{Did, name_of, declr_after}
 use Rattle.walk_declarator.proofs.Acts as acts
 use Rattle.walk_declarator.proofs.Ends as ends
@@ -15,18 +13,18 @@ use Rattle.walk_declarator.proofs.after_bare.Goals as goal
 pub returns-in_err-declare_m : goal.returns-in_err-declare_m
 returns-in_err-declare_m c =
     let w = c.args.w.now in
-    let m = c.args.name in
+    let m = c.args.d.name in
     let s = c.args.s in
-    let k = type_of c.args.kind in
-    let p = rw (given.init-none (tree_o (tree w) 0)) at c.in_err-declare_m.ensures in
+    let k = type_of c.args.d.kind in
+    let p = c.in_err-declare_m.ensures in
     let d = ends.after_stop k (name_of m) s.q 0 s.i s.j _ (acts.moves-by (ends.bare-here m.form m.ident k (tree w) s.i (rest w)) (acts.moves-stop (λ u. ret false) p)) in
     exit (λ r. Did w c.declare_m.new.w r (declr_after s.q k (name_of m) s.n s.i s.j (abs w))) c.from_residual.result c.from_residual.ensures.1 (rw c.requires.2 d)
 
 pub returns : goal.returns
 returns c =
     let w = c.args.w.now in
-    let m = c.args.name in
+    let m = c.args.d.name in
     let s = c.args.s in
-    let k = type_of c.args.kind in
-    let p = rw (given.init-none (tree_o (tree w) 0)) at c.in_ok-declare_m.ensures in
+    let k = type_of c.args.d.kind in
+    let p = c.in_ok-declare_m.ensures in
     rw c.requires.2 (ends.after_kept k (name_of m) s.q 0 s.i s.j (c.requires.1.arity ∙ ap suc c.requires.2) (acts.moves-by (ends.bare-here m.form m.ident k (tree w) s.i (rest w)) (acts.moves-then (λ u. ret false) p (acts.moves-self p.ok.planted false))))

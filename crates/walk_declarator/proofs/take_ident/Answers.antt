@@ -4,14 +4,13 @@ use Rattle.words.specs.Layout.{tree}
 use Rattle.words_scopes.specs.Kinds.{type_of}
 use Rattle.words_nodes.specs.Nodes.{tree_from}
 use Rattle.words_state.specs.State.{rest}
-use Rattle.scope_define.specs.declared.Init.TheVariants.{Recorded}
 use Rattle.scope.proofs.Given as given
 use Rattle.walk_declarator.proofs.Acts as acts
 use Rattle.walk_declarator.proofs.Parts as parts
 use Rattle.walk_declarator.proofs.take_ident.Goals as goal
 
 pub returns-then-is_ident : goal.returns-then-is_ident
-returns-then-is_ident c = acts.moves-by (parts.ident-yes c.args.name.form c.args.name.ident (type_of c.args.kind) (tree_from (tree c.args.w.now) c.args.e) (rest c.args.w.now) (sym c.is_ident.ensures ∙ c.if-is_ident.true)) (rw (sym (given.init-in c.args.w.now c.args.e Recorded c.requires.1)) at c.declare_m.ensures)
+returns-then-is_ident c = acts.moves-by (parts.ident-yes c.args.d.name.form c.args.d.name.ident (type_of c.args.d.kind) (tree_from (tree c.args.w.now) c.args.e) (rest c.args.w.now) (sym c.is_ident.ensures ∙ c.if-is_ident.true)) (rw (sym (given.recorded-in c.args.w.now c.args.e c.requires.1)) at c.declare_m.ensures)
 
 pub returns : goal.returns
-returns c = acts.moves-by (parts.ident-no c.args.name.form c.args.name.ident (type_of c.args.kind) (tree_from (tree c.args.w.now) c.args.e) (rest c.args.w.now) (sym c.is_ident.ensures ∙ c.if-is_ident.false)) (acts.moves-self c.requires.0 tt)
+returns c = acts.moves-by (parts.ident-no c.args.d.name.form c.args.d.name.ident (type_of c.args.d.kind) (tree_from (tree c.args.w.now) c.args.e) (rest c.args.w.now) (sym c.is_ident.ensures ∙ c.if-is_ident.false)) (acts.moves-self c.requires.0 tt)

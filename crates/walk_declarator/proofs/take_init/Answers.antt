@@ -17,16 +17,16 @@ take_or_mark-requires c =
 pub returns-in_err-take_ident : goal.returns-in_err-take_ident
 returns-in_err-take_ident c =
     let w = c.args.w.now in
-    let m = c.args.name in
-    let k = type_of c.args.kind in
+    let m = c.args.d.name in
+    let k = type_of c.args.d.kind in
     let t = tree_from (tree w) c.args.e in
     acts.moves-exit _ (λ (u : Nothing). take_or_mark m.form m.ident k t) c.from_residual.result c.from_residual.ensures.1 (parts.init-then m.form m.ident k t (rest w)) c.in_err-take_ident.ensures
 
 pub returns : goal.returns
 returns c =
     let w = c.args.w.now in
-    let m = c.args.name in
-    let k = type_of c.args.kind in
+    let m = c.args.d.name in
+    let k = type_of c.args.d.kind in
     let t = tree_from (tree w) c.args.e in
     let p = c.in_ok-take_ident.ensures in
     acts.moves-by (parts.init-then m.form m.ident k t (rest w)) (acts.moves-then (λ (u : Nothing). take_or_mark m.form m.ident k t) p (rw p.nodes at c.take_or_mark.ensures))

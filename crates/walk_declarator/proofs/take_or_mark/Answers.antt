@@ -17,15 +17,15 @@ use Rattle.walk_declarator.proofs.take_or_mark.Goals as goal
 pub returns-then-is_inline_prevented : goal.returns-then-is_inline_prevented
 returns-then-is_inline_prevented c =
     let w = c.args.w.now in
-    let m = c.args.name in
+    let m = c.args.d.name in
     let t = tree_from (tree w) c.args.e in
     let q = ap (λ (st : Stack). is_inline_prevented t st) (acts.rest-stack w) ∙ ap (λ (o : Option Tree). prevented_o o (stack w)) (sym (numbers.tree-in w c.args.e c.requires.1)) ∙ sym c.is_inline_prevented.ensures ∙ c.if-is_inline_prevented.true in
     let p = acts.mark-moves (prevent_inline m.ident) c.requires.0 c.prevent_inline.auto.w c.prevent_inline.ensures in
-    acts.moves-by (parts.marked m.form m.ident (type_of c.args.kind) t (rest w) q) (acts.moves-then (λ u. ret false) p (acts.moves-self p.ok.planted false))
+    acts.moves-by (parts.marked m.form m.ident (type_of c.args.d.kind) t (rest w) q) (acts.moves-then (λ u. ret false) p (acts.moves-self p.ok.planted false))
 
 pub returns : goal.returns
 returns c =
     let w = c.args.w.now in
-    let m = c.args.name in
+    let m = c.args.d.name in
     let t = tree_from (tree w) c.args.e in
-    acts.moves-by (parts.unmarked m.form m.ident (type_of c.args.kind) t (rest w) (ap (λ (st : Stack). is_inline_prevented t st) (acts.rest-stack w) ∙ ap (λ (o : Option Tree). prevented_o o (stack w)) (sym (numbers.tree-in w c.args.e c.requires.1)) ∙ sym c.is_inline_prevented.ensures ∙ c.if-is_inline_prevented.false)) c.take_value.ensures
+    acts.moves-by (parts.unmarked m.form m.ident (type_of c.args.d.kind) t (rest w) (ap (λ (st : Stack). is_inline_prevented t st) (acts.rest-stack w) ∙ ap (λ (o : Option Tree). prevented_o o (stack w)) (sym (numbers.tree-in w c.args.e c.requires.1)) ∙ sym c.is_inline_prevented.ensures ∙ c.if-is_inline_prevented.false)) c.take_value.ensures

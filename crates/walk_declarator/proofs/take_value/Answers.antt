@@ -6,7 +6,6 @@ use Rattle.words.specs.Layout.{tree}
 use Rattle.words_scopes.specs.Kinds.{type_of}
 use Rattle.words_nodes.specs.Nodes.{tree_from}
 use Rattle.words_state.specs.State.{rest}
-use Rattle.scope_define.specs.declared.Init.TheVariants.{Recorded}
 use Rattle.scope.proofs.Given as given
 use Rattle.walk_declarator.specs.Steps.{wants}
 use Rattle.walk_declarator.proofs.Acts as acts
@@ -16,23 +15,23 @@ use Rattle.walk_declarator.proofs.take_value.Goals as goal
 pub returns-in_err-declare_m : goal.returns-in_err-declare_m
 returns-in_err-declare_m c =
     let w = c.args.w.now in
-    let m = c.args.name in
+    let m = c.args.d.name in
     let t = tree_from (tree w) c.args.e in
     let q = ap (λ (st : Stack). wants m.ident t st) (acts.rest-stack w) ∙ sym c.wanted.ensures ∙ c.if-wanted.true in
-    acts.moves-exit _ (λ u. ret true) c.from_residual.result c.from_residual.ensures.1 (parts.value-yes m.form m.ident (type_of c.args.kind) t (rest w) q) (rw (sym (given.init-in w c.args.e Recorded c.requires.1)) at c.in_err-declare_m.ensures)
+    acts.moves-exit _ (λ u. ret true) c.from_residual.result c.from_residual.ensures.1 (parts.value-yes m.form m.ident (type_of c.args.d.kind) t (rest w) q) (rw (sym (given.recorded-in w c.args.e c.requires.1)) at c.in_err-declare_m.ensures)
 
 pub returns-then-wanted : goal.returns-then-wanted
 returns-then-wanted c =
     let w = c.args.w.now in
-    let m = c.args.name in
+    let m = c.args.d.name in
     let t = tree_from (tree w) c.args.e in
     let q = ap (λ (st : Stack). wants m.ident t st) (acts.rest-stack w) ∙ sym c.wanted.ensures ∙ c.if-wanted.true in
-    let p = rw (sym (given.init-in w c.args.e Recorded c.requires.1)) at c.in_ok-declare_m.ensures in
-    acts.moves-by (parts.value-yes m.form m.ident (type_of c.args.kind) t (rest w) q) (acts.moves-then (λ u. ret true) p (acts.moves-self p.ok.planted true))
+    let p = rw (sym (given.recorded-in w c.args.e c.requires.1)) at c.in_ok-declare_m.ensures in
+    acts.moves-by (parts.value-yes m.form m.ident (type_of c.args.d.kind) t (rest w) q) (acts.moves-then (λ u. ret true) p (acts.moves-self p.ok.planted true))
 
 pub returns : goal.returns
 returns c =
     let w = c.args.w.now in
-    let m = c.args.name in
+    let m = c.args.d.name in
     let t = tree_from (tree w) c.args.e in
-    acts.moves-by (parts.value-no m.form m.ident (type_of c.args.kind) t (rest w) (ap (λ (st : Stack). wants m.ident t st) (acts.rest-stack w) ∙ sym c.wanted.ensures ∙ c.if-wanted.false)) (acts.moves-self c.requires.0 false)
+    acts.moves-by (parts.value-no m.form m.ident (type_of c.args.d.kind) t (rest w) (ap (λ (st : Stack). wants m.ident t st) (acts.rest-stack w) ∙ sym c.wanted.ensures ∙ c.if-wanted.false)) (acts.moves-self c.requires.0 false)

@@ -1,7 +1,8 @@
-use Rattle.std.proofs.Common.{ℕ, ◌+◌, suc, not, sym, ap, ◌∙◌}
+use Rattle.std.proofs.Common.{ℕ, ◌+◌, suc, ◌&&◌, not, eqb, sym, ap, ◌∙◌}
 use Rattle.refusal.proofs.Rows.{exit}
 use Rattle.def_pass.specs.Scope.{value_o}
-use Rattle.def_pass.specs.Tree.{count_o}
+use Rattle.def_tree.specs.Tree.{num}
+use Rattle.def_pass.specs.Tree.{is_ident, count_o}
 use Rattle.words_scopes.specs.State.{stack}
 use Rattle.words_state.specs.State.{abs}
 use Rattle.scope.specs.Steps.{Did}
@@ -15,10 +16,10 @@ pub returns-in_err-put_value : goal.returns-in_err-put_value
 returns-in_err-put_value c =
     let w = c.args.w.now in
     let e = value_by w c.args.b in
-    exit (λ r. Did w c.put_value.new.w r (value_f c.args.p e c.args.i (abs w))) c.from_residual.result c.from_residual.ensures.1 (laws.goes-stop w _ c.args.p c.args.i e c.requires.0 c.requires.1 (counts_if (not c.same_ident-same.result) c.ident_at-x.result) (laws.value-is w c.args.p c.args.i e c.same_ident-same.result c.ident_at-x.result c.same_ident-same.ensures (c.ident_at-x.ensures ∙ sym (laws.tree-num w c.args.i c.requires.1))) _ (numbers.puts-swapped w c.args.p c.args.i e _ _ (value_o (numbered (stack w) (suc c.args.b))) c.requires.1 c.requires.3 c.in_err-put_value.ensures))
+    exit (λ r. Did w c.put_value.new.w r (value_f c.args.p e c.args.i (abs w))) c.from_residual.result c.from_residual.ensures.1 (laws.goes-stop w _ c.args.p c.args.i e c.requires.0 c.requires.1 (counts_if (not c.same_ident-same.result) c.ident_at-x.result) (laws.value-is w c.args.p c.args.i e c.same_ident-same.result c.ident_at-x.result (c.same_ident-same.ensures ∙ ap (λ (n : ℕ). is_ident e && eqb (num e) n) (c.ident_at-x.ensures ∙ sym (laws.tree-num w c.args.i c.requires.1))) (c.ident_at-x.ensures ∙ sym (laws.tree-num w c.args.i c.requires.1))) _ (numbers.puts-swapped w c.args.p c.args.i e _ _ (value_o (numbered (stack w) (suc c.args.b))) c.requires.1 c.requires.3 c.in_err-put_value.ensures))
 
 pub returns : goal.returns
 returns c =
     let w = c.args.w.now in
     let e = value_by w c.args.b in
-    laws.goes_on w _ c.args.p c.args.i e c.requires.0 c.requires.1 (counts_if (not c.same_ident-same.result) c.ident_at-x.result) (laws.value-is w c.args.p c.args.i e c.same_ident-same.result c.ident_at-x.result c.same_ident-same.ensures (c.ident_at-x.ensures ∙ sym (laws.tree-num w c.args.i c.requires.1))) (numbers.puts-swapped w c.args.p c.args.i e _ _ (value_o (numbered (stack w) (suc c.args.b))) c.requires.1 c.requires.3 c.in_ok-put_value.ensures) c.counted.ensures (ap (λ (n : ℕ). c.args.i + n) (c.value_len-m.ensures.0 ∙ ap count_o c.requires.3))
+    laws.goes_on w _ c.args.p c.args.i e c.requires.0 c.requires.1 (counts_if (not c.same_ident-same.result) c.ident_at-x.result) (laws.value-is w c.args.p c.args.i e c.same_ident-same.result c.ident_at-x.result (c.same_ident-same.ensures ∙ ap (λ (n : ℕ). is_ident e && eqb (num e) n) (c.ident_at-x.ensures ∙ sym (laws.tree-num w c.args.i c.requires.1))) (c.ident_at-x.ensures ∙ sym (laws.tree-num w c.args.i c.requires.1))) (numbers.puts-swapped w c.args.p c.args.i e _ _ (value_o (numbered (stack w) (suc c.args.b))) c.requires.1 c.requires.3 c.in_ok-put_value.ensures) c.counted.ensures (ap (λ (n : ℕ). c.args.i + n) (c.value_len-m.ensures.0 ∙ ap count_o c.requires.3))

@@ -7,4 +7,4 @@ use Rattle.walk_ident.proofs.Fates as fates
 use Rattle.walk_ident.proofs.same_ident.Goals as goal
 
 pub returns : goal.returns
-returns c = c.eq.ensures ∙ fates.same-is c.args.w.now c.args.i c.ident_at-x.result c.requires.1 c.ident_at-x.ensures (value_by c.args.w.now c.args.b) (value_o (numbered (stack c.args.w.now) (suc c.args.b))) c.requires.3 c.value_ident.result c.value_ident.ensures
+returns c = c.eq.ensures ∙ fates.same-is c.args.x (value_by c.args.w.now c.args.b) (value_o (numbered (stack c.args.w.now) (suc c.args.b))) c.requires.1 c.value_ident.result c.value_ident.ensures

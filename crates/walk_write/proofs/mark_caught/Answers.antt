@@ -1,13 +1,15 @@
 -- By the kind and the phase. Assumes nothing.
+use Rattle.std.proofs.Common.{sym, ap, ◌∙◌}
+use Rattle.def_file.specs.Named.{kind_of}
+use Rattle.def_file.proofs.Named.{of-coded}
 use Rattle.walk_write.proofs.Marks.{caught-other, caught-off, caught-on}
 use Rattle.walk_write.proofs.mark_caught.Goals as goal
-use Rattle.walk_write.proofs.mark_caught.Goals.{else-kind-eq20-via-else-kind-eq20, else-kind-eq20-via-then-kind-eq20+else-w-eq0}
 
-pub returns-then-w-eq0 : goal.returns-then-w-eq0
-returns-then-w-eq0 c = caught-on c.requires.0 c.args.kind c.args.x c.if-kind-eq20.true c.if-w-eq0.true c.prevent_inline.ensures
+pub returns-in_default : goal.returns-in_default
+returns-in_default c = λ k e. caught-other c.requires.0 k c.args.x (λ z. c.in_default.not-BindingIdent (of-coded c.args.kind k e ∙ ap kind_of z))
 
-pub returns-else-kind-eq20 : goal.returns-else-kind-eq20
-returns-else-kind-eq20 c = elim c.else-kind-eq20.branch [
-  | else-kind-eq20-via-else-kind-eq20 d ↦ caught-other c.requires.0 c.args.kind c.args.x d.if-kind-eq20.false
-  | else-kind-eq20-via-then-kind-eq20+else-w-eq0 d ↦ caught-off c.requires.0 c.args.kind c.args.x d.if-kind-eq20.true d.if-w-eq0.false
-]
+pub returns-then-not-inlining : goal.returns-then-not-inlining
+returns-then-not-inlining c = λ k e. caught-on c.requires.0 k c.args.x (rw c.in-BindingIdent.is at e) (sym c.inlining.ensures ∙ c.if-not-inlining.true) c.prevent_inline.ensures
+
+pub returns-else-not-inlining : goal.returns-else-not-inlining
+returns-else-not-inlining c = λ k e. caught-off c.requires.0 k c.args.x (rw c.in-BindingIdent.is at e) (sym c.inlining.ensures ∙ c.if-not-inlining.false)

@@ -1,4 +1,5 @@
 -- One tree. Assumes nothing.
+use Rattle.scope_read_write.specs.Writes.{forced}
 use Rattle.words.specs.Layout.{tree}
 use Rattle.words.proofs.Nodes.{tree-length}
 use Rattle.words_nodes.proofs.Loops.{open-first}
@@ -9,4 +10,4 @@ pub write_trees-requires : goal.write_trees-requires
 write_trees-requires c = (c.requires.0, (open-first (tree c.args.w.now) c.args.i (rw tree-length c.requires.1)).trees)
 
 pub returns : goal.returns
-returns c = one-tree c.args.force c.args.i c.requires.1 c.write_trees.ensures
+returns c = one-tree (forced c.args.how) c.args.i c.requires.1 c.write_trees.ensures

@@ -1,4 +1,5 @@
 -- The invariant: what is left to write are the names of the trees still open. Assumes nothing.
+use Rattle.scope_read_write.specs.Writes.{forced}
 use Rattle.refusal.proofs.Rows.{number-some}
 use mathlib.Core.Path.{refl, sym, ◌∙◌}
 use native.Mathlib.Omega.{arith}
@@ -13,7 +14,7 @@ use Rattle.walk_write.proofs.Writing.{writing-none, writing-in, writing-past, wr
 use Rattle.walk_write.proofs.write_trees.Goals as goal
 
 pub loop-more-init : goal.loop-more-init
-loop-more-init c = writing-none c.args.force c.args.n c.args.i c.requires.0 (record { trees = c.requires.1 })
+loop-more-init c = writing-none (forced c.args.how) c.args.n c.args.i c.requires.0 (record { trees = c.requires.1 })
 
 pub is_name-requires : goal.is_name-requires
 is_name-requires c = (c.loop-more.invariant.ok.planted, in_tree c.loop-more.invariant.ok.planted c.loop-more.invariant.still c.loop-more-test.true)
@@ -25,7 +26,7 @@ pub returns-in_err-write_ident : goal.returns-in_err-write_ident
 returns-in_err-write_ident c = act-exit _ c.from_residual.result c.from_residual.ensures.1 (writing-stop c.loop-more.invariant c.loop-more-test.true (sym c.is_name.ensures ∙ c.if-is_name.true) c.in_err-write_ident.ensures (number-some _))
 
 pub skip-at-requires : goal.skip-at-requires
-skip-at-requires c = (c.in_ok-write_ident.ensures.ok.planted, omega (arith, in_tree c.loop-more.invariant.ok.planted c.loop-more.invariant.still c.loop-more-test.true, act-count (write c.args.force (tree_at (abs c.loop-more.w) c.loop-more.at)) c.in_ok-write_ident.ensures refl))
+skip-at-requires c = (c.in_ok-write_ident.ensures.ok.planted, omega (arith, in_tree c.loop-more.invariant.ok.planted c.loop-more.invariant.still c.loop-more-test.true, act-count (write (forced c.args.how) (tree_at (abs c.loop-more.w) c.loop-more.at)) c.in_ok-write_ident.ensures refl))
 
 pub loop-more-smaller-then-is_name : goal.loop-more-smaller-then-is_name
 loop-more-smaller-then-is_name c = omega (arith, in_tree c.loop-more.invariant.ok.planted c.loop-more.invariant.still c.loop-more-test.true, c.skip-at.ensures.1, nodes-kept c.loop-more.invariant)

@@ -24,5 +24,5 @@ returns c =
     let eo : c.skip.result - c.args.i ≡ count (tree_from (tree c.args.w.now) c.args.i) = omega (arith, c.skip.ensures.0) in
     let r = room c.requires.0 c.requires.1 in (
       row-0 c.args.p (get_or c.args.w.now 0 0) (tree_from (tree c.args.w.now) c.args.i) void_zero (omega (arith, c.if-p-gt199.false)) (omega (arith, c.if-old-n.false)),
-      put-done c.requires.0 c.requires.1 void_zero (rw eo at (void-spliced c.slide.ensures (omega arith) (omega (arith, c.if-old-n.false)) c.put.ensures)) void-names (omega (arith, c.if-old-n.false)),
+      put-done c.requires.0 c.requires.1 void_zero (rw eo at (void-spliced c.slide.ensures (omega arith) c.put_node.ensures c.put_node-2.ensures)) void-names (omega (arith, c.if-old-n.false)),
     )

@@ -1,29 +1,14 @@
 -- A scope dropped. Assumes nothing.
-use Rattle.std.proofs.Common.{◌-◌, get_or, ◌∙◌, arith, length-set}
+use Rattle.std.proofs.Common.{◌-◌, get_or, arith}
 use Rattle.words_scopes.proofs.Grow.{top-begins}
 use Rattle.words_scopes.proofs.Shrink as shrink
 use Rattle.words_scopes.proofs.drop_scope.Goals as goal
-
-pub overflow_cast-n : goal.overflow_cast-n
-overflow_cast-n c =
-    let w = c.args.w.now in
-    let b = top-begins w c.requires.0 (omega arith) in
-    omega (arith, c.requires.0.count)
 
 pub restore-requires : goal.restore-requires
 restore-requires c =
     let w = c.args.w.now in
     let b = top-begins w c.requires.0 (omega arith) in
     (c.requires.0, b)
-
-pub bounds-w-3 : goal.bounds-w-3
-bounds-w-3 c = simp length-set (omega (arith, c.requires.0.long, c.merge.auto.w, c.restore.auto.w))
-
-pub bounds-w-2-2 : goal.bounds-w-2-2
-bounds-w-2-2 c = simp length-set (omega (arith, c.requires.0.long, c.merge.auto.w, c.restore.auto.w))
-
-pub shape_of-w : goal.shape_of-w
-shape_of-w c = simp length-set (c.merge.auto.w ∙ c.restore.auto.w)
 
 pub returns : goal.returns
 returns c =

@@ -1,19 +1,16 @@
 -- The records of a window, marked. Assumes nothing.
-use Rattle.std.proofs.Common.{List, get_or, ap, ◌∙◌, arith}
+use Rattle.std.proofs.Common.{ℕ, ◌+◌, List, get_or, ap, ◌∙◌, arith}
 use Rattle.words_prevent.specs.Mark.{marked}
 use Rattle.words_prevent.specs.declared.Binding.{Binding}
-use Rattle.words_scopes.specs.State.{no_record}
+use Rattle.words_scopes.specs.State.{record_at, no_record}
 use Rattle.words_scopes.proofs.Words as laws
 use Rattle.words_scopes.proofs.marks_of.Goals as goal
 
 pub records-bs-requires : goal.records-bs-requires
 records-bs-requires c = c.requires
 
-pub all_marked-requires : goal.all_marked-requires
-all_marked-requires c = tt
-
 pub returns : goal.returns
 returns c =
-    let x = c.args.x in
+    let x = c.from.result in
     λ j l h.
-    ap (λ (bs : List Binding). get_or bs j no_record) c.all_marked.ensures ∙ laws.get_d_map (marked x) c.records-bs.result j no_record (omega (arith, c.records-bs.ensures.0)) ∙ ap (marked x) (c.records-bs.ensures.1 j l h)
+    ap (λ (bs : List Binding). get_or bs j no_record) c.mark_all.ensures ∙ laws.get_d_map (marked x) c.records-bs.result j no_record (omega (arith, c.records-bs.ensures.0)) ∙ ap (marked x) (c.records-bs.ensures.1 j l h) ∙ ap (λ (y : ℕ). marked y (record_at c.args.w.now (c.args.k + j))) c.from.ensures

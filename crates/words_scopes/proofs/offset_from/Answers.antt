@@ -1,18 +1,19 @@
 -- The sum of the earlier lengths, from one binding on. Assumes nothing.
-use Rattle.std.proofs.Common.{◌≡◌, arith}
-use Rattle.words.specs.Tab.{sum-next}
-use Rattle.words_scopes.specs.State.{off, len_at}
-use Rattle.words_scopes.proofs.Words.{room, off-room}
+use Rattle.std.proofs.Common.{arith}
+use Rattle.words_scopes.proofs.Words.{off-room, words-bind}
 use Rattle.words_scopes.proofs.offset_from.Goals as goal
 
-pub overflow_add-sum-in-loop-j-2 : goal.overflow_add-sum-in-loop-j-2
-overflow_add-sum-in-loop-j-2 c = omega (arith, room c.args.w.now c.requires.0 c.loop-j.j (omega arith))
+pub sum_at-requires : goal.sum_at-requires
+sum_at-requires c = (c.requires.0.long, c.requires.1, omega (arith, c.requires.2, c.requires.0.count), omega arith, omega arith)
 
-pub loop-j-preserved : goal.loop-j-preserved
-loop-j-preserved c = omega (arith, sum-next (λ i. len_at c.args.w.now i) c.loop-j.j)
+pub overflow_add-result : goal.overflow_add-result
+overflow_add-result c = let w = c.args.w.now in omega (arith, c.sum_at.ensures, words-bind w c.args.k, words-bind w c.args.e, off-room w c.requires.0 c.args.e c.requires.2, c.requires.3)
 
 pub returns : goal.returns
 returns c =
-    let q : c.loop-j.j ≡ c.args.e = omega arith in
-    let s : c.loop-j.sum ≡ off c.args.w.now c.args.e = rw q at c.loop-j.invariant in
-    (s, omega (arith, off-room c.args.w.now c.requires.0 c.args.e c.requires.2))
+    let w = c.args.w.now in
+    let room = off-room w c.requires.0 c.args.e c.requires.2 in
+    let sum = c.sum_at.ensures in
+    let from = words-bind w c.args.k in
+    let to = words-bind w c.args.e in
+    (omega (arith, sum, from, to, c.requires.3), omega (arith, sum, from, to, c.requires.3, room))

@@ -1,10 +1,10 @@
 -- The pass through all bindings; a window of records is made where a mark is missing, and `o` is the sum of the lengths passed. Assumes nothing.
-use Rattle.std.proofs.Common.{◌≡◌, ℕ, List, ◌+◌, ◌*◌, ◌<◌, ◌≤◌, get_or, sym, refl, ap, ◌∙◌, arith}
+use Rattle.std.proofs.Common.{◌≡◌, ℕ, List, ◌+◌, ◌*◌, ◌<◌, ◌≤◌, take, length-take, get_or, sym, refl, ap, ◌∙◌, arith}
 use Rattle.words.specs.Tab.{sum-next, sum-zero}
 use Rattle.words_scopes.specs.State.{Good, off, len_at}
 use Rattle.words_scopes.proofs.Words as laws
 use Rattle.words_scopes.proofs.prevent_inline.Goals as goal
-use Rattle.words_scopes.proofs.prevent_inline.Goals.{then-bs-i, else-bs-i}
+use Rattle.words_scopes.proofs.prevent_inline.Goals.{then-b, else-b}
 
 -- where the loop has come to binding j: the words there stand for a state, with as many bindings, and the value of binding j begins at o
 record Come (w₀ w : List ℕ) (j o : ℕ) : Type 0 where
@@ -44,46 +44,47 @@ marks_of-bs-requires c =
     let k = come c.requires v.swept c.loop-j-test.true v.begins in
     (k.good, k.this, k.begins)
 
-pub loop-i-init : goal.loop-i-init
-loop-i-init c =
+pub loop-b-init : goal.loop-b-init
+loop-b-init c =
     let v = c.loop-j.invariant in
     let k = come c.requires v.swept c.loop-j-test.true v.begins in
     let s = laws.swept-on v.swept in
-    record { at = omega arith; swept = s; begins = k.begins; ahead = laws.ahead-load s c.marks_of-bs.result c.marks_of-bs.ensures }
+    record { at = omega arith; swept = s; begins = k.begins; ahead = laws.ahead-take c.loop-j.w c.args.x c.loop-j.j c.marks_of-bs.result (c.min-e.ensures ∙ omega (arith, k.many)) (laws.ahead-load s c.marks_of-bs.result c.marks_of-bs.ensures) }
 
-pub overflow_add-o-in-loop-i-2 : goal.overflow_add-o-in-loop-i-2
-overflow_add-o-in-loop-i-2 c =
+pub overflow_add-o-in-loop-b-2 : goal.overflow_add-o-in-loop-b-2
+overflow_add-o-in-loop-b-2 c =
     let v = c.loop-j.invariant in
-    let u = c.loop-i.invariant in
+    let u = c.loop-b.invariant in
     let k = come c.requires v.swept c.loop-j-test.true v.begins in
-    let l : c.loop-i.j ≤ get_or c.loop-j.w 1 0 = omega (arith, c.min-e.ensures, k.many, u.at) in
-    omega (arith, u.begins, laws.off-room c.loop-j.w k.good c.loop-i.j l, c.type_inv.w (4112 + c.loop-i.j * 10 + 8))
+    let l : c.loop-b.j ≤ get_or c.loop-j.w 1 0 = omega (arith, c.min-e.ensures, k.many, u.at, length-take c.min-e.result c.marks_of-bs.result) in
+    omega (arith, u.begins, laws.off-room c.loop-j.w k.good c.loop-b.j l, c.type_inv.w (4112 + c.loop-b.j * 10 + 8))
 
-pub loop-i-preserved : goal.loop-i-preserved
-loop-i-preserved c =
+pub loop-b-preserved : goal.loop-b-preserved
+loop-b-preserved c =
     let v = c.loop-j.invariant in
-    let u = c.loop-i.invariant in
+    let u = c.loop-b.invariant in
     let k = come c.requires v.swept c.loop-j-test.true v.begins in
     let w₁ = c.loop-j.w in
     let x = c.args.x in
-    let j = c.loop-i.j in
-    let h : j < get_or w₁ 1 0 = omega (arith, c.min-e.ensures, k.many, u.at) in
-    let this = laws.ahead-this w₁ x j c.loop-i.i c.marks_of-bs.result u.ahead (omega (arith, c.min-e.ensures)) h in
-    let d : laws.Swept w₁ c.if-bs-i.w x (j + 1) =
-    elim c.if-bs-i.branch [
-      | then-bs-i t ↦ rw t.w-is (laws.swept-hit k.good u.swept h (sym t.if-bs-i.true ∙ this))
-      | else-bs-i t ↦ rw t.w-is (laws.swept-miss k.good u.swept h (sym t.if-bs-i.false ∙ this))
+    let items = take c.min-e.result c.marks_of-bs.result in
+    let j = c.loop-b.j in
+    let h : j < get_or w₁ 1 0 = omega (arith, c.min-e.ensures, k.many, u.at, length-take c.min-e.result c.marks_of-bs.result) in
+    let this = laws.ahead-this w₁ x j c.loop-b.b-index items u.ahead (omega (arith, c.min-e.ensures, length-take c.min-e.result c.marks_of-bs.result)) h in
+    let d : laws.Swept w₁ c.if-b.w x (j + 1) =
+    elim c.if-b.branch [
+      | then-b t ↦ rw t.w-is (laws.swept-hit k.good u.swept h (sym t.if-b.true ∙ this))
+      | else-b t ↦ rw t.w-is (laws.swept-miss k.good u.swept h (sym t.if-b.false ∙ this))
     ] in
-    let len : len_at c.if-bs-i.w j ≡ len_at w₁ j = d.runs.lens j (omega (arith, k.good.count)) in
-    let next : c.loop-i.o + len_at c.if-bs-i.w j ≡ off w₁ (j + 1) = omega (arith, u.begins, sum-next (λ q. len_at w₁ q) j) in
-    record { at = omega (arith, u.at); swept = d; begins = next; ahead = laws.ahead-next w₁ x j c.loop-i.i c.marks_of-bs.result u.ahead }
+    let len : len_at c.if-b.w j ≡ len_at w₁ j = d.runs.lens j (omega (arith, k.good.count)) in
+    let next : c.loop-b.o + len_at c.if-b.w j ≡ off w₁ (j + 1) = omega (arith, u.begins, sum-next (λ q. len_at w₁ q) j) in
+    record { at = omega (arith, u.at); swept = d; begins = next; ahead = laws.ahead-next w₁ x j c.loop-b.b-index items u.ahead }
 
 pub loop-j-preserved-then-to_mark : goal.loop-j-preserved-then-to_mark
 loop-j-preserved-then-to_mark c =
     let v = c.loop-j.invariant in
-    let u = c.loop-i.invariant in
-    let j = c.loop-i.j in
-    let l : j ≤ get_or c.args.w.now 1 0 = omega (arith, c.min-e.ensures, u.at) in
+    let u = c.loop-b.invariant in
+    let j = c.loop-b.j in
+    let l : j ≤ get_or c.args.w.now 1 0 = omega (arith, c.min-e.ensures, u.at, length-take c.min-e.result c.marks_of-bs.result) in
     record {
       within = l;
       many = refl;

@@ -5,12 +5,12 @@ use Rattle.words_scopes.specs.State.{off}
 use Rattle.words_scopes.proofs.Words as laws
 use Rattle.words_scopes.proofs.prevent_inline.Given as goal
 
-abbrev pub invariant-loop-i : goal.invariant-loop-i
-invariant-loop-i l = record {
-  at : l.j ≡ l.initial.j + l.i;
+abbrev pub invariant-loop-b : goal.invariant-loop-b
+invariant-loop-b l = record {
+  at : l.j ≡ l.initial.j + l.b-index;
   swept : laws.Swept l.initial.w l.w l.x l.j;
   begins : l.o ≡ off l.initial.w l.j;
-  ahead : laws.Ahead l.initial.w l.x l.j l.i l.bs;
+  ahead : laws.Ahead l.initial.w l.x l.j l.b-index l.b-items;
 }
 
 abbrev pub invariant-loop-j : goal.invariant-loop-j

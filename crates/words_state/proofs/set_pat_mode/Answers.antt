@@ -9,4 +9,4 @@ pub returns : goal.returns
 unfolding rest
 returns c =
     let w = c.args.w.now in
-    field-turns w c.requires 9 c.from.result (omega arith) (omega arith) (ap (λ b. set_pat_mode b (rest w)) c.from.ensures)
+    field-turns w c.requires 9 c.from.result (omega arith) (omega arith) (ap (λ b. set_pat_mode b (rest w)) c.from.ensures.0)

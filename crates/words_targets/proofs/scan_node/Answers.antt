@@ -1,7 +1,6 @@
 -- The target of one node. Assumes nothing.
-use mathlib.Core.Path.{sym, ap, ◌∙◌}
+use mathlib.Core.Path.{sym, ◌∙◌}
 use Rattle.std.proofs.Common.{arith}
-use Rattle.def_pass.specs.Targets.{aims}
 use Rattle.words_targets.proofs.Targets as laws
 use Rattle.words_targets.proofs.scan_node.Goals.{then-not-aims-via-then-not-aims, then-not-aims-via-else-not-aims+then-arity_at-eq0}
 use Rattle.words_targets.proofs.scan_node.Goals as goal
@@ -17,12 +16,12 @@ overflow_add-k c = omega (arith, c.requires.0.few, c.requires.1)
 
 pub returns-then-not-aims : goal.returns-then-not-aims
 returns-then-not-aims c = elim c.then-not-aims.branch [
-  | then-not-aims-via-then-not-aims b ↦ laws.none-aimed c.args.w.now c.args.k (ap aims (sym c.kind_at.ensures) ∙ sym c.aims.ensures ∙ b.if-not-aims.true)
+  | then-not-aims-via-then-not-aims b ↦ laws.none-aimed c.args.w.now c.args.k (sym (c.aims.ensures _ c.kind_at.ensures.1) ∙ b.if-not-aims.true)
   | then-not-aims-via-else-not-aims+then-arity_at-eq0 b ↦ laws.none-there c.args.w.now c.args.k (sym b.arity_at.ensures ∙ b.if-arity_at-eq0.true)
 ]
 
 pub returns-in-Some : goal.returns-in-Some
-returns-in-Some c = laws.one_hit c.args.w.now c.args.k (ap aims (sym c.kind_at.ensures) ∙ sym c.aims.ensures ∙ c.if-not-aims.false) (λ e. c.if-arity_at-eq0.false (c.arity_at.ensures ∙ e)) c.in-Some.ensures c.set_flag.new.w c.set_flag.ensures
+returns-in-Some c = laws.one_hit c.args.w.now c.args.k (sym (c.aims.ensures _ c.kind_at.ensures.1) ∙ c.if-not-aims.false) (λ e. c.if-arity_at-eq0.false (c.arity_at.ensures ∙ e)) c.in-Some.ensures c.set_flag.new.w c.set_flag.ensures
 
 pub returns-in_default : goal.returns-in_default
-returns-in_default c = laws.none-hit c.args.w.now c.args.k (ap aims (sym c.kind_at.ensures) ∙ sym c.aims.ensures ∙ c.if-not-aims.false) (λ e. c.if-arity_at-eq0.false (c.arity_at.ensures ∙ e)) c.in_default.ensures
+returns-in_default c = laws.none-hit c.args.w.now c.args.k (sym (c.aims.ensures _ c.kind_at.ensures.1) ∙ c.if-not-aims.false) (λ e. c.if-arity_at-eq0.false (c.arity_at.ensures ∙ e)) c.in_default.ensures

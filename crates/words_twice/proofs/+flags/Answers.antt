@@ -1,8 +1,8 @@
 -- Node by node; a function by two calls, its name with the test outside and the rest with its own. Assumes nothing.
-use mathlib.Core.Path.{sym, ◌∙◌}
+use mathlib.Core.Path.{refl, sym, ◌∙◌}
 use native.Mathlib.Omega.{arith}
 use Rattle.def_pass.specs.Twice.{twice}
-use Rattle.words.specs.Layout.{tree}
+use Rattle.words.specs.Layout.{tree, node_of}
 use Rattle.words_nodes.specs.Nodes.{forest_from}
 use Rattle.words_nodes.proofs.Words.{few-open}
 use Rattle.words_twice.proofs.Flagging.{left_open, outside-le}
@@ -25,22 +25,22 @@ pub overflow_add-at : goal.overflow_add-at
 overflow_add-at t c = omega (arith, c.loop-more.invariant.planted.good.nodes, steps.inside c.loop-more.invariant (omega arith))
 
 pub flags-inside-requires : goal.flags-inside-requires
-flags-inside-requires t c = (omega (arith, c.decreases, c.loop-more.invariant.from, c.loop-more.invariant.planted.good.nodes, steps.inside c.loop-more.invariant (omega arith)), (c.loop-more.invariant.planted, steps.name-stands c.loop-more.invariant (omega arith) c.kind_at-k.ensures c.form_at-f.ensures c.arity_at-c.ensures c.outside-out.ensures, steps.test-stands c.loop-more.invariant (omega arith) c.requires.2, steps.name-plain c.loop-more.invariant (omega arith) c.kind_at-k.ensures c.form_at-f.ensures c.arity_at-c.ensures c.outside-out.ensures))
+flags-inside-requires t c = (omega (arith, c.decreases, c.loop-more.invariant.from, c.loop-more.invariant.planted.good.nodes, steps.inside c.loop-more.invariant (omega arith)), (c.loop-more.invariant.planted, steps.name-stands c.loop-more.invariant (omega arith) refl c.form_at-f.ensures c.arity_at-c.ensures (c.outside-out.ensures _ c.kind_at-k.ensures.1), steps.test-stands c.loop-more.invariant (omega arith) c.requires.2, steps.name-plain c.loop-more.invariant (omega arith) refl c.form_at-f.ensures c.arity_at-c.ensures (c.outside-out.ensures _ c.kind_at-k.ensures.1)))
 
 pub overflow_sub-c : goal.overflow_sub-c
-overflow_sub-c t c = omega (arith, c.outside-out.ensures, outside-le c.kind_at-k.result c.form_at-f.result c.arity_at-c.result)
+overflow_sub-c t c = omega (arith, (c.outside-out.ensures _ c.kind_at-k.ensures.1), outside-le (node_of c.loop-more.w c.loop-more.at).kind c.form_at-f.result c.arity_at-c.result)
 
 pub overflow_sub-c-then-is_function : goal.overflow_sub-c-then-is_function
-overflow_sub-c-then-is_function t c = omega (arith, c.outside-out.ensures, outside-le c.kind_at-k.result c.form_at-f.result c.arity_at-c.result)
+overflow_sub-c-then-is_function t c = omega (arith, (c.outside-out.ensures _ c.kind_at-k.ensures.1), outside-le (node_of c.loop-more.w c.loop-more.at).kind c.form_at-f.result c.arity_at-c.result)
 
 pub flags-at-requires : goal.flags-at-requires
-flags-at-requires t c = (omega (arith, c.decreases, c.loop-more.invariant.from, c.loop-more.invariant.planted.good.nodes, steps.inside c.loop-more.invariant (omega arith), steps.later c.loop-more.invariant (omega arith) c.kind_at-k.ensures c.form_at-f.ensures c.arity_at-c.ensures c.outside-out.ensures (steps.test-same c.loop-more.invariant (omega arith) c.args.m c.args.a) c.flags-inside.ensures.0 c.flags-inside.ensures.1), (c.flags-inside.ensures.1.planted, steps.body-stands c.loop-more.invariant (omega arith) c.kind_at-k.ensures c.form_at-f.ensures c.arity_at-c.ensures c.outside-out.ensures (steps.test-same c.loop-more.invariant (omega arith) c.args.m c.args.a) c.flags-inside.ensures.0 c.flags-inside.ensures.1, steps.body-stands c.loop-more.invariant (omega arith) c.kind_at-k.ensures c.form_at-f.ensures c.arity_at-c.ensures c.outside-out.ensures (steps.test-same c.loop-more.invariant (omega arith) c.args.m c.args.a) c.flags-inside.ensures.0 c.flags-inside.ensures.1, steps.body-plain c.loop-more.invariant (omega arith) c.kind_at-k.ensures c.form_at-f.ensures c.arity_at-c.ensures c.outside-out.ensures (steps.test-same c.loop-more.invariant (omega arith) c.args.m c.args.a) c.flags-inside.ensures.0 c.flags-inside.ensures.1))
+flags-at-requires t c = (omega (arith, c.decreases, c.loop-more.invariant.from, c.loop-more.invariant.planted.good.nodes, steps.inside c.loop-more.invariant (omega arith), steps.later c.loop-more.invariant (omega arith) refl c.form_at-f.ensures c.arity_at-c.ensures (c.outside-out.ensures _ c.kind_at-k.ensures.1) (steps.test-same c.loop-more.invariant (omega arith) c.args.m c.args.a) c.flags-inside.ensures.0 c.flags-inside.ensures.1), (c.flags-inside.ensures.1.planted, steps.body-stands c.loop-more.invariant (omega arith) refl c.form_at-f.ensures c.arity_at-c.ensures (c.outside-out.ensures _ c.kind_at-k.ensures.1) (steps.test-same c.loop-more.invariant (omega arith) c.args.m c.args.a) c.flags-inside.ensures.0 c.flags-inside.ensures.1, steps.body-stands c.loop-more.invariant (omega arith) refl c.form_at-f.ensures c.arity_at-c.ensures (c.outside-out.ensures _ c.kind_at-k.ensures.1) (steps.test-same c.loop-more.invariant (omega arith) c.args.m c.args.a) c.flags-inside.ensures.0 c.flags-inside.ensures.1, steps.body-plain c.loop-more.invariant (omega arith) refl c.form_at-f.ensures c.arity_at-c.ensures (c.outside-out.ensures _ c.kind_at-k.ensures.1) (steps.test-same c.loop-more.invariant (omega arith) c.args.m c.args.a) c.flags-inside.ensures.0 c.flags-inside.ensures.1))
 
 pub loop-more-smaller-then-is_function : goal.loop-more-smaller-then-is_function
-loop-more-smaller-then-is_function t c = omega (arith, c.loop-more.invariant.planted.good.nodes, steps.inside c.loop-more.invariant (omega arith), steps.later c.loop-more.invariant (omega arith) c.kind_at-k.ensures c.form_at-f.ensures c.arity_at-c.ensures c.outside-out.ensures (steps.test-same c.loop-more.invariant (omega arith) c.args.m c.args.a) c.flags-inside.ensures.0 c.flags-inside.ensures.1, c.flags-at.ensures.0)
+loop-more-smaller-then-is_function t c = omega (arith, c.loop-more.invariant.planted.good.nodes, steps.inside c.loop-more.invariant (omega arith), steps.later c.loop-more.invariant (omega arith) refl c.form_at-f.ensures c.arity_at-c.ensures (c.outside-out.ensures _ c.kind_at-k.ensures.1) (steps.test-same c.loop-more.invariant (omega arith) c.args.m c.args.a) c.flags-inside.ensures.0 c.flags-inside.ensures.1, c.flags-at.ensures.0)
 
 pub loop-more-preserved-then-is_function : goal.loop-more-preserved-then-is_function
-loop-more-preserved-then-is_function t c = steps.shut-done c.loop-more.invariant (omega arith) c.kind_at-k.ensures c.form_at-f.ensures c.arity_at-c.ensures c.outside-out.ensures (steps.test-same c.loop-more.invariant (omega arith) c.args.m c.args.a) c.flags-inside.ensures.0 c.flags-inside.ensures.1 (sym c.is_function.ensures ∙ c.if-is_function.true) c.flags-at.ensures.0 c.flags-at.ensures.1
+loop-more-preserved-then-is_function t c = steps.shut-done c.loop-more.invariant (omega arith) refl c.form_at-f.ensures c.arity_at-c.ensures (c.outside-out.ensures _ c.kind_at-k.ensures.1) (steps.test-same c.loop-more.invariant (omega arith) c.args.m c.args.a) c.flags-inside.ensures.0 c.flags-inside.ensures.1 (sym (c.is_function.ensures _ c.kind_at-k.ensures.1) ∙ c.if-is_function.true) c.flags-at.ensures.0 c.flags-at.ensures.1
 
 pub flag_node-requires : goal.flag_node-requires
 flag_node-requires t c = (c.loop-more.invariant.planted, steps.inside c.loop-more.invariant (omega arith), steps.test-stands c.loop-more.invariant (omega arith) c.requires.2, c.loop-more.invariant.plain)
@@ -55,7 +55,7 @@ pub loop-more-smaller : goal.loop-more-smaller
 loop-more-smaller t c = omega (arith, c.loop-more.invariant.planted.good.nodes, steps.inside c.loop-more.invariant (omega arith))
 
 pub loop-more-preserved : goal.loop-more-preserved
-loop-more-preserved t c = steps.open_done c.loop-more.invariant (omega arith) c.kind_at-k.ensures c.arity_at-c.ensures (sym c.is_function.ensures ∙ c.if-is_function.false) (steps.test-same c.loop-more.invariant (omega arith) c.args.m c.args.a) c.flag_node.ensures
+loop-more-preserved t c = steps.open_done c.loop-more.invariant (omega arith) refl c.arity_at-c.ensures (sym (c.is_function.ensures _ c.kind_at-k.ensures.1) ∙ c.if-is_function.false) (steps.test-same c.loop-more.invariant (omega arith) c.args.m c.args.a) c.flag_node.ensures
 
 pub shape_of-w : goal.shape_of-w
 shape_of-w t c = c.loop-more.invariant.apart.size

@@ -1,5 +1,6 @@
 -- Test by test. Assumes nothing.
-use Rattle.std.proofs.Common.{arith}
+use Rattle.std.proofs.Common.{ap, ◌∙◌, arith}
+use Rattle.def_file.specs.Named.{kind_of}
 use Rattle.words_twice.proofs.Looks as looks
 use Rattle.words_twice.proofs.binds.Goals as goal
 
@@ -9,8 +10,8 @@ kind_at-requires c = (c.requires.0.good.long, omega (arith, c.requires.0.good.no
 pub num_at-requires : goal.num_at-requires
 num_at-requires c = (c.requires.0.good.long, omega (arith, c.requires.0.good.nodes, c.requires.1))
 
-pub returns-then-kind_at-eq20 : goal.returns-then-kind_at-eq20
-returns-then-kind_at-eq20 c = looks.binds-by c.requires.0 c.requires.1 c.args.x c.kind_at.ensures c.if-kind_at-eq20.true c.num_at.ensures
+pub returns-in-BindingIdent : goal.returns-in-BindingIdent
+returns-in-BindingIdent c = looks.binds-by c.requires.0 c.requires.1 c.args.x (rw c.in-BindingIdent.is at c.kind_at.ensures.1) c.num_at.ensures
 
-pub returns-else-kind_at-eq20 : goal.returns-else-kind_at-eq20
-returns-else-kind_at-eq20 c = looks.binds-kind c.requires.0 c.requires.1 c.args.x c.kind_at.ensures c.if-kind_at-eq20.false
+pub returns-in_default : goal.returns-in_default
+returns-in_default c = looks.binds-none c.requires.0 c.requires.1 c.args.x (λ e. c.in_default.not-BindingIdent (c.kind_at.ensures.0 ∙ ap kind_of e))

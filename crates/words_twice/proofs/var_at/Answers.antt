@@ -1,21 +1,27 @@
 -- Kind and form, then the children. Assumes nothing.
-use mathlib.Core.Path.{sym, ◌∙◌}
-use native.Mathlib.Omega.{arith}
+use Rattle.std.proofs.Common.{rules, ◌≡◌, ◌+◌, sym, ap, ◌∙◌, arith, true, false}
+use Rattle.def_tree.specs.Tree.{Tree, nil, cons}
+use Rattle.def_pass.specs.Twice.{declarators}
+use Rattle.words.specs.Layout.{tree, node_of}
+use Rattle.words_nodes.specs.Nodes.{forest_from}
+use Rattle.words_twice.specs.Twice.{over, Counts}
+use Rattle.def_file.specs.Named.{kind_of}
 use Rattle.words_twice.proofs.Looks as looks
-use Rattle.words_twice.proofs.var_at.Goals.{then-kind_at-ne5-via-then-kind_at-ne5, then-kind_at-ne5-via-else-kind_at-ne5+then-form_at-ne0}
 use Rattle.words_twice.proofs.var_at.Goals as goal
 
 pub kind_at-requires : goal.kind_at-requires
 kind_at-requires c = (c.requires.0.good.long, omega (arith, c.requires.0.good.nodes, c.requires.1))
 
-pub returns-then-kind_at-ne5 : goal.returns-then-kind_at-ne5
-returns-then-kind_at-ne5 c = elim c.then-kind_at-ne5.branch [
-  | then-kind_at-ne5-via-then-kind_at-ne5 b ↦ looks.own-other c.requires.0 c.requires.1 c.args.all c.args.x (λ e. b.if-kind_at-ne5.true (c.kind_at.ensures ∙ e))
-  | then-kind_at-ne5-via-else-kind_at-ne5+then-form_at-ne0 b ↦ looks.own-let c.requires.0 c.requires.1 c.args.all c.args.x (sym c.kind_at.ensures ∙ b.if-kind_at-ne5.false) (λ e. b.if-form_at-ne0.true (b.form_at.ensures ∙ e))
-]
+pub returns-in_default : goal.returns-in_default
+returns-in_default c = let o = λ (e : (node_of c.args.w.now c.args.j).kind ≡ 5). c.in_default.not-VarDecl (c.kind_at.ensures.0 ∙ ap kind_of e) in record { all = looks.own-other c.requires.0 c.requires.1 true c.args.x o; costly = looks.own-other c.requires.0 c.requires.1 false c.args.x o }
 
 pub form_at-requires : goal.form_at-requires
 form_at-requires c = (c.requires.0.good.long, omega (arith, c.requires.0.good.nodes, c.requires.1))
+
+pub returns-then-form_at-ne-VAR : goal.returns-then-form_at-ne-VAR
+returns-then-form_at-ne-VAR c =
+    let k = rw c.in-VarDecl.is at c.kind_at.ensures.1 in
+    record { all = looks.own-let c.requires.0 c.requires.1 true c.args.x k (λ e. c.if-form_at-ne-VAR.true (c.form_at.ensures ∙ e)); costly = looks.own-let c.requires.0 c.requires.1 false c.args.x k (λ e. c.if-form_at-ne-VAR.true (c.form_at.ensures ∙ e)) }
 
 pub arity_at-n-requires : goal.arity_at-n-requires
 arity_at-n-requires c = (c.requires.0.good.long, omega (arith, c.requires.0.good.nodes, c.requires.1))
@@ -23,8 +29,13 @@ arity_at-n-requires c = (c.requires.0.good.long, omega (arith, c.requires.0.good
 pub overflow_add-j : goal.overflow_add-j
 overflow_add-j c = omega (arith, c.requires.0.good.nodes, c.requires.1)
 
-pub declarators-requires : goal.declarators-requires
-declarators-requires c = (c.requires.0, rw c.arity_at-n.ensures (looks.kids-stand c.requires.0 c.requires.1))
+pub count_trees-requires : goal.count_trees-requires
+count_trees-requires c = (c.requires.0, rw c.arity_at-n.ensures (looks.kids-stand c.requires.0 c.requires.1), λ j l. search rules)
 
 pub returns : goal.returns
-returns c = looks.own-var c.requires.0 c.requires.1 c.args.all c.args.x (sym c.kind_at.ensures ∙ c.if-kind_at-ne5.false) (sym c.form_at.ensures ∙ c.if-form_at-ne0.false) c.arity_at-n.ensures c.declarators.ensures
+returns c =
+    let k = rw c.in-VarDecl.is at c.kind_at.ensures.1 in
+    let f = sym c.form_at.ensures ∙ c.if-form_at-ne-VAR.false in
+    let d = λ (t : Tree). declarators c.args.x (cons t nil) in
+    let s : Counts c.count_trees.result (over d (forest_from (tree c.args.w.now) c.arity_at-n.result (c.args.j + 1))) = c.count_trees.ensures d (λ j r l p. search rules) in
+    record { all = looks.own-var c.requires.0 c.requires.1 true c.args.x k f c.arity_at-n.ensures s.all; costly = looks.own-var c.requires.0 c.requires.1 false c.args.x k f c.arity_at-n.ensures s.costly }

@@ -1,12 +1,12 @@
--- `def_file::kinds::row_of` meets its contract: each arm is the row of its kind, and the last arm is no kind's. Assumes nothing.
-use Rattle.std.proofs.Common.{sym, ◌∙◌, arith}
+-- Each arm is the row of its kind; the last one's is no row. Assumes nothing.
+use Rattle.std.proofs.Common.{◌≡◌}
 use Rattle.def_file.specs.Kinds.{row_of}
-use Rattle.def_file.proofs.Rows.{row-none}
+use Rattle.def_file.proofs.Rows.{none}
 use Rattle.def_file.proofs.kinds.row_of.Goals as goal
 
-pub returns-in-2 : goal.returns-in-2
+pub returns-in-Block : goal.returns-in-Block
 unfolding row_of
-returns-in-2 c = rw c.in-2.is c.every-in-2.ensures
+returns-in-Block c = λ k e. let two : k ≡ 2 = rw c.in-Block.is at e in rw two c.every-in-Block.ensures
 
-pub returns-in_default : goal.returns-in_default
-returns-in_default c = c.no_row.ensures ∙ sym (row-none c.args.kind c.args.form (λ h. omega arith))
+pub returns-in-Invalid : goal.returns-in-Invalid
+returns-in-Invalid c = λ k e. none k c.args.form (rw c.in-Invalid.is at e).1

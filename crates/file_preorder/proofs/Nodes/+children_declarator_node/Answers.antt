@@ -3,6 +3,7 @@ use Rattle.std.proofs.Common.{sym, ap, ◌∙◌, get_or, drop, arith, refl}
 use Rattle.std.proofs.lemmas.Result.{err_from_is_err_and}
 use Rattle.def_file.specs.declared.Raw.{Raw}
 use Rattle.def_file.specs.Script.{zero_node}
+use Rattle.def_file.specs.Named.{kind_of}
 use Rattle.file_preorder.specs.Child.{place, nodes_of}
 use Rattle.file_preorder.specs.declared.Child.TheVariants.{Binding, Other}
 use Rattle.file_fields.proofs.Raws.{nodes-length, node-raw}
@@ -19,33 +20,33 @@ children-overflow_sub-left t c = fitting-left c.requires
 pub children-node-requires : goal.children-node-requires
 children-node-requires t c =
     let low = fitting-left c.requires in
-    (omega (arith, c.decreases), (c.requires.room, omega (arith, c.requires.shallow)))
+    (omega (arith, c.decreases), omega (arith, c.requires.shallow))
 
 pub children-returns-in_err-answer : goal.children-returns-in_err-answer
 children-returns-in_err-answer t c =
-    let same = fitting-read c.requires c.raw_at-x.ensures in
+    let same = fitting-read c.requires c.node_at-x.ensures in
     let many = ap (λ (x : Raw). x.arity) same in
-    let f = child-at c.loop-i.i same c.row_of-row.ensures c.child-class.ensures c.in_err-answer.ensures in
+    let f = child-at c.loop-i.i same (c.row_of-row.ensures _ c.from-kind.ensures.1) c.child-class.ensures c.in_err-answer.ensures in
     let e = err_from_is_err_and c.from_residual.result c.from_residual.ensures.1 in
     rw (e.1, e.2) (fitting-refused c.requires c.loop-i.invariant (omega (arith, many, c.loop-i-test.true)) f)
 
 pub children-loop-i-preserved : goal.children-loop-i-preserved
 children-loop-i-preserved t c =
-    let same = fitting-read c.requires c.raw_at-x.ensures in
+    let same = fitting-read c.requires c.node_at-x.ensures in
     let many = ap (λ (x : Raw). x.arity) same in
-    let f = child-at c.loop-i.i same c.row_of-row.ensures c.child-class.ensures c.in_ok-answer.ensures in
+    let f = child-at c.loop-i.i same (c.row_of-row.ensures _ c.from-kind.ensures.1) c.child-class.ensures c.in_ok-answer.ensures in
     rw c.behind-next.ensures (upto-more c.loop-i.invariant (omega (arith, many, c.loop-i-test.true)) f)
 
-pub children-returns-then-x-eq20 : goal.children-returns-then-x-eq20
-children-returns-then-x-eq20 t c =
-    let many = ap (λ (x : Raw). x.arity) (fitting-read c.requires c.raw_at-x.ensures) in
+pub children-returns-in-BindingIdent : goal.children-returns-in-BindingIdent
+children-returns-in-BindingIdent t c =
+    let many = ap (λ (x : Raw). x.arity) (fitting-read c.requires c.node_at-x.ensures) in
     fitting-all c.requires (Binding c.loop-i.next) c.loop-i.invariant (omega (arith, many, c.loop-i-test.false)) refl tt
 
-pub children-returns-else-x-eq20 : goal.children-returns-else-x-eq20
-children-returns-else-x-eq20 t c =
-    let same = fitting-read c.requires c.raw_at-x.ensures in
+pub children-returns-in_default : goal.children-returns-in_default
+children-returns-in_default t c =
+    let same = fitting-read c.requires c.node_at-x.ensures in
     let many = ap (λ (x : Raw). x.arity) same in
-    fitting-all c.requires (Other c.loop-i.next) c.loop-i.invariant (omega (arith, many, c.loop-i-test.false)) refl (ok-allows _ _ _ c.requires.fits, λ k. c.if-x-eq20.false (ap (λ (x : Raw). x.kind) same ∙ k))
+    fitting-all c.requires (Other c.loop-i.next) c.loop-i.invariant (omega (arith, many, c.loop-i-test.false)) refl (ok-allows _ _ _ c.requires.fits, λ k. c.in_default.not-BindingIdent (c.from-kind.ensures.0 ∙ ap kind_of (ap (λ (x : Raw). x.kind) same ∙ k)))
 
 pub declarator-overflow_sub-left : goal.declarator-overflow_sub-left
 declarator-overflow_sub-left t c = fitting-left c.requires.0
@@ -53,7 +54,7 @@ declarator-overflow_sub-left t c = fitting-left c.requires.0
 pub declarator-node-requires : goal.declarator-node-requires
 declarator-node-requires t c =
     let low = fitting-left c.requires.0 in
-    (omega (arith, c.decreases), (c.requires.0.room, omega (arith, c.requires.0.shallow)))
+    (omega (arith, c.decreases), omega (arith, c.requires.0.shallow))
 
 pub declarator-returns-in_err-name : goal.declarator-returns-in_err-name
 declarator-returns-in_err-name t c =
@@ -65,7 +66,7 @@ declarator-returns-in_default t c = absurd (declr-no_other c.requires.0 c.requir
 
 pub declarator-returns-then-x-eq1 : goal.declarator-returns-then-x-eq1
 declarator-returns-then-x-eq1 t c =
-    let many = ap (λ (x : Raw). x.arity) (fitting-read c.requires.0 c.raw_at-x.ensures) in
+    let many = ap (λ (x : Raw). x.arity) (fitting-read c.requires.0 c.node_at-x.ensures) in
     declr-alone c.requires.0 c.requires.1 c.in_ok-name.ensures c.in-Binding.is (omega (arith, many, c.if-x-eq1.true))
 
 pub declarator-overflow_sub-left-2 : goal.declarator-overflow_sub-left-2
@@ -74,17 +75,17 @@ declarator-overflow_sub-left-2 t c = fitting-left c.requires.0
 pub declarator-node-requires-2 : goal.declarator-node-requires-2
 declarator-node-requires-2 t c =
     let low = fitting-left c.requires.0 in
-    (omega (arith, c.decreases), (c.requires.0.room, omega (arith, c.requires.0.shallow)))
+    (omega (arith, c.decreases), omega (arith, c.requires.0.shallow))
 
 pub declarator-returns-in_err-init : goal.declarator-returns-in_err-init
 declarator-returns-in_err-init t c =
-    let many = ap (λ (x : Raw). x.arity) (fitting-read c.requires.0 c.raw_at-x.ensures) in
+    let many = ap (λ (x : Raw). x.arity) (fitting-read c.requires.0 c.node_at-x.ensures) in
     let e = err_from_is_err_and c.from_residual-in_err-init.result c.from_residual-in_err-init.ensures.1 in
     rw (e.1, e.2) (declr-bad c.requires.0 c.requires.1 c.in_ok-name.ensures c.in-Binding.is (λ o. c.if-x-eq1.false (many ∙ o)) c.in_err-init.ensures)
 
 pub declarator-returns : goal.declarator-returns
 declarator-returns t c =
-    let many = ap (λ (x : Raw). x.arity) (fitting-read c.requires.0 c.raw_at-x.ensures) in
+    let many = ap (λ (x : Raw). x.arity) (fitting-read c.requires.0 c.node_at-x.ensures) in
     declr-init c.requires.0 c.requires.1 c.in_ok-name.ensures c.in-Binding.is (λ o. c.if-x-eq1.false (many ∙ o)) c.in_ok-init.ensures c.behind.ensures
 
 pub node-returns-then-self-at : goal.node-returns-then-self-at
@@ -104,7 +105,7 @@ node-returns-then-not-node_ok t c =
     let p = place a.c a.left in
     let xs = nodes_of a.self.file.now a.self.count in
     let len = nodes-length a.self.count (drop 32 a.self.file.now) in
-    let same = c.raw_at-x.ensures ∙ sym (node-raw a.self.count a.at a.self.file.now (omega (arith, c.if-self-at.false))) in
+    let same = c.node_at-x.ensures ∙ sym (node-raw a.self.count a.at a.self.file.now (omega (arith, c.if-self-at.false))) in
     unfit (λ ps. fill-shut a.self.texts xs a.at p ps (omega (arith, c.if-self-at.false)) (deep-ok a.self.texts p (get_or xs a.at zero_node) (omega (arith, c.if-left-eq0.false)) ∙ rest-same a.self.texts a.c same ∙ sym c.node_ok.ensures ∙ c.if-not-node_ok.true))
 
 pub node-declarator-requires : goal.node-declarator-requires
@@ -112,16 +113,15 @@ node-declarator-requires t c =
     let a = c.args in
     let p = place a.c a.left in
     let low = c.if-self-at.false in
-    let same = c.raw_at-x.ensures ∙ sym (node-raw a.self.count a.at a.self.file.now (omega (arith, low))) in (
+    let same = c.node_at-x.ensures ∙ sym (node-raw a.self.count a.at a.self.file.now (omega (arith, low))) in (
       omega (arith, c.decreases),
       (
         record {
-          room = c.requires.0;
-          shallow = c.requires.1;
+          shallow = c.requires;
           less = omega (arith, low);
           fits = deep-ok a.self.texts p (get_or (nodes_of a.self.file.now a.self.count) a.at zero_node) (omega (arith, c.if-left-eq0.false)) ∙ rest-same a.self.texts a.c same ∙ sym c.node_ok.ensures ∙ c.if-not-node_ok.false;
         },
-        ap (λ (x : Raw). x.kind) (sym same) ∙ c.if-x-eq6.true,
+        ap (λ (x : Raw). x.kind) (sym same) ∙ rw c.in-VarDeclarator.is at c.from.ensures.1,
       ),
     )
 
@@ -130,11 +130,10 @@ node-children-requires t c =
     let a = c.args in
     let p = place a.c a.left in
     let low = c.if-self-at.false in
-    let same = c.raw_at-x.ensures ∙ sym (node-raw a.self.count a.at a.self.file.now (omega (arith, low))) in (
+    let same = c.node_at-x.ensures ∙ sym (node-raw a.self.count a.at a.self.file.now (omega (arith, low))) in (
       omega (arith, c.decreases),
       record {
-        room = c.requires.0;
-        shallow = c.requires.1;
+        shallow = c.requires;
         less = omega (arith, low);
         fits = deep-ok a.self.texts p (get_or (nodes_of a.self.file.now a.self.count) a.at zero_node) (omega (arith, c.if-left-eq0.false)) ∙ rest-same a.self.texts a.c same ∙ sym c.node_ok.ensures ∙ c.if-not-node_ok.false;
       },

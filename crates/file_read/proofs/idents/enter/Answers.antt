@@ -4,7 +4,7 @@ use Rattle.def_file.specs.declared.Raw.{Raw}
 use Rattle.def_file.specs.Script.{place_of}
 use Rattle.def_file.specs.Read.{raw_of}
 use Rattle.file_read.specs.Idents.{numbered, ids_of}
-use Rattle.file_read.proofs.Names.{text-field, ids-length, ids-same, listed_same, first_count, first-list, known-yes, enter-old, enter-new, place-new, more-size, more-other, more-ids, more-count, more-listed, more-texted}
+use Rattle.file_read.proofs.Names.{ids-length, ids-same, listed_same, first_count, first-list, known-yes, enter-old, enter-new, place-new, more-size, more-other, more-ids, more-count, more-listed, more-texted}
 use Rattle.file_read.proofs.idents.enter.Goals as goal
 
 minus : (k : ℕ) → k + 1 - 1 ≡ k
@@ -18,7 +18,7 @@ returns-in-Some c =
     let a = c.args in
     let x = raw_of (drop (32 + 16 * a.k) a.file.now) in
     let ids = ids_of a.file.now a.words.now in
-    let at = c.in-Some.ensures in
+    let at = rw c.node_at-x.ensures at c.in-Some.ensures in
     let old = enter-old ids x (known-yes x ids (omega (arith, at.0, at.1))) in
     record {
       size = refl;
@@ -34,7 +34,7 @@ returns-then-count-eq256 c =
     let x = raw_of (drop (32 + 16 * a.k) a.file.now) in
     let ids = ids_of a.file.now a.words.now in
     let len = ids-length a.file.now a.words.now in
-    let new = enter-new ids x c.requires.3 c.in_default.ensures in
+    let new = enter-new ids x c.requires.3 (rw c.node_at-x.ensures at c.in_default.ensures) in
     record {
       size = refl;
       first = λ j l h. refl;
@@ -44,7 +44,7 @@ returns-then-count-eq256 c =
     }
 
 pub set_first-requires : goal.set_first-requires
-set_first-requires c = (simp length-set c.requires.0.long, omega (arith, c.u32_at-t.ensures, text-field c.args.file.now (32 + 16 * c.args.k), c.requires.5))
+set_first-requires c = (simp length-set c.requires.0.long, rw c.node_at-x.ensures c.requires.5)
 
 pub returns : goal.returns
 returns c =
@@ -55,16 +55,16 @@ returns c =
     let w = a.words.now in
     let x = raw_of (drop (32 + 16 * a.k) bs) in
     let ids = ids_of bs w in
-    let no = c.in_default.ensures in
+    let no = rw c.node_at-x.ensures at c.in_default.ensures in
     let new = enter-new ids x p.3 no in
     let room : get_or w 4 0 < 256 = omega (arith, L.few) in
     let same : numbered bs (a.k + 1) ≡ x = ap (λ (m : ℕ). raw_of (drop (32 + 16 * m) bs)) (minus a.k) in
-    let text : x.text ≡ c.u32_at-t.result = text-field bs (32 + 16 * a.k) ∙ sym c.u32_at-t.ensures in
-    let small : c.u32_at-t.result < 256 = omega (arith, p.5) in
+    let text : x.text ≡ c.node_at-x.result.text = ap (λ (y : Raw). y.text) (sym c.node_at-x.ensures) in
+    let small : c.node_at-x.result.text < 256 = omega (arith, text, p.5) in
     let w₁ = set (set w (15504 + get_or w 4 0) (a.k + 1)) 4 (get_or w 4 0 + 1) in
     let w₂ = c.set_first.new.words in
     let F = c.set_first.ensures in
-    let other : (j : ℕ) → (j ≡ 4 → ⊥) → (j ≡ 15504 + get_or w 4 0 → ⊥) → (j ≡ 15760 + c.u32_at-t.result → ⊥) → get_or w₂ j 0 ≡ get_or w j 0 = λ j f i t. F.other j t ∙ more-other bs w a.n (a.k + 1) L room j f i in
+    let other : (j : ℕ) → (j ≡ 4 → ⊥) → (j ≡ 15504 + get_or w 4 0 → ⊥) → (j ≡ 15760 + c.node_at-x.result.text → ⊥) → get_or w₂ j 0 ≡ get_or w j 0 = λ j f i t. F.other j t ∙ more-other bs w a.n (a.k + 1) L room j f i in
     let list : (i : ℕ) → i < get_or w₁ 4 0 → get_or w₂ (15504 + i) 0 ≡ get_or w₁ (15504 + i) 0 = λ i h. first-list F i (omega (arith, more-count bs w a.n (a.k + 1) L room)) in
     record {
       size = F.size ∙ more-size bs w a.n (a.k + 1) L room;

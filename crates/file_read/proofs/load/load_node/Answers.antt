@@ -1,33 +1,40 @@
 -- `file_read::load::load_node` meets its contract: a literal, an identifier or another node is loaded as the core has it. Assumes nothing.
-use Rattle.std.proofs.Common.{◌≤◌, ap, ◌∙◌, arith}
+use Rattle.std.proofs.Common.{◌≡◌, ◌≤◌, ℕ, ap, ◌∙◌, arith}
+use mathlib.Core.Logic.{inl, inr}
+use Rattle.def_file.specs.Named.{kind_of}
 use Rattle.def_file.specs.declared.Raw.{Raw}
+use Rattle.def_file.proofs.Named.{numbered}
 use Rattle.file_read.proofs.Cores.{loading-read, loading-sound, loaded-lit, loaded-plain, kept_by}
 use Rattle.file_read.proofs.load.load_node.Goals as goal
-use Rattle.file_read.proofs.load.load_node.Goals.{in_default-via-then-x-lt20, in_default-via-else-x-lt20+else-x-lt22+else-x-lt26}
 
-pub returns-in-22-to-25 : goal.returns-in-22-to-25
-returns-in-22-to-25 c =
-    let kind = ap (λ (y : Raw). y.kind) (loading-read c.requires c.raw_at-x.ensures) in
-    let p = c.put_node.ensures in
-    record { kept = kept_by p.size p.last; next = loaded-lit c.requires (omega arith) (omega arith) p }
+pub returns-in-Null : goal.returns-in-Null
+returns-in-Null c =
+    let kind = ap (λ (y : Raw). y.kind) (loading-read c.requires c.node_at-x.ensures) in
+    let p = c.add_node.ensures in
+    let from : 22 ≤ c.node_at-x.result.kind = elim c.in-Null.is [ inl a ↦ omega (arith, rw a at c.from-kind.ensures.1) | inr (inl a) ↦ omega (arith, rw a at c.from-kind.ensures.1) | inr (inr (inl a)) ↦ omega (arith, rw a at c.from-kind.ensures.1) | inr (inr (inr a)) ↦ omega (arith, rw a at c.from-kind.ensures.1) ] in
+    let to : c.node_at-x.result.kind ≤ 25 = elim c.in-Null.is [ inl a ↦ omega (arith, rw a at c.from-kind.ensures.1) | inr (inl a) ↦ omega (arith, rw a at c.from-kind.ensures.1) | inr (inr (inl a)) ↦ omega (arith, rw a at c.from-kind.ensures.1) | inr (inr (inr a)) ↦ omega (arith, rw a at c.from-kind.ensures.1) ] in
+    record { kept = kept_by p.1.size p.1.high; next = loaded-lit c.requires (omega arith) (omega arith) p }
 
-pub put_node-requires-in_default : goal.put_node-requires-in_default
-put_node-requires-in_default c =
+pub add_node-requires-in_default : goal.add_node-requires-in_default
+add_node-requires-in_default c =
     let L = c.requires in
-    let same = loading-read L c.raw_at-x.ensures in
+    let same = loading-read L c.node_at-x.ensures in
     let sound = loading-sound L in
     let kind = ap (λ (y : Raw). y.kind) same in
     let form = ap (λ (y : Raw). y.form) same in
-    (L.loaded.listed.long, omega (arith, L.less, L.readable.few), L.loaded.count, omega (arith, sound.kind, c.from.ensures), omega (arith, sound.form, c.from-in_default.ensures), omega (arith, c.raw_at-x.type_inv, c.from-in_default-2.ensures))
+    let number = numbered c.from-kind.result c.node_at-x.result.kind c.from-kind.ensures.1 in
+    (L.loaded.listed.long, omega (arith, L.loaded.count, L.less, L.readable.few), (omega (arith, sound.kind, number), omega (arith, sound.form, c.from.ensures), omega (arith, c.node_at-x.type_inv, c.from-in_default.ensures)))
 
 pub returns-in_default : goal.returns-in_default
 returns-in_default c =
     let L = c.requires in
-    let same = loading-read L c.raw_at-x.ensures in
+    let same = loading-read L c.node_at-x.ensures in
     let kind = ap (λ (y : Raw). y.kind) same in
-    let p = c.put_node-in_default.ensures in
-    let out = λ (h : 20 ≤ c.raw_at-x.result.kind → 26 ≤ c.raw_at-x.result.kind). loaded-plain L (c.from.ensures ∙ kind) (c.from-in_default.ensures ∙ ap (λ (y : Raw). y.form) same) (c.from-in_default-2.ensures ∙ ap (λ (y : Raw). y.arity) same) (λ l. omega (arith, h)) p in
+    let p = c.add_node-in_default.ensures in
+    let not : (n : ℕ) → (c.from-kind.result ≡ kind_of n → ⊥) → c.node_at-x.result.kind ≡ n → ⊥ = λ n h e. h (c.from-kind.ensures.0 ∙ ap kind_of e) in
+    let d = c.in_default in
     record {
-      kept = kept_by p.size p.last;
-      next = elim c.in_default.branch [ in_default-via-then-x-lt20 w ↦ out (λ l. omega arith) | in_default-via-else-x-lt20+else-x-lt22+else-x-lt26 w ↦ out (λ l. omega arith) ];
+      kept = kept_by p.1.size p.1.high;
+      next = loaded-plain L (numbered c.from-kind.result c.node_at-x.result.kind c.from-kind.ensures.1 ∙ kind) (c.from.ensures ∙ ap (λ (y : Raw). y.form) same) (c.from-in_default.ensures ∙ ap (λ (y : Raw). y.arity) same)
+          (λ l. omega (arith, not 20 d.not-BindingIdent, not 21 d.not-Ident, not 22 d.not-Null, not 23 d.not-Bool, not 24 d.not-Number, not 25 d.not-Str)) p;
     }

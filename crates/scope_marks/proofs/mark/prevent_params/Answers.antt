@@ -1,11 +1,9 @@
 -- The sweep over the bindings from lo on. Assumes nothing.
-use Rattle.std.proofs.Common.{◌≡◌, ◌≤◌, ◌<◌, get_or, sym, ap, ◌∙◌, arith, rules}
+use Rattle.std.proofs.Common.{◌≡◌, ◌≤◌, ◌<◌, get_or, sym, ap, ◌∙◌, arith}
 use Rattle.def_pass.specs.Scope.{is_param}
-use Rattle.words_scopes.specs.declared.kinds.VarType.TheVariants.{Param}
-use Rattle.words_scopes.specs.Kinds.{type_of}
 use Rattle.scope_marks.proofs.Fields as fields
 use Rattle.scope_marks.proofs.mark.prevent_params.Goals as goal
-use Rattle.scope_marks.proofs.mark.prevent_params.Goals.{then-eq, else-eq}
+use Rattle.scope_marks.proofs.mark.prevent_params.Goals.{then-is_param, else-is_param}
 
 pub loop-k-init : goal.loop-k-init
 loop-k-init c = fields.swept_none c.args.w.now c.args.lo
@@ -22,9 +20,9 @@ loop-k-preserved c =
     let s = c.loop-k.invariant in
     let h : k < get_or w₀ 1 0 = omega arith in
     let o : c.args.lo ≤ k = omega arith in
-    elim c.if-eq.branch [
-      | then-eq t ↦ let e : c.var_type.result ≡ Param = search rules in rw t.w-is (fields.swept-hit c.requires.0 s o h (ap is_param (sym c.var_type.ensures ∙ ap type_of e)))
-      | else-eq t ↦ let e : c.var_type.result ≡ Param → ⊥ = search rules in rw t.w-is (fields.swept-miss c.requires.0 s o h (ap is_param (sym c.var_type.ensures) ∙ fields.type-other c.var_type.result e))
+    elim c.if-is_param.branch [
+      | then-is_param t ↦ rw t.w-is (fields.swept-hit c.requires.0 s o h (ap is_param (sym c.var_type.ensures) ∙ sym c.is_param.ensures ∙ t.if-is_param.true))
+      | else-is_param t ↦ rw t.w-is (fields.swept-miss c.requires.0 s o h (ap is_param (sym c.var_type.ensures) ∙ sym c.is_param.ensures ∙ t.if-is_param.false))
     ]
 
 pub returns : goal.returns

@@ -1,4 +1,5 @@
 -- The goals of binds. Assumes nothing.
+use mathlib.Core.Path.{refl}
 use native.Mathlib.Omega.{arith}
 use Rattle.def_tree.proofs.Sims.{sim-each}
 use Rattle.laws_flat.specs.WalkF.{walks_f, catch_param_f}
@@ -24,10 +25,12 @@ pub binds-returns-in_err-at : goal.binds-returns-in_err-at
 binds-returns-in_err-at t c = ways.did-exit c.from_residual.result c.from_residual.ensures.1 (ways.many-stop (catch_param_f (walks_f c.args.d) c.args.p) c.args.i c.loop-k._k c.args.n c.loop-k.invariant c.loop-k-test.true (ways.bound-stop (walks_f c.args.d) c.args.p c.loop-k.at c.in_err-at.ensures))
 
 pub binds-mark_caught-requires : goal.binds-mark_caught-requires
-binds-mark_caught-requires t c = heres.name-low (heres.here-behind (sim-each (sim-catch_param (sims c.args.d) c.args.p)) c.requires c.loop-k._k c.loop-k-test.true c.loop-k.invariant) c.kind_at-kind.ensures c.num_at-x.ensures c.in_ok-at.ensures.ok.planted
+binds-mark_caught-requires t c =
+    let low = heres.name-low (heres.here-behind (sim-each (sim-catch_param (sims c.args.d) c.args.p)) c.requires c.loop-k._k c.loop-k-test.true c.loop-k.invariant) refl c.num_at-x.ensures c.in_ok-at.ensures.ok.planted in
+    (low.0, λ e. low.1 (rw e at c.kind_at-kind.ensures.1))
 
 pub binds-loop-k-preserved : goal.binds-loop-k-preserved
-binds-loop-k-preserved t c = ways.many-next (catch_param_f (walks_f c.args.d) c.args.p) c.args.i c.loop-k._k c.args.n c.loop-k.invariant (ways.bound-then (walks_f c.args.d) (heres.here-behind (sim-each (sim-catch_param (sims c.args.d) c.args.p)) c.requires c.loop-k._k c.loop-k-test.true c.loop-k.invariant) c.kind_at-kind.ensures c.num_at-x.ensures c.in_ok-at.ensures c.mark_caught.ensures)
+binds-loop-k-preserved t c = ways.many-next (catch_param_f (walks_f c.args.d) c.args.p) c.args.i c.loop-k._k c.args.n c.loop-k.invariant (ways.bound-then (walks_f c.args.d) (heres.here-behind (sim-each (sim-catch_param (sims c.args.d) c.args.p)) c.requires c.loop-k._k c.loop-k-test.true c.loop-k.invariant) refl c.num_at-x.ensures c.in_ok-at.ensures (c.mark_caught.ensures _ c.kind_at-kind.ensures.1))
 
 pub binds-returns : goal.binds-returns
 binds-returns t c = ways.many-end (catch_param_f (walks_f c.args.d) c.args.p) c.args.i c.loop-k._k c.args.n c.loop-k.invariant c.loop-k.auto._k-end c.loop-k-test.false

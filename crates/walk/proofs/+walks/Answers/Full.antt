@@ -1,7 +1,8 @@
 -- The goals of full. Assumes nothing.
 use Prim.Native.Nat.{◌-◌}
-use mathlib.Core.Path.{refl, sym, ◌∙◌}
+use mathlib.Core.Path.{refl, sym, ap, ◌∙◌}
 use native.Mathlib.Omega.{arith}
+use Rattle.def_file.specs.Named.{kind_of}
 use Rattle.laws_flat.specs.WalkF.{walks_f}
 use Rattle.laws_flat.proofs.Sim.{sims, sim-own}
 use Rattle.walk_laws.proofs.Shorts as shorts
@@ -19,16 +20,16 @@ pub full-kind_at-requires : goal.full-kind_at-requires
 full-kind_at-requires t c = heres.at-node c.requires
 
 pub full-ident-requires : goal.full-ident-requires
-full-ident-requires t c = (omega (arith, c.decreases, c.if-l-eq0.false), (heres.here-up c.if-l-eq0.false c.requires, sym c.kind_at.ensures ∙ c.if-kind_at-eq21.true))
+full-ident-requires t c = (omega (arith, c.decreases, c.if-l-eq0.false), (heres.here-up c.if-l-eq0.false c.requires, rw c.in-Ident.is at c.kind_at.ensures.1))
 
-pub full-returns-then-kind_at-eq21 : goal.full-returns-then-kind_at-eq21
-full-returns-then-kind_at-eq21 t c = shorts.bare-ident (heres.here-up c.if-l-eq0.false c.requires) c.if-l-eq0.false (sym c.bare.ensures ∙ c.if-bare.true) c.kind_at.ensures c.if-kind_at-eq21.true c.ident.ensures
+pub full-returns-in-Ident : goal.full-returns-in-Ident
+full-returns-in-Ident t c = shorts.bare-ident (heres.here-up c.if-l-eq0.false c.requires) c.if-l-eq0.false (sym c.bare.ensures ∙ c.if-bare.true) refl (rw c.in-Ident.is at c.kind_at.ensures.1) c.ident.ensures
 
 pub full-overflow_add-result : goal.full-overflow_add-result
 full-overflow_add-result t c = omega (arith, c.requires.depth, (heres.at-node c.requires).1)
 
-pub full-returns-then-bare : goal.full-returns-then-bare
-full-returns-then-bare t c = shorts.bare-other (heres.here-up c.if-l-eq0.false c.requires) c.if-l-eq0.false (sym c.bare.ensures ∙ c.if-bare.true) c.kind_at.ensures c.if-kind_at-eq21.false
+pub full-returns-in_default : goal.full-returns-in_default
+full-returns-in_default t c = shorts.bare-other (heres.here-up c.if-l-eq0.false c.requires) c.if-l-eq0.false (sym c.bare.ensures ∙ c.if-bare.true) refl (λ e. c.in_default.not-Ident (c.kind_at.ensures.0 ∙ ap kind_of e))
 
 pub full-own-requires : goal.full-own-requires
 full-own-requires t c = (omega (arith, c.decreases, c.if-l-eq0.false), heres.here-up c.if-l-eq0.false c.requires)

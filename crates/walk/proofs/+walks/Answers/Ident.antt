@@ -1,5 +1,6 @@
 -- The goals of ident. Assumes nothing.
 use mathlib.Core.Option.{some}
+use mathlib.Core.Path.{sym, ◌∙◌}
 use native.Mathlib.Omega.{arith}
 use Rattle.words_state.specs.State.{abs}
 use Rattle.laws_flat.specs.WalkF.{walks_f}
@@ -31,8 +32,8 @@ ident-ident_analysis-requires t c = (c.requires.0.planted, heres.here-node c.req
 pub ident-skip-requires : goal.ident-skip-requires
 ident-skip-requires t c = heres.at-skip (idents.here-analysis c.requires.0 c.ident_analysis.ensures)
 
-pub ident-returns-then-w-eq0 : goal.ident-returns-then-w-eq0
-ident-returns-then-w-eq0 t c = idents.no-const-analysis (walks_f c.args.d) c.args.p c.args.i (idents.const-none c.args.w.now c.args.i c.in_default.ensures.0) c.if-w-eq0.true (ways.analysis-then c.args.i c.ident_analysis.ensures (ways.did-skip c.args.i c.ident_analysis.ensures.ok.planted c.skip.ensures.0))
+pub ident-returns-then-not-inlining : goal.ident-returns-then-not-inlining
+ident-returns-then-not-inlining t c = idents.no-const-analysis (walks_f c.args.d) c.args.p c.args.i (idents.const-none c.args.w.now c.args.i c.in_default.ensures.0) (sym c.inlining.ensures ∙ c.if-not-inlining.true) (ways.analysis-then c.args.i c.ident_analysis.ensures (ways.did-skip c.args.i c.ident_analysis.ensures.ok.planted c.skip.ensures.0))
 
 pub ident-fate-requires : goal.ident-fate-requires
 ident-fate-requires t c = (c.requires.0.planted, heres.here-node c.requires.0, c.requires.1)
@@ -47,16 +48,16 @@ pub ident-inline_value-requires : goal.ident-inline_value-requires
 ident-inline_value-requires t c = (c.requires.0.planted, heres.here-node c.requires.0, c.requires.1, c.in-Value.ensures.1)
 
 pub ident-returns-in_err-inline_value-in-Value : goal.ident-returns-in_err-inline_value-in-Value
-ident-returns-in_err-inline_value-in-Value t c = ways.did-exit c.from_residual-in_err-inline_value-in-Value.result c.from_residual-in_err-inline_value-in-Value.ensures.1 (idents.no-const-inlining (walks_f c.args.d) c.args.p c.args.i (idents.const-none c.args.w.now c.args.i c.in_default.ensures.0) c.if-w-eq0.false (idents.found-value (walks_f c.args.d) c.args.p c.args.i (value_by c.args.w.now c.in-Value.b) c.in-Value.ensures.0 (λ b. ways.value-stop (walks_f c.args.d) c.args.p c.args.i b (value_by c.args.w.now c.in-Value.b) c.in_err-inline_value-in-Value.ensures)))
+ident-returns-in_err-inline_value-in-Value t c = ways.did-exit c.from_residual-in_err-inline_value-in-Value.result c.from_residual-in_err-inline_value-in-Value.ensures.1 (idents.no-const-inlining (walks_f c.args.d) c.args.p c.args.i (idents.const-none c.args.w.now c.args.i c.in_default.ensures.0) (sym c.inlining.ensures ∙ c.if-not-inlining.false) (idents.found-value (walks_f c.args.d) c.args.p c.args.i (value_by c.args.w.now c.in-Value.b) c.in-Value.ensures.0 (λ b. ways.value-stop (walks_f c.args.d) c.args.p c.args.i b (value_by c.args.w.now c.in-Value.b) c.in_err-inline_value-in-Value.ensures)))
 
 pub ident-logic-requires : goal.ident-logic-requires
 ident-logic-requires t c = (omega (arith, c.decreases), idents.here-value c.args.p (value_by c.args.w.now c.in-Value.b) c.requires.0 c.in_ok-inline_value-in-Value.ensures)
 
 pub ident-returns-in-Nothing : goal.ident-returns-in-Nothing
-ident-returns-in-Nothing t c = idents.no-const-inlining (walks_f c.args.d) c.args.p c.args.i (idents.const-none c.args.w.now c.args.i c.in_default.ensures.0) c.if-w-eq0.false (idents.found_nothing (walks_f c.args.d) c.args.p c.args.i c.in-Nothing.ensures (ways.did-skip c.args.i c.requires.0.planted c.skip-in-Nothing.ensures.0))
+ident-returns-in-Nothing t c = idents.no-const-inlining (walks_f c.args.d) c.args.p c.args.i (idents.const-none c.args.w.now c.args.i c.in_default.ensures.0) (sym c.inlining.ensures ∙ c.if-not-inlining.false) (idents.found_nothing (walks_f c.args.d) c.args.p c.args.i c.in-Nothing.ensures (ways.did-skip c.args.i c.requires.0.planted c.skip-in-Nothing.ensures.0))
 
 pub ident-returns-in-Void : goal.ident-returns-in-Void
-ident-returns-in-Void t c = idents.no-const-inlining (walks_f c.args.d) c.args.p c.args.i (idents.const-none c.args.w.now c.args.i c.in_default.ensures.0) c.if-w-eq0.false (idents.found-void (walks_f c.args.d) c.args.p c.args.i c.in-Void.ensures c.inline_undefined.ensures)
+ident-returns-in-Void t c = idents.no-const-inlining (walks_f c.args.d) c.args.p c.args.i (idents.const-none c.args.w.now c.args.i c.in_default.ensures.0) (sym c.inlining.ensures ∙ c.if-not-inlining.false) (idents.found-void (walks_f c.args.d) c.args.p c.args.i c.in-Void.ensures c.inline_undefined.ensures)
 
 pub ident-returns-in_ok-inline_value-in-Value : goal.ident-returns-in_ok-inline_value-in-Value
-ident-returns-in_ok-inline_value-in-Value t c = idents.no-const-inlining (walks_f c.args.d) c.args.p c.args.i (idents.const-none c.args.w.now c.args.i c.in_default.ensures.0) c.if-w-eq0.false (idents.found-value (walks_f c.args.d) c.args.p c.args.i (value_by c.args.w.now c.in-Value.b) c.in-Value.ensures.0 (λ b. ways.value-then (walks_f c.args.d) c.args.p c.args.i b (value_by c.args.w.now c.in-Value.b) c.in_ok-inline_value-in-Value.ensures c.logic.ensures))
+ident-returns-in_ok-inline_value-in-Value t c = idents.no-const-inlining (walks_f c.args.d) c.args.p c.args.i (idents.const-none c.args.w.now c.args.i c.in_default.ensures.0) (sym c.inlining.ensures ∙ c.if-not-inlining.false) (idents.found-value (walks_f c.args.d) c.args.p c.args.i (value_by c.args.w.now c.in-Value.b) c.in-Value.ensures.0 (λ b. ways.value-then (walks_f c.args.d) c.args.p c.args.i b (value_by c.args.w.now c.in-Value.b) c.in_ok-inline_value-in-Value.ensures c.logic.ensures))

@@ -5,9 +5,6 @@ use Rattle.def_tree.specs.Combine.{many, split_f}
 use Rattle.def_pass.specs.Scope.{cond as cond_kind}
 use Rattle.laws_flat.specs.WalkF.{walks_f, visit_with_child_f, tested_f, visit_mut_if_stmt_f}
 use Rattle.laws_flat.proofs.Sim.{sims}
-use Rattle.words.proofs.Yes.{yes-not_zero}
-use Rattle.words_state.specs.State.{rest}
-use lib.ListN.{get_or}
 use Rattle.walk_laws.proofs.Heres as heres
 use Rattle.walk_laws.proofs.Ways as ways
 use Rattle.walk.proofs.+walks.Goals as goal
@@ -42,5 +39,5 @@ pub ifs-arms-requires : goal.ifs-arms-requires
 ifs-arms-requires t c = (omega (arith, c.decreases), heres.here-turn c.set_in_test-2.ensures (heres.here-next ((sims c.args.d).full (c.args.p + 1)) (heres.here-turn c.set_in_test.ensures (heres.here-kids c.requires c.arity_at-n.ensures)) c.if-n-eq0.false c.in_ok-j.ensures))
 
 pub ifs-returns : goal.ifs-returns
-unfolding visit_mut_if_stmt_f tested_f rest
-ifs-returns t c = ways.on-kids (λ q. split_f (tested_f (walks_f c.args.d) q) (many (visit_with_child_f (walks_f c.args.d) q cond_kind))) c.requires c.arity_at-n.ensures (ways.split-then (tested_f (walks_f c.args.d) (c.args.p + 1)) (many (visit_with_child_f (walks_f c.args.d) (c.args.p + 1) cond_kind)) c.arity_at-n.result (c.args.i + 1) c.if-n-eq0.false (ways.test-then ((walks_f c.args.d).full (c.args.p + 1) (c.args.i + 1)) c.set_in_test.ensures c.in_ok-j.ensures (yes-not_zero (get_or c.args.w.now 10 0)) c.set_in_test-2.ensures) c.arms.ensures)
+unfolding visit_mut_if_stmt_f tested_f
+ifs-returns t c = ways.on-kids (λ q. split_f (tested_f (walks_f c.args.d) q) (many (visit_with_child_f (walks_f c.args.d) q cond_kind))) c.requires c.arity_at-n.ensures (ways.split-then (tested_f (walks_f c.args.d) (c.args.p + 1)) (many (visit_with_child_f (walks_f c.args.d) (c.args.p + 1) cond_kind)) c.arity_at-n.result (c.args.i + 1) c.if-n-eq0.false (ways.test-then ((walks_f c.args.d).full (c.args.p + 1) (c.args.i + 1)) c.set_in_test.ensures c.in_ok-j.ensures c.in_test-old.ensures c.set_in_test-2.ensures) c.arms.ensures)

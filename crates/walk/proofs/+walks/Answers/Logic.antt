@@ -1,7 +1,9 @@
 -- The goals of logic. Assumes nothing.
 use Prim.Native.Nat.{◌+◌}
+use mathlib.Core.Path.{refl, ap, ◌∙◌}
 use native.Mathlib.Omega.{arith}
 use lib.Dec.{eqb}
+use Rattle.def_file.specs.Named.{kind_of}
 use Rattle.def_tree.specs.Combine.{skip, many, split_f, node_at}
 use Rattle.def_tree.proofs.Sims.{sim-skip}
 use Rattle.words_state.specs.State.{abs}
@@ -10,25 +12,25 @@ use Rattle.walk_laws.proofs.Heres as heres
 use Rattle.walk_laws.proofs.Ways as ways
 use Rattle.walk.proofs.+walks.Goals as goal
 
-pub logic-kind_at-k-requires : goal.logic-kind_at-k-requires
-logic-kind_at-k-requires t c = heres.at-node c.requires
+pub logic-kind_at-requires : goal.logic-kind_at-requires
+logic-kind_at-requires t c = heres.at-node c.requires
 
 pub logic-skip-requires : goal.logic-skip-requires
 logic-skip-requires t c = heres.at-skip c.requires
 
-pub logic-returns-then-k-ne32 : goal.logic-returns-then-k-ne32
+pub logic-returns-in_default : goal.logic-returns-in_default
 unfolding logical_f
-logic-returns-then-k-ne32 t c = ways.iff-no _ _ (ways.first-no _ (ways.kind-no c.requires 32 c.kind_at-k.ensures c.if-k-ne32.true)) (ways.did-skip c.args.i c.requires.planted c.skip.ensures.0)
+logic-returns-in_default t c = ways.iff-no _ _ (ways.first-no _ (ways.kind-no c.requires 32 refl (λ e. c.in_default.not-Bin (c.kind_at.ensures.0 ∙ ap kind_of e)))) (ways.did-skip c.args.i c.requires.planted c.skip.ensures.0)
 
 pub logic-form_at-f-requires : goal.logic-form_at-f-requires
 logic-form_at-f-requires t c = heres.at-node c.requires
 
-pub logic-skip-requires-then-f-ge2 : goal.logic-skip-requires-then-f-ge2
-logic-skip-requires-then-f-ge2 t c = heres.at-skip c.requires
+pub logic-skip-requires-then-f-ge-PAST_LOGICAL : goal.logic-skip-requires-then-f-ge-PAST_LOGICAL
+logic-skip-requires-then-f-ge-PAST_LOGICAL t c = heres.at-skip c.requires
 
-pub logic-returns-then-f-ge2 : goal.logic-returns-then-f-ge2
+pub logic-returns-then-f-ge-PAST_LOGICAL : goal.logic-returns-then-f-ge-PAST_LOGICAL
 unfolding logical_f
-logic-returns-then-f-ge2 t c = ways.iff-no _ _ (ways.second-no (eqb (node_at (abs c.args.w.now) c.args.i).kind 32) (ways.form-high c.requires c.form_at-f.ensures c.if-f-ge2.true)) (ways.did-skip c.args.i c.requires.planted c.skip-then-f-ge2.ensures.0)
+logic-returns-then-f-ge-PAST_LOGICAL t c = ways.iff-no _ _ (ways.second-no (eqb (node_at (abs c.args.w.now) c.args.i).kind 32) (ways.form-high c.requires c.form_at-f.ensures c.if-f-ge-PAST_LOGICAL.true)) (ways.did-skip c.args.i c.requires.planted c.skip-then-f-ge-PAST_LOGICAL.ensures.0)
 
 pub logic-arity_at-n-requires : goal.logic-arity_at-n-requires
 logic-arity_at-n-requires t c = heres.at-node c.requires
@@ -38,7 +40,7 @@ logic-overflow_add-result t c = omega (arith, c.requires.depth, (heres.at-node c
 
 pub logic-returns-then-n-eq0 : goal.logic-returns-then-n-eq0
 unfolding logical_f
-logic-returns-then-n-eq0 t c = ways.iff-yes _ _ (ways.both_yes (ways.kind-yes c.requires c.kind_at-k.ensures c.if-k-ne32.false) (ways.form-low c.requires c.form_at-f.ensures c.if-f-ge2.false)) (ways.on-kids (λ q. split_f skip (many (λ r. in_cond_f ((walks_f c.args.d).bare q r)))) c.requires c.arity_at-n.ensures (ways.split-none skip (many (λ r. in_cond_f ((walks_f c.args.d).bare (c.args.p + 1) r))) c.arity_at-n.result (c.args.i + 1) c.if-n-eq0.true c.requires.planted))
+logic-returns-then-n-eq0 t c = ways.iff-yes _ _ (ways.both_yes (ways.kind-yes c.requires refl (rw c.in-Bin.is at c.kind_at.ensures.1)) (ways.form-low c.requires c.form_at-f.ensures c.if-f-ge-PAST_LOGICAL.false)) (ways.on-kids (λ q. split_f skip (many (λ r. in_cond_f ((walks_f c.args.d).bare q r)))) c.requires c.arity_at-n.ensures (ways.split-none skip (many (λ r. in_cond_f ((walks_f c.args.d).bare (c.args.p + 1) r))) c.arity_at-n.result (c.args.i + 1) c.if-n-eq0.true c.requires.planted))
 
 pub logic-overflow_add-i : goal.logic-overflow_add-i
 logic-overflow_add-i t c = omega (arith, c.requires.depth, (heres.at-node c.requires).1)
@@ -54,4 +56,4 @@ logic-conds-requires t c = (omega (arith, c.decreases), heres.here-next sim-skip
 
 pub logic-returns : goal.logic-returns
 unfolding logical_f
-logic-returns t c = ways.iff-yes _ _ (ways.both_yes (ways.kind-yes c.requires c.kind_at-k.ensures c.if-k-ne32.false) (ways.form-low c.requires c.form_at-f.ensures c.if-f-ge2.false)) (ways.on-kids (λ q. split_f skip (many (λ r. in_cond_f ((walks_f c.args.d).bare q r)))) c.requires c.arity_at-n.ensures (ways.split-then skip (many (λ r. in_cond_f ((walks_f c.args.d).bare (c.args.p + 1) r))) c.arity_at-n.result (c.args.i + 1) c.if-n-eq0.false (ways.did-skip (c.args.i + 1) c.requires.planted c.skip-j.ensures.0) c.conds.ensures))
+logic-returns t c = ways.iff-yes _ _ (ways.both_yes (ways.kind-yes c.requires refl (rw c.in-Bin.is at c.kind_at.ensures.1)) (ways.form-low c.requires c.form_at-f.ensures c.if-f-ge-PAST_LOGICAL.false)) (ways.on-kids (λ q. split_f skip (many (λ r. in_cond_f ((walks_f c.args.d).bare q r)))) c.requires c.arity_at-n.ensures (ways.split-then skip (many (λ r. in_cond_f ((walks_f c.args.d).bare (c.args.p + 1) r))) c.arity_at-n.result (c.args.i + 1) c.if-n-eq0.false (ways.did-skip (c.args.i + 1) c.requires.planted c.skip-j.ensures.0) c.conds.ensures))

@@ -1,18 +1,19 @@
 -- The goals of own. Assumes nothing.
-use Prim.Native.Nat.{ℕ, ◌<◌, ◌≤◌}
-use mathlib.Core.Path.{◌≡◌, refl, ap}
+use Prim.Native.Nat.{ℕ}
+use mathlib.Core.Path.{refl, ap, ◌∙◌}
 use mathlib.Core.Logic.{inl, inr}
 use native.Mathlib.Omega.{arith}
 use lib.ListN.{get_or}
+use Rattle.def_file.specs.Named.{kind_of}
+use Rattle.words.specs.Layout.{node_of}
 use Rattle.def_pass.specs.Walk.{handlers, h_plain, h_script, h_block, h_decl, h_declr, h_fun, h_if, h_while, h_for, h_for_in, h_try, h_catch, h_case, h_pat, h_unary, h_update, h_assign, h_call, h_new, h_fun_expr, h_arrow}
 use Rattle.laws_flat.specs.WalkF.{walks_f, handle_f}
 use Rattle.walk_laws.proofs.Heres as heres
 use Rattle.walk_laws.proofs.Ways as ways
 use Rattle.walk.proofs.+walks.Goals as goal
-use Rattle.walk.proofs.+walks.Goals.{own-in_default-via-then-k-lt9, own-in_default-via-else-k-lt9+else-k-lt12+else-k-lt15}
 
-pub own-kind_at-k-requires : goal.own-kind_at-k-requires
-own-kind_at-k-requires t c = heres.at-node c.requires
+pub own-kind_at-requires : goal.own-kind_at-requires
+own-kind_at-requires t c = heres.at-node c.requires
 
 pub own-body-requires : goal.own-body-requires
 own-body-requires t c = (omega (arith, c.decreases), c.requires)
@@ -53,8 +54,8 @@ own-assign-requires t c = (omega (arith, c.decreases), c.requires)
 pub own-call-requires : goal.own-call-requires
 own-call-requires t c = (omega (arith, c.decreases), c.requires)
 
-pub own-call-requires-in-36 : goal.own-call-requires-in-36
-own-call-requires-in-36 t c = (omega (arith, c.decreases), c.requires)
+pub own-call-requires-in-New : goal.own-call-requires-in-New
+own-call-requires-in-New t c = (omega (arith, c.decreases), c.requires)
 
 pub own-fexpr-requires : goal.own-fexpr-requires
 own-fexpr-requires t c = (omega (arith, c.decreases), c.requires)
@@ -71,89 +72,86 @@ own-forin-requires t c = (omega (arith, c.decreases), c.requires)
 pub own-kids-requires : goal.own-kids-requires
 own-kids-requires t c = (omega (arith, c.decreases), c.requires)
 
-pub own-returns-in-1 : goal.own-returns-in-1
+pub own-returns-in-Script : goal.own-returns-in-Script
 unfolding handle_f
-own-returns-in-1 t c = ways.own-by (walks_f c.args.d) h_script c.requires c.kind_at-k.ensures (ap (λ (m : ℕ). get_or handlers m h_plain) c.in-1.is) c.body.ensures
+own-returns-in-Script t c = ways.own-by (walks_f c.args.d) h_script c.requires refl (ap (λ (m : ℕ). get_or handlers m h_plain) (rw c.in-Script.is at c.kind_at.ensures.1)) c.body.ensures
 
-pub own-returns-in-2 : goal.own-returns-in-2
+pub own-returns-in-Block : goal.own-returns-in-Block
 unfolding handle_f
-own-returns-in-2 t c = ways.own-by (walks_f c.args.d) h_block c.requires c.kind_at-k.ensures (ap (λ (m : ℕ). get_or handlers m h_plain) c.in-2.is) c.block.ensures
+own-returns-in-Block t c = ways.own-by (walks_f c.args.d) h_block c.requires refl (ap (λ (m : ℕ). get_or handlers m h_plain) (rw c.in-Block.is at c.kind_at.ensures.1)) c.block.ensures
 
-pub own-returns-in-5 : goal.own-returns-in-5
+pub own-returns-in-VarDecl : goal.own-returns-in-VarDecl
 unfolding handle_f
-own-returns-in-5 t c = ways.own-by (walks_f c.args.d) h_decl c.requires c.kind_at-k.ensures (ap (λ (m : ℕ). get_or handlers m h_plain) c.in-5.is) c.decl.ensures
+own-returns-in-VarDecl t c = ways.own-by (walks_f c.args.d) h_decl c.requires refl (ap (λ (m : ℕ). get_or handlers m h_plain) (rw c.in-VarDecl.is at c.kind_at.ensures.1)) c.decl.ensures
 
-pub own-returns-in-6 : goal.own-returns-in-6
+pub own-returns-in-VarDeclarator : goal.own-returns-in-VarDeclarator
 unfolding handle_f
-own-returns-in-6 t c = ways.own-by (walks_f c.args.d) h_declr c.requires c.kind_at-k.ensures (ap (λ (m : ℕ). get_or handlers m h_plain) c.in-6.is) c.declr.ensures
+own-returns-in-VarDeclarator t c = ways.own-by (walks_f c.args.d) h_declr c.requires refl (ap (λ (m : ℕ). get_or handlers m h_plain) (rw c.in-VarDeclarator.is at c.kind_at.ensures.1)) c.declr.ensures
 
-pub own-returns-in-7 : goal.own-returns-in-7
+pub own-returns-in-FnDecl : goal.own-returns-in-FnDecl
 unfolding handle_f
-own-returns-in-7 t c = ways.own-by (walks_f c.args.d) h_fun c.requires c.kind_at-k.ensures (ap (λ (m : ℕ). get_or handlers m h_plain) c.in-7.is) c.fdecl.ensures
+own-returns-in-FnDecl t c = ways.own-by (walks_f c.args.d) h_fun c.requires refl (ap (λ (m : ℕ). get_or handlers m h_plain) (rw c.in-FnDecl.is at c.kind_at.ensures.1)) c.fdecl.ensures
 
-pub own-returns-in-9 : goal.own-returns-in-9
+pub own-returns-in-If : goal.own-returns-in-If
 unfolding handle_f
-own-returns-in-9 t c = ways.own-by (walks_f c.args.d) h_if c.requires c.kind_at-k.ensures (ap (λ (m : ℕ). get_or handlers m h_plain) c.in-9.is) c.ifs.ensures
+own-returns-in-If t c = ways.own-by (walks_f c.args.d) h_if c.requires refl (ap (λ (m : ℕ). get_or handlers m h_plain) (rw c.in-If.is at c.kind_at.ensures.1)) c.ifs.ensures
 
-pub own-returns-in-12 : goal.own-returns-in-12
+pub own-returns-in-For : goal.own-returns-in-For
 unfolding handle_f
-own-returns-in-12 t c = ways.own-by (walks_f c.args.d) h_for c.requires c.kind_at-k.ensures (ap (λ (m : ℕ). get_or handlers m h_plain) c.in-12.is) c.fors.ensures
+own-returns-in-For t c = ways.own-by (walks_f c.args.d) h_for c.requires refl (ap (λ (m : ℕ). get_or handlers m h_plain) (rw c.in-For.is at c.kind_at.ensures.1)) c.fors.ensures
 
-pub own-returns-in-16 : goal.own-returns-in-16
+pub own-returns-in-Try : goal.own-returns-in-Try
 unfolding handle_f
-own-returns-in-16 t c = ways.own-by (walks_f c.args.d) h_try c.requires c.kind_at-k.ensures (ap (λ (m : ℕ). get_or handlers m h_plain) c.in-16.is) c.tries.ensures
+own-returns-in-Try t c = ways.own-by (walks_f c.args.d) h_try c.requires refl (ap (λ (m : ℕ). get_or handlers m h_plain) (rw c.in-Try.is at c.kind_at.ensures.1)) c.tries.ensures
 
-pub own-returns-in-17 : goal.own-returns-in-17
+pub own-returns-in-CatchClause : goal.own-returns-in-CatchClause
 unfolding handle_f
-own-returns-in-17 t c = ways.own-by (walks_f c.args.d) h_catch c.requires c.kind_at-k.ensures (ap (λ (m : ℕ). get_or handlers m h_plain) c.in-17.is) c.catch.ensures
+own-returns-in-CatchClause t c = ways.own-by (walks_f c.args.d) h_catch c.requires refl (ap (λ (m : ℕ). get_or handlers m h_plain) (rw c.in-CatchClause.is at c.kind_at.ensures.1)) c.catch.ensures
 
-pub own-returns-in-19 : goal.own-returns-in-19
+pub own-returns-in-SwitchCase : goal.own-returns-in-SwitchCase
 unfolding handle_f
-own-returns-in-19 t c = ways.own-by (walks_f c.args.d) h_case c.requires c.kind_at-k.ensures (ap (λ (m : ℕ). get_or handlers m h_plain) c.in-19.is) c.case.ensures
+own-returns-in-SwitchCase t c = ways.own-by (walks_f c.args.d) h_case c.requires refl (ap (λ (m : ℕ). get_or handlers m h_plain) (rw c.in-SwitchCase.is at c.kind_at.ensures.1)) c.case.ensures
 
-pub own-returns-in-20 : goal.own-returns-in-20
+pub own-returns-in-BindingIdent : goal.own-returns-in-BindingIdent
 unfolding handle_f
-own-returns-in-20 t c = ways.own-by (walks_f c.args.d) h_pat c.requires c.kind_at-k.ensures (ap (λ (m : ℕ). get_or handlers m h_plain) c.in-20.is) c.pats.ensures
+own-returns-in-BindingIdent t c = ways.own-by (walks_f c.args.d) h_pat c.requires refl (ap (λ (m : ℕ). get_or handlers m h_plain) (rw c.in-BindingIdent.is at c.kind_at.ensures.1)) c.pats.ensures
 
-pub own-returns-in-30 : goal.own-returns-in-30
+pub own-returns-in-Unary : goal.own-returns-in-Unary
 unfolding handle_f
-own-returns-in-30 t c = ways.own-by (walks_f c.args.d) h_unary c.requires c.kind_at-k.ensures (ap (λ (m : ℕ). get_or handlers m h_plain) c.in-30.is) c.unary.ensures
+own-returns-in-Unary t c = ways.own-by (walks_f c.args.d) h_unary c.requires refl (ap (λ (m : ℕ). get_or handlers m h_plain) (rw c.in-Unary.is at c.kind_at.ensures.1)) c.unary.ensures
 
-pub own-returns-in-31 : goal.own-returns-in-31
+pub own-returns-in-Update : goal.own-returns-in-Update
 unfolding handle_f
-own-returns-in-31 t c = ways.own-by (walks_f c.args.d) h_update c.requires c.kind_at-k.ensures (ap (λ (m : ℕ). get_or handlers m h_plain) c.in-31.is) c.update.ensures
+own-returns-in-Update t c = ways.own-by (walks_f c.args.d) h_update c.requires refl (ap (λ (m : ℕ). get_or handlers m h_plain) (rw c.in-Update.is at c.kind_at.ensures.1)) c.update.ensures
 
-pub own-returns-in-33 : goal.own-returns-in-33
+pub own-returns-in-Assign : goal.own-returns-in-Assign
 unfolding handle_f
-own-returns-in-33 t c = ways.own-by (walks_f c.args.d) h_assign c.requires c.kind_at-k.ensures (ap (λ (m : ℕ). get_or handlers m h_plain) c.in-33.is) c.assign.ensures
+own-returns-in-Assign t c = ways.own-by (walks_f c.args.d) h_assign c.requires refl (ap (λ (m : ℕ). get_or handlers m h_plain) (rw c.in-Assign.is at c.kind_at.ensures.1)) c.assign.ensures
 
-pub own-returns-in-35 : goal.own-returns-in-35
+pub own-returns-in-Call : goal.own-returns-in-Call
 unfolding handle_f
-own-returns-in-35 t c = ways.own-by (walks_f c.args.d) h_call c.requires c.kind_at-k.ensures (ap (λ (m : ℕ). get_or handlers m h_plain) c.in-35.is) c.call.ensures
+own-returns-in-Call t c = ways.own-by (walks_f c.args.d) h_call c.requires refl (ap (λ (m : ℕ). get_or handlers m h_plain) (rw c.in-Call.is at c.kind_at.ensures.1)) c.call.ensures
 
-pub own-returns-in-36 : goal.own-returns-in-36
+pub own-returns-in-New : goal.own-returns-in-New
 unfolding handle_f
-own-returns-in-36 t c = ways.own-by (walks_f c.args.d) h_new c.requires c.kind_at-k.ensures (ap (λ (m : ℕ). get_or handlers m h_plain) c.in-36.is) c.call-in-36.ensures
+own-returns-in-New t c = ways.own-by (walks_f c.args.d) h_new c.requires refl (ap (λ (m : ℕ). get_or handlers m h_plain) (rw c.in-New.is at c.kind_at.ensures.1)) c.call-in-New.ensures
 
-pub own-returns-in-39 : goal.own-returns-in-39
+pub own-returns-in-FnExpr : goal.own-returns-in-FnExpr
 unfolding handle_f
-own-returns-in-39 t c = ways.own-by (walks_f c.args.d) h_fun_expr c.requires c.kind_at-k.ensures (ap (λ (m : ℕ). get_or handlers m h_plain) c.in-39.is) c.fexpr.ensures
+own-returns-in-FnExpr t c = ways.own-by (walks_f c.args.d) h_fun_expr c.requires refl (ap (λ (m : ℕ). get_or handlers m h_plain) (rw c.in-FnExpr.is at c.kind_at.ensures.1)) c.fexpr.ensures
 
-pub own-returns-in-40 : goal.own-returns-in-40
+pub own-returns-in-Arrow : goal.own-returns-in-Arrow
 unfolding handle_f
-own-returns-in-40 t c = ways.own-by (walks_f c.args.d) h_arrow c.requires c.kind_at-k.ensures (ap (λ (m : ℕ). get_or handlers m h_plain) c.in-40.is) c.arrow.ensures
+own-returns-in-Arrow t c = ways.own-by (walks_f c.args.d) h_arrow c.requires refl (ap (λ (m : ℕ). get_or handlers m h_plain) (rw c.in-Arrow.is at c.kind_at.ensures.1)) c.arrow.ensures
 
-pub own-returns-in-10 : goal.own-returns-in-10
+pub own-returns-in-While : goal.own-returns-in-While
 unfolding handle_f
-own-returns-in-10 t c = ways.own-by (walks_f c.args.d) h_while c.requires c.kind_at-k.ensures (ways.kind-while c.kind_at-k.result (λ e. omega (arith, e)) (omega arith) (omega arith)) c.whiles.ensures
+own-returns-in-While t c = ways.own-by (walks_f c.args.d) h_while c.requires refl (elim c.in-While.is [ inl e ↦ ap (λ (m : ℕ). get_or handlers m h_plain) (rw e at c.kind_at.ensures.1) | inr e ↦ ap (λ (m : ℕ). get_or handlers m h_plain) (rw e at c.kind_at.ensures.1) ]) c.whiles.ensures
 
-pub own-returns-in-13 : goal.own-returns-in-13
+pub own-returns-in-ForIn : goal.own-returns-in-ForIn
 unfolding handle_f
-own-returns-in-13 t c = ways.own-by (walks_f c.args.d) h_for_in c.requires c.kind_at-k.ensures (ways.kind-for-in c.kind_at-k.result (λ e. omega (arith, e)) (omega arith) (omega arith)) c.forin.ensures
+own-returns-in-ForIn t c = ways.own-by (walks_f c.args.d) h_for_in c.requires refl (elim c.in-ForIn.is [ inl e ↦ ap (λ (m : ℕ). get_or handlers m h_plain) (rw e at c.kind_at.ensures.1) | inr e ↦ ap (λ (m : ℕ). get_or handlers m h_plain) (rw e at c.kind_at.ensures.1) ]) c.forin.ensures
 
 pub own-returns-in_default : goal.own-returns-in_default
 unfolding handle_f
-own-returns-in_default t c =
-    let k = c.kind_at-k.result in
-    let between : (m : ℕ) → 9 ≤ m → m < 15 → k ≡ m → ⊥ = λ m lo hi e. elim c.in_default.branch [ own-in_default-via-then-k-lt9 s ↦ omega (arith, hi, lo, e, s) | own-in_default-via-else-k-lt9+else-k-lt12+else-k-lt15 s ↦ omega (arith, hi, lo, e, s) ] in
-    ways.own-by (walks_f c.args.d) h_plain c.requires c.kind_at-k.ensures (ways.kind-plain k (inl refl, (inr (λ e. omega (arith, e)), (inr (λ e. omega (arith, e)), (inl refl, (inl refl, (inr (λ e. omega (arith, e)), (inr (λ e. omega (arith, e)), (inr (λ e. omega (arith, e)), (inl refl, (inr (λ e. omega (arith, e)), (inr (between 10 (omega arith) (omega arith)), (inr (between 11 (omega arith) (omega arith)), (inr (λ e. omega (arith, e)), (inr (between 13 (omega arith) (omega arith)), (inr (between 14 (omega arith) (omega arith)), (inl refl, (inr (λ e. omega (arith, e)), (inr (λ e. omega (arith, e)), (inl refl, (inr (λ e. omega (arith, e)), (inr (λ e. omega (arith, e)), (inl refl, (inl refl, (inl refl, (inl refl, (inl refl, (inl refl, (inl refl, (inl refl, (inl refl, (inr (λ e. omega (arith, e)), (inr (λ e. omega (arith, e)), (inl refl, (inr (λ e. omega (arith, e)), (inl refl, (inr (λ e. omega (arith, e)), (inr (λ e. omega (arith, e)), (inl refl, (inl refl, (inr (λ e. omega (arith, e)), (inr (λ e. omega (arith, e)), (inl refl, (inl refl, (inl refl, (inl refl, tt)))))))))))))))))))))))))))))))))))))))))))))) c.kids.ensures
+own-returns-in_default t c = ways.own-by (walks_f c.args.d) h_plain c.requires refl (ways.kind-plain (node_of c.args.w.now c.args.i).kind (inl refl, (inr (λ e. c.in_default.not-Script (c.kind_at.ensures.0 ∙ ap kind_of e)), (inr (λ e. c.in_default.not-Block (c.kind_at.ensures.0 ∙ ap kind_of e)), (inl refl, (inl refl, (inr (λ e. c.in_default.not-VarDecl (c.kind_at.ensures.0 ∙ ap kind_of e)), (inr (λ e. c.in_default.not-VarDeclarator (c.kind_at.ensures.0 ∙ ap kind_of e)), (inr (λ e. c.in_default.not-FnDecl (c.kind_at.ensures.0 ∙ ap kind_of e)), (inl refl, (inr (λ e. c.in_default.not-If (c.kind_at.ensures.0 ∙ ap kind_of e)), (inr (λ e. c.in_default.not-While (c.kind_at.ensures.0 ∙ ap kind_of e)), (inr (λ e. c.in_default.not-DoWhile (c.kind_at.ensures.0 ∙ ap kind_of e)), (inr (λ e. c.in_default.not-For (c.kind_at.ensures.0 ∙ ap kind_of e)), (inr (λ e. c.in_default.not-ForIn (c.kind_at.ensures.0 ∙ ap kind_of e)), (inr (λ e. c.in_default.not-ForOf (c.kind_at.ensures.0 ∙ ap kind_of e)), (inl refl, (inr (λ e. c.in_default.not-Try (c.kind_at.ensures.0 ∙ ap kind_of e)), (inr (λ e. c.in_default.not-CatchClause (c.kind_at.ensures.0 ∙ ap kind_of e)), (inl refl, (inr (λ e. c.in_default.not-SwitchCase (c.kind_at.ensures.0 ∙ ap kind_of e)), (inr (λ e. c.in_default.not-BindingIdent (c.kind_at.ensures.0 ∙ ap kind_of e)), (inl refl, (inl refl, (inl refl, (inl refl, (inl refl, (inl refl, (inl refl, (inl refl, (inl refl, (inr (λ e. c.in_default.not-Unary (c.kind_at.ensures.0 ∙ ap kind_of e)), (inr (λ e. c.in_default.not-Update (c.kind_at.ensures.0 ∙ ap kind_of e)), (inl refl, (inr (λ e. c.in_default.not-Assign (c.kind_at.ensures.0 ∙ ap kind_of e)), (inl refl, (inr (λ e. c.in_default.not-Call (c.kind_at.ensures.0 ∙ ap kind_of e)), (inr (λ e. c.in_default.not-New (c.kind_at.ensures.0 ∙ ap kind_of e)), (inl refl, (inl refl, (inr (λ e. c.in_default.not-FnExpr (c.kind_at.ensures.0 ∙ ap kind_of e)), (inr (λ e. c.in_default.not-Arrow (c.kind_at.ensures.0 ∙ ap kind_of e)), (inl refl, (inl refl, (inl refl, (inl refl, tt)))))))))))))))))))))))))))))))))))))))))))))) c.kids.ensures

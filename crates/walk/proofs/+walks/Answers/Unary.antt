@@ -11,10 +11,10 @@ unary-form_at-f-requires t c = heres.at-node c.requires
 pub unary-kids-requires : goal.unary-kids-requires
 unary-kids-requires t c = (omega (arith, c.decreases), c.requires)
 
-pub unary-returns-then-f-ne6 : goal.unary-returns-then-f-ne6
+pub unary-returns-then-f-ne-DELETE : goal.unary-returns-then-f-ne-DELETE
 unfolding visit_mut_unary_expr_f
-unary-returns-then-f-ne6 t c = ways.iff-no _ _ (ways.form-no c.requires 6 c.form_at-f.ensures c.if-f-ne6.true) c.kids.ensures
+unary-returns-then-f-ne-DELETE t c = ways.iff-no _ _ (ways.form-no c.requires 6 c.form_at-f.ensures c.if-f-ne-DELETE.true) c.kids.ensures
 
 pub unary-returns : goal.unary-returns
 unfolding visit_mut_unary_expr_f visit_mut_update_expr_f
-unary-returns t c = ways.iff-yes _ _ (ways.form-yes c.requires c.form_at-f.ensures c.if-f-ne6.false) c.update.ensures
+unary-returns t c = ways.iff-yes _ _ (ways.form-yes c.requires c.form_at-f.ensures c.if-f-ne-DELETE.false) c.update.ensures

@@ -1,9 +1,9 @@
 -- By the parts of the node and its test. Assumes nothing.
-use Rattle.std.proofs.Common.{◌<◌, sym, ◌∙◌, inl, arith}
+use Rattle.std.proofs.Common.{◌<◌, sym, ap, ◌∙◌, inl, arith}
+use Rattle.def_file.specs.Named.{kind_of}
 use Rattle.walk_ident.proofs.Assigns as assigns
 use Rattle.words.specs.Layout.{node_of}
 use Rattle.walk_ident.proofs.assign.after_assign.Goals as goal
-use Rattle.walk_ident.proofs.assign.after_assign.Goals.{then-arity_at-lt2-via-then-arity_at-lt2, then-arity_at-lt2-via-else-arity_at-lt2+then-kind_at-ne20}
 
 pub kind_at-requires : goal.kind_at-requires
 kind_at-requires c =
@@ -12,20 +12,19 @@ kind_at-requires c =
     (c.requires.0.good.long, omega (arith, c.requires.0.good.nodes, assigns.target-in c.requires.0 c.args.i c.requires.1 h))
 
 pub returns-then-arity_at-lt2 : goal.returns-then-arity_at-lt2
-returns-then-arity_at-lt2 c =
+returns-then-arity_at-lt2 c = assigns.goes-past c.args.i c.requires.0 (assigns.assign-few c.requires.0 c.args.i c.requires.1 c.args.p (omega (arith, c.arity_at.ensures, c.if-arity_at-lt2.true))) c.skip.ensures.0
+
+pub returns-in_default : goal.returns-in_default
+returns-in_default c =
     let w = c.args.w.now in
-    elim c.then-arity_at-lt2.branch [
-      | then-arity_at-lt2-via-then-arity_at-lt2 d ↦ assigns.goes-past c.args.i c.requires.0 (assigns.assign-few c.requires.0 c.args.i c.requires.1 c.args.p (omega (arith, c.arity_at.ensures, d.if-arity_at-lt2.true))) c.skip.ensures.0
-      | then-arity_at-lt2-via-else-arity_at-lt2+then-kind_at-ne20 d ↦
-          let h : 1 < (node_of w c.args.i).arity = omega (arith, c.arity_at.ensures, d.if-arity_at-lt2.false) in
-          assigns.goes-past c.args.i c.requires.0 (assigns.assign_other c.requires.0 c.args.i c.requires.1 h c.args.p (λ e. d.if-kind_at-ne20.true (d.kind_at.ensures ∙ e))) c.skip.ensures.0
-    ]
+    let h : 1 < (node_of w c.args.i).arity = omega (arith, c.arity_at.ensures, c.if-arity_at-lt2.false) in
+    assigns.goes-past c.args.i c.requires.0 (assigns.assign_other c.requires.0 c.args.i c.requires.1 h c.args.p (λ e. c.in_default.not-BindingIdent (c.kind_at.ensures.0 ∙ ap kind_of e))) c.skip-in_default.ensures.0
 
 pub ident_at-x-requires : goal.ident_at-x-requires
 ident_at-x-requires c =
     let w = c.args.w.now in
     let h : 1 < (node_of w c.args.i).arity = omega (arith, c.arity_at.ensures, c.if-arity_at-lt2.false) in
-    let e = sym c.kind_at.ensures ∙ c.if-kind_at-ne20.false in
+    let e = rw c.in-BindingIdent.is at c.kind_at.ensures.1 in
     ((c.requires.0.good, assigns.target-in c.requires.0 c.args.i c.requires.1 h), inl e)
 
 pub skip-j-requires : goal.skip-j-requires
@@ -50,12 +49,12 @@ pub returns-then-first_here : goal.returns-then-first_here
 returns-then-first_here c =
     let w = c.args.w.now in
     let h : 1 < (node_of w c.args.i).arity = omega (arith, c.arity_at.ensures, c.if-arity_at-lt2.false) in
-    let e = sym c.kind_at.ensures ∙ c.if-kind_at-ne20.false in
+    let e = rw c.in-BindingIdent.is at c.kind_at.ensures.1 in
     assigns.goes-as (assigns.assign-first c.requires.0 c.args.i c.requires.1 h c.args.p e c.ident_at-x.result c.ident_at-x.ensures c.skip-j.result c.skip-j.ensures.0 (sym c.first_here.ensures ∙ c.if-first_here.true)) c.first_assigned.ensures
 
 pub returns : goal.returns
 returns c =
     let w = c.args.w.now in
     let h : 1 < (node_of w c.args.i).arity = omega (arith, c.arity_at.ensures, c.if-arity_at-lt2.false) in
-    let e = sym c.kind_at.ensures ∙ c.if-kind_at-ne20.false in
+    let e = rw c.in-BindingIdent.is at c.kind_at.ensures.1 in
     assigns.goes-past c.args.i c.requires.0 (assigns.assign-not c.requires.0 c.args.i c.requires.1 h c.args.p e c.ident_at-x.result c.ident_at-x.ensures c.skip-j.result c.skip-j.ensures.0 (sym c.first_here.ensures ∙ c.if-first_here.false)) c.skip-2.ensures.0

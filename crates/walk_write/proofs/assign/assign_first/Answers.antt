@@ -1,10 +1,11 @@
 -- By the form, and by what the target is. Assumes nothing.
 use Rattle.refusal.proofs.Rows.{number-some}
-use mathlib.Core.Path.{◌≡◌, refl, sym, ◌∙◌}
+use mathlib.Core.Path.{◌≡◌, refl, ap, ◌∙◌}
 use mathlib.Core.Bool.{false}
 use native.Mathlib.Omega.{arith}
 use Rattle.def_tree.specs.Combine.{forest_at}
 use Rattle.def_pass.specs.Walk.{write_forest}
+use Rattle.def_file.specs.Named.{kind_of}
 use Rattle.words.specs.Layout.{node_of}
 use Rattle.words_state.specs.State.{abs}
 use Rattle.walk_write.proofs.Steps.{act-tree, act-exit}
@@ -15,20 +16,20 @@ use Rattle.walk_write.proofs.assign.assign_first.Goals as goal
 pub returns-then-n-eq0 : goal.returns-then-n-eq0
 returns-then-n-eq0 c = first-none c.requires.0 c.args.f c.args.n c.args.i c.if-n-eq0.true
 
-pub returns-then-f-ne0 : goal.returns-then-f-ne0
-returns-then-f-ne0 c = first-always c.requires.0 c.args.f c.args.n c.args.i c.requires.1 c.if-n-eq0.false c.if-f-ne0.true c.write_trees.ensures
+pub returns-then-f-ne-ASSIGN : goal.returns-then-f-ne-ASSIGN
+returns-then-f-ne-ASSIGN c = first-always c.requires.0 c.args.f c.args.n c.args.i c.requires.1 c.if-n-eq0.false c.if-f-ne-ASSIGN.true c.write_trees.ensures
 
-pub kind_at-k-requires : goal.kind_at-k-requires
-kind_at-k-requires c = (c.requires.0.good.long, omega (arith, target-in c.requires.0 c.args.n c.args.i c.requires.1 c.if-n-eq0.false, c.requires.0.good.nodes))
+pub kind_at-kind-requires : goal.kind_at-kind-requires
+kind_at-kind-requires c = (c.requires.0.good.long, omega (arith, target-in c.requires.0 c.args.n c.args.i c.requires.1 c.if-n-eq0.false, c.requires.0.good.nodes))
 
 pub returns-in_err-write_trees : goal.returns-in_err-write_trees
-returns-in_err-write_trees c = act-exit _ c.from_residual.result c.from_residual.ensures.1 (first-stop c.requires.0 c.args.f c.args.n c.args.i c.requires.1 c.if-n-eq0.false c.if-f-ne0.false c.in_err-write_trees.ensures (number-some _))
+returns-in_err-write_trees c = act-exit _ c.from_residual.result c.from_residual.ensures.1 (first-stop c.requires.0 c.args.f c.args.n c.args.i c.requires.1 c.if-n-eq0.false c.if-f-ne-ASSIGN.false c.in_err-write_trees.ensures (number-some _))
 
-pub returns-then-k-eq20 : goal.returns-then-k-eq20
-returns-then-k-eq20 c = first-name c.requires.0 c.args.f c.args.n c.args.i c.requires.1 c.if-n-eq0.false c.if-f-ne0.false c.in_ok-write_trees.ensures refl (sym c.kind_at-k.ensures ∙ c.if-k-eq20.true)
+pub returns-in-BindingIdent : goal.returns-in-BindingIdent
+returns-in-BindingIdent c = first-name c.requires.0 c.args.f c.args.n c.args.i c.requires.1 c.if-n-eq0.false c.if-f-ne-ASSIGN.false c.in_ok-write_trees.ensures refl (rw c.in-BindingIdent.is at c.kind_at-kind.ensures.1)
 
-pub write_trees-requires-3 : goal.write_trees-requires-3
-write_trees-requires-3 c = (c.in_ok-write_trees.ensures.ok.planted, rw (act-tree (write_forest false (forest_at (abs c.args.w.now) c.args.n c.args.i)) c.in_ok-write_trees.ensures refl) c.requires.1)
+pub write_trees-requires-in_default : goal.write_trees-requires-in_default
+write_trees-requires-in_default c = (c.in_ok-write_trees.ensures.ok.planted, rw (act-tree (write_forest false (forest_at (abs c.args.w.now) c.args.n c.args.i)) c.in_ok-write_trees.ensures refl) c.requires.1)
 
-pub returns : goal.returns
-returns c = first-again c.requires.0 c.args.f c.args.n c.args.i c.requires.1 c.if-n-eq0.false c.if-f-ne0.false c.in_ok-write_trees.ensures refl (λ (e : (node_of c.args.w.now c.args.i).kind ≡ 20). c.if-k-eq20.false (c.kind_at-k.ensures ∙ e)) c.write_trees-3.ensures
+pub returns-in_default : goal.returns-in_default
+returns-in_default c = first-again c.requires.0 c.args.f c.args.n c.args.i c.requires.1 c.if-n-eq0.false c.if-f-ne-ASSIGN.false c.in_ok-write_trees.ensures refl (λ (e : (node_of c.args.w.now c.args.i).kind ≡ 20). c.in_default.not-BindingIdent (c.kind_at-kind.ensures.0 ∙ ap kind_of e)) c.write_trees-in_default.ensures

@@ -1,7 +1,0 @@
--- A scan of all constants. Assumes nothing.
-use Rattle.std.proofs.Common.{sym, ◌∙◌}
-use Rattle.scope_constants.proofs.Constants.{has-first}
-use Rattle.scope_constants.proofs.has_constant.Goals as goal
-
-pub returns : goal.returns
-returns c = c.is_some.ensures ∙ sym (has-first c.args.w.now c.requires c.args.x c.first_at.result c.first_at.ensures)

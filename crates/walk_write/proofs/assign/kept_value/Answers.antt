@@ -1,8 +1,0 @@
-use Rattle.std.proofs.Common.{ap, ◌∙◌}
-use Rattle.words.specs.Layout.{tree}
-use Rattle.scope.specs.Given.{value_at}
-use Rattle.walk_write.proofs.AssignLast.{kept-is}
-use Rattle.walk_write.proofs.assign.kept_value.Goals as goal
-
-pub returns : goal.returns
-returns c = ap (value_at (tree c.args.w.now)) c.then_some.ensures ∙ kept-is c.args.w.now c.args.j c.is_cheap.result c.requires.1 c.is_cheap.ensures

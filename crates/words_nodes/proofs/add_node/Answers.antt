@@ -1,6 +1,0 @@
--- A node stored behind the last, and counted. Assumes nothing.
-use Rattle.words_nodes.proofs.Splice.{node-added}
-use Rattle.words_nodes.proofs.add_node.Goals as goal
-
-pub returns : goal.returns
-returns c = node-added c.args.w.now c.put_node.new.w c.requires.0 c.put_node.ensures
