@@ -176,7 +176,8 @@ def main():
             print(f"{len(found[key]):4} {key}")
 
 
-try:
-    main()
-except BrokenPipeError:
-    pass
+if __name__ == "__main__":
+    try:
+        main()
+    except BrokenPipeError:
+        pass

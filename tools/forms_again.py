@@ -6,17 +6,11 @@
 --show prints the places below each count.
 """
 import collections
-import importlib.util
-import pathlib
 import re
 import sys
 
-SPEC = importlib.util.spec_from_file_location("forms", pathlib.Path(__file__).with_name("forms.py"))
-forms = importlib.util.module_from_spec(SPEC)
-ARGV, sys.argv = sys.argv, [sys.argv[0], "none"]
-sys.stdout, OUT = open("/dev/null", "w"), sys.stdout
-SPEC.loader.exec_module(forms)
-sys.stdout, sys.argv = OUT, ARGV
+sys.dont_write_bytecode = True
+import forms
 
 WORD = r"w(?:ords)?\[[^\[\]]*(?:\[[^\[\]]*\][^\[\]]*)*\]"
 
