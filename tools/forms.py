@@ -110,7 +110,7 @@ def places(commit):
                     found["1 flag or kind as a word"].append(f"{where}({p}: u32)")
             if result == "u32" and re.search(r"yes result|to_nat|flag_at|var_type_of result|alias_at result|scope_kind_of result", " ".join(clauses)):
                 found["1 flag or kind as a word"].append(where + " -> u32")
-            n = len(re.findall(r"\w+:", given))
+            n = len(re.findall(r"\w+:(?!:)", given))
             if n >= 7:
                 found["5 seven parameters or more"].append(f"{where} ({n})")
             # 3: a loop that counts an index by hand

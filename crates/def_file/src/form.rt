@@ -1,4 +1,4 @@
-// Forms of nodes that the port asks for; the table of kinds bounds them all.
+// Forms of nodes that the port asks for. The table of kinds bounds the forms of a file; a flag in the working words is added to them.
 // Numbers with names, and no enum: what a form says hangs on the node's kind, and of the forms of a kind at most two are asked for, so that an
 // enum for each kind, with its conversion, would stand for one comparison.
 

@@ -1,4 +1,4 @@
-// The tree file of document 01: its nodes and their kinds. Reading and writing stand in the crate `file_read`.
+// The tree file of document 01: its nodes and their kinds. The crate `file_read` reads it, `file_write` writes it.
 #![tactic(auto)]
 
 ghost use Rattle.std.specs.Prelude.{◌≡◌};

@@ -65,7 +65,7 @@ struct Nodes<'a> {
     ghost room: { Room file.now count },
 }
 
-// A place is its class and the levels left: each call has another of both, so that a struct of the two would be made anew for each.
+// A place is its class and the levels left: each child has another of both, so that a struct of the two would be made anew for each.
 impl Nodes<'_> {
     // The children of the node at index `at`, which fills a place of class c with `left` levels.
     #[cycle(children_declarator_node)]

@@ -7,7 +7,8 @@ use file_fields::fields::u32_at;
 use file_fields::texts::Texts;
 use refusal::Refusal;
 
-// How many nodes, texts and text bytes a file has.
+// How many nodes, texts and text bytes a file has. Their bounds are row 3, which is asked of a header as it stands in the file: clauses, and no facts of
+// the type.
 #[derive(Clone, Copy, Debug, PartialEq, Eq)]
 pub struct Header {
     pub nodes: usize,

@@ -23,6 +23,9 @@ fn enough(runs: u32, words: usize) -> bool
 }
 
 // Rows 1 to 9: the pass over the file, in the words. The three functions below begin with it and end with `clear`: two lines that are left in each.
+// One generic function with the step between them as a closure is no plainer: what a closure has captured by `&mut` is unknown behind the call, so that
+// the buffer is an argument, of which `find` has none to lend; its contract is three clauses over a relation of the closure's `post`, for two here, and
+// it is 32 lines with its calls, for 25.
 fn run(file: &[u8], words: &mut [u32], runs: u32) -> Result<Ran, Refusal>
     ensures refused { enough runs (length words.old) ≡ false → (result ≡ Err Call) × (words.new ≡ words.old) }
     ensures ran { enough runs (length words.old) ≡ true → FileIs file.now words.old words.new runs result }

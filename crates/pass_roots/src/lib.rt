@@ -14,7 +14,7 @@ ghost use Rattle.pass_roots.specs.Nth.{nth, nth_is};
 use def_file::Raw;
 use file_fields::fields::node_at;
 use refusal::Refusal;
-use words::layout;
+use words::{layout, put};
 
 // A root binding: its text number, its context, its own prevented mark, and how often an identifier was replaced by its value.
 #[derive(Clone, Copy, Debug, PartialEq, Eq)]
@@ -94,7 +94,7 @@ impl Passed<'_> {
     {
         for k in 0..n {
             let root = self.read_root(k);
-            roots[5 * k..5 * k + 5].copy_from_slice(&<[u32; 5]>::from(root));
+            put(roots, 5 * k, <[u32; 5]>::from(root));
         }
     }
 }

@@ -32,7 +32,7 @@ pub use scope_var_info::{
     value_len, var_inline_prevented,
 };
 use words::Run;
-use words_nodes::skip;
+use words_nodes::tree_len;
 pub use words_scopes::kinds::{Scope, ScopeKind, VarDeclKind, VarType};
 pub use words_scopes::prevent_inline;
 use words_state::{inlining, var_decl_kind};
@@ -51,7 +51,7 @@ fn sited(w: &[u32], v: Init) -> Init
     Init::NoInit
 }
 
-// declare, with its is_undefined given; `again`: the binding is flagged (request 3).
+// declare, with its is_undefined given; `again`: the binding is flagged (request 3). The source's own arguments.
 pub fn declare(
     w: &mut [u32],
     again: bool,
@@ -107,16 +107,15 @@ fn run_of(w: &[u32], v: Option<usize>) -> Run
     requires { Planted w.now }
     ensures { Runs w.now (value_at (tree w.now) v) result.at result.len }
 {
-    let none = Run { at: 0, len: 0 };
     let Some(i) = v else {
-        return none;
+        return Run::NONE;
     };
     if !in_tree(w, i) {
-        return none;
+        return Run::NONE;
     }
     Run {
         at: i,
-        len: skip(w, i) - i,
+        len: tree_len(w, i),
     }
 }
 

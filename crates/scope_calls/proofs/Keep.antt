@@ -1,5 +1,10 @@
 -- What every call keeps, and where a sequence begins. Assumes nothing.
-use Rattle.std.proofs.Common.{◌≡◌, Result, Ok, Err, ℕ, zero, suc, ◌+◌, ◌<◌, ◌≤◌, Bool, List, [], ◌∷◌, ◌++◌, length, get_or, sym, refl, ap, ◌∙◌, ⊎_elim, arith}
+use Rattle.std.proofs.Common.{rules, ◌≡◌, Result, Ok, Err, ℕ, ◌+◌, ◌<◌, ◌≤◌, Bool, List, [], ◌∷◌, ◌++◌, map, take, length, get_or, All, sym, refl, ap, ◌∙◌, ⊎_elim, arith}
+use Rattle.std.proofs.lemmas.List.{length-map, length-take, get_or-map, get_or_past, map_more}
+use Rattle.std.proofs.lemmas.List.Elements.{All-from_recursion, All-get_or}
+use Rattle.def_file.specs.Named.{number_of}
+use Rattle.def_file.specs.declared.kind.Kind.{Kind}
+use Rattle.def_file.specs.declared.kind.Kind.TheVariants.{Array, Ident, Null, Member, Call}
 use Rattle.def_tree.specs.Tree.{Core, core, no_core}
 use Rattle.def_pass.specs.Scope.{Stack}
 use Rattle.words.specs.Tab.{tab, sum, below_or_not}
@@ -74,26 +79,39 @@ begun-good {w} {xs} b l n = record {
   cfree = λ k h. absurd (omega (arith, b.constants, h));
 }
 
--- the tree that values are taken from
+-- the tree that values are taken from: of each node its kind, its number of children and its number
+abbrev pub given : List (Kind × ℕ × ℕ)
+given =
+    (Array, 6, 0) ∷ (Ident, 0, 0) ∷ (Ident, 0, 1) ∷ (Null, 0, 3) ∷ (Member, 1, 4) ∷ (Ident, 0, 0)
+    ∷ (Array, 2, 0) ∷ (Null, 0, 7) ∷ (Ident, 0, 1) ∷ (Call, 1, 0) ∷ (Ident, 0, 2) ∷ []
+
+abbrev pub node-of : Kind × ℕ × ℕ → Core
+node-of x = core (number_of x.0) 0 x.1 x.2
+
 abbrev pub planted : List Core
-planted =
-    core 27 0 6 0 ∷ core 21 0 0 0 ∷ core 21 0 0 1 ∷ core 22 0 0 3 ∷ core 37 0 1 4 ∷ core 21 0 0 0
-    ∷ core 27 0 2 0 ∷ core 22 0 0 7 ∷ core 21 0 0 1 ∷ core 35 0 1 0 ∷ core 21 0 0 2 ∷ []
+planted = map node-of given
+
+abbrev Fits : Kind × ℕ × ℕ → Type 0
+Fits x = (number_of x.0 < 64) × (x.1 < 65536) × (x.2 < 8)
+
+fits : All Fits given
+fits = All-from_recursion Fits given (search rules)
+
+-- one more of them
+module _ {w : List ℕ} (k : ℕ) (l : k < 11) (d : Kind × ℕ × ℕ) where
+  pub one_more : Begun w (map node-of (take k given) ++ (node-of (get_or given k d) ∷ [])) → Begun w (map node-of (take (k + 1) given))
+  one_more b = rw (map_more node-of given k d l) b
+
+  pub room : Begun w (map node-of (take k given)) → (16384 ≤ length w) × (get_or w 0 0 < 1024) × (number_of (get_or given k d).0 < 64) × ((get_or given k d).1 < 65536)
+  room b =
+      let f : Fits (get_or given k d) = All-get_or Fits given k d l fits in
+      (b.long, omega (arith, size b, length-map (take k given) node-of, length-take k given), f.0, f.1)
 
 -- every number there is below 8
 small : (j : ℕ) → (get_or planted j no_core).num < 8
-small zero = omega arith
-small (suc zero) = omega arith
-small (suc (suc zero)) = omega arith
-small (suc (suc (suc zero))) = omega arith
-small (suc (suc (suc (suc zero)))) = omega arith
-small (suc (suc (suc (suc (suc zero))))) = omega arith
-small (suc (suc (suc (suc (suc (suc zero)))))) = omega arith
-small (suc (suc (suc (suc (suc (suc (suc zero))))))) = omega arith
-small (suc (suc (suc (suc (suc (suc (suc (suc zero)))))))) = omega arith
-small (suc (suc (suc (suc (suc (suc (suc (suc (suc zero))))))))) = omega arith
-small (suc (suc (suc (suc (suc (suc (suc (suc (suc (suc zero)))))))))) = omega arith
-small (suc (suc (suc (suc (suc (suc (suc (suc (suc (suc (suc j))))))))))) = omega arith
+small j = ⊎_elim
+    (λ (l : j < 11). let f : Fits (get_or given j (Null, 0, 0)) = All-get_or Fits given j (Null, 0, 0) l fits in rw (get_or-map node-of given j (Null, 0, 0) no_core l) f.2)
+    (λ (h : 11 ≤ j). rw (get_or_past planted j no_core h) (omega arith)) (below_or_not j 11)
 
 pub begun-planted : {w : List ℕ} → Begun w planted → Planted w
 begun-planted {w} b = record { good = begun-good b (omega arith) (λ j z. omega (arith, small j)); one = rw b.is (record { is = refl }) }

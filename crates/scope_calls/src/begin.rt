@@ -29,17 +29,21 @@ fn plant(w: &mut [u32])
     ensures { Planted w.new }
 {
     clear(w);
-    grow(w, Kind::Array, 6, 0);
-    grow(w, Kind::Ident, 0, 0);
-    grow(w, Kind::Ident, 0, 1);
-    grow(w, Kind::LITERAL, 0, 3);
-    grow(w, Kind::Member, 1, 4);
-    grow(w, Kind::Ident, 0, 0);
-    grow(w, Kind::Array, 2, 0);
-    grow(w, Kind::LITERAL, 0, 7);
-    grow(w, Kind::Ident, 0, 1);
-    grow(w, Kind::Call, 1, 0);
-    grow(w, Kind::Ident, 0, 2);
+    for (kind, arity, num) in [
+        (Kind::Array, 6, 0),
+        (Kind::Ident, 0, 0),
+        (Kind::Ident, 0, 1),
+        (Kind::LITERAL, 0, 3),
+        (Kind::Member, 1, 4),
+        (Kind::Ident, 0, 0),
+        (Kind::Array, 2, 0),
+        (Kind::LITERAL, 0, 7),
+        (Kind::Ident, 0, 1),
+        (Kind::Call, 1, 0),
+        (Kind::Ident, 0, 2),
+    ] {
+        grow(w, kind, arity, num);
+    }
 }
 
 pub fn begin(w: &mut [u32])

@@ -11,7 +11,7 @@ use scope::{
 use scope_find::{bound_here, in_loop};
 use scope_values::{live, recorded_nodes, stops_at};
 use std::{fmt, io};
-use words::layout;
+use words::layout::{self, Table};
 use words_scopes::find_by_walk;
 
 // A word of the line, with a space before it.
@@ -45,31 +45,30 @@ fn word(w: &[u32], i: usize) -> u32 {
     w.get(i).copied().unwrap_or(0)
 }
 
-// A table of records: where it begins, and how many words a record has.
-#[derive(Clone, Copy, Debug, PartialEq, Eq)]
-struct Table(usize, usize);
+const SCOPE_TABLE: Table = Table {
+    base: layout::SCOPES,
+    stride: 4,
+};
 
-const BINDINGS: Table = Table(layout::BINDINGS, 10);
+const VALUE_TABLE: Table = Table {
+    base: layout::VALUES,
+    stride: 2,
+};
 
-const CONSTANTS: Table = Table(layout::CONSTANTS, 2);
+const CONSTANT_VALUE_TABLE: Table = Table {
+    base: layout::CONSTANT_VALUES,
+    stride: 2,
+};
 
-const SCOPES: Table = Table(layout::SCOPES, 4);
-
-const VALUES: Table = Table(layout::VALUES, 2);
-
-const CONSTANT_VALUES: Table = Table(layout::CONSTANT_VALUES, 2);
-
-// Word f of record k of a table.
-fn field(w: &[u32], table: Table, k: u32, f: u32) -> u32
-    requires { (table.0 ≤ 8192) × (table.1 ≤ 10) }
-{
-    word(w, table.0 + k as usize * table.1 + f as usize)
+// Word f of record k of a table; past the end too, where the sum is past all numbers.
+fn field(w: &[u32], t: Table, k: u32, f: usize) -> u32 {
+    let at = t.stride.saturating_mul(k as usize).saturating_add(t.base);
+    word(w, at.saturating_add(f))
 }
 
-// The n nodes of a value from node `at` on: kinds and numbers.
-fn show_value(rt: &impl Print, w: &[u32], store: Table, at: u32, n: u32) -> io::Result<()>
-    requires { (store.0 ≤ 8192) × (store.1 ≤ 10) }
-{
+// The n nodes of a value from node `at` on: kinds and numbers, as the words have them. That they stand there, as `node_at` of words asks, is not
+// known here.
+fn show_value(rt: &impl Print, w: &[u32], store: Table, at: u32, n: u32) -> io::Result<()> {
     put(rt, n)?;
     for j in 0..n {
         let k = at.wrapping_add(j);
@@ -82,14 +81,20 @@ fn show_value(rt: &impl Print, w: &[u32], store: Table, at: u32, n: u32) -> io::
 // Binding k, whose value begins at node `at`; where the next one's begins.
 fn show_binding(rt: &impl Print, w: &[u32], k: u32, at: u32) -> io::Result<u32> {
     put(rt, 'b')?;
-    for f in 0..4 {
-        put(rt, field(w, BINDINGS, k, f))?;
+    for f in [0, layout::KIND, layout::ALIAS, layout::READS] {
+        put(rt, field(w, layout::BINDING_TABLE, k, f))?;
     }
-    for f in [4, 5, 6, 7, 9] {
-        put_bool(rt, field(w, BINDINGS, k, f) != 0)?;
+    for f in [
+        layout::PREVENTED,
+        layout::UNDEFINED,
+        layout::SENSITIVE,
+        layout::HOISTED,
+        layout::BARRIER,
+    ] {
+        put_bool(rt, field(w, layout::BINDING_TABLE, k, f) != 0)?;
     }
-    let n = field(w, BINDINGS, k, 8);
-    show_value(rt, w, VALUES, at, n)?;
+    let n = field(w, layout::BINDING_TABLE, k, layout::LENGTH);
+    show_value(rt, w, VALUE_TABLE, at, n)?;
     Ok(at.wrapping_add(n))
 }
 
@@ -105,9 +110,9 @@ fn show_consts(rt: &impl Print, w: &[u32], a: u32, e: u32, at: u32) -> io::Resul
     let mut p = at;
     for k in a..e {
         put(rt, 'c')?;
-        put(rt, field(w, CONSTANTS, k, 0))?;
-        let n = field(w, CONSTANTS, k, 1);
-        show_value(rt, w, CONSTANT_VALUES, p, n)?;
+        put(rt, field(w, layout::CONSTANT_TABLE, k, 0))?;
+        let n = field(w, layout::CONSTANT_TABLE, k, layout::CONSTANT_LENGTH);
+        show_value(rt, w, CONSTANT_VALUE_TABLE, p, n)?;
         p = p.wrapping_add(n);
     }
     Ok(p)
@@ -125,27 +130,28 @@ fn show_unresolved(rt: &impl Print, w: &[u32], k: u32) -> io::Result<()> {
     Ok(())
 }
 
-// Where the records of scope k end; f is the field with their beginning.
-fn end_of(w: &[u32], k: u32, f: u32, count: u32) -> u32 {
+// Where the records of scope k end; f is the field with their beginning, and `count` the word with the number of all.
+fn end_of(w: &[u32], k: u32, f: usize, count: usize) -> u32 {
     let next = k.wrapping_add(1);
-    if next < word(w, 2) {
-        return field(w, SCOPES, next, f);
+    if next < word(w, layout::SCOPE_COUNT) {
+        return field(w, SCOPE_TABLE, next, f);
     }
-    count
+    word(w, count)
 }
 
 fn show_scopes(rt: &impl Print, w: &[u32]) -> io::Result<()> {
-    let d = word(w, 2);
     let mut at: u32 = 0;
     let mut cat: u32 = 0;
-    for k in 0..d {
+    for k in 0..word(w, layout::SCOPE_COUNT) {
         put(rt, 's')?;
-        put(rt, field(w, SCOPES, k, 0))?;
-        put_bool(rt, field(w, SCOPES, k, 3) != 0)?;
-        let a = field(w, SCOPES, k, 1);
-        at = show_bindings(rt, w, a, end_of(w, k, 1, word(w, 1)), at)?;
-        let c = field(w, SCOPES, k, 2);
-        cat = show_consts(rt, w, c, end_of(w, k, 2, word(w, 3)), cat)?;
+        put(rt, field(w, SCOPE_TABLE, k, 0))?;
+        put_bool(rt, field(w, SCOPE_TABLE, k, layout::FIRST_BARRIER) != 0)?;
+        let a = field(w, SCOPE_TABLE, k, layout::FIRST_BINDING);
+        let e = end_of(w, k, layout::FIRST_BINDING, layout::BINDING_COUNT);
+        at = show_bindings(rt, w, a, e, at)?;
+        let c = field(w, SCOPE_TABLE, k, layout::FIRST_CONSTANT);
+        let d = end_of(w, k, layout::FIRST_CONSTANT, layout::CONSTANT_COUNT);
+        cat = show_consts(rt, w, c, d, cat)?;
         show_unresolved(rt, w, k)?;
     }
     Ok(())
@@ -238,8 +244,8 @@ fn show_places(rt: &impl Print, w: &[u32]) -> io::Result<()>
     for x in 0..4 {
         put_places(rt, w, x)?;
     }
-    for k in 0..word(w, 1) {
-        put_places(rt, w, (field(w, BINDINGS, k, 0) % 256) as u8)?;
+    for k in 0..word(w, layout::BINDING_COUNT) {
+        put_places(rt, w, (field(w, layout::BINDING_TABLE, k, 0) % 256) as u8)?;
     }
     Ok(())
 }

@@ -10,11 +10,12 @@ ghost use Rattle.words_scopes.specs.Kinds.{kind_of};
 ghost use Rattle.scope_child.specs.Hoist.{record_at, hoist_one, hoist_up, end_one, end_up};
 
 use refusal::Refusal;
-use scope_redeclare::{own_binding, rewrite, set_count};
+use scope_find::{find_binding_from_current, scope_kind};
+use scope_redeclare::{rewrite, set_count};
 use scope_values::set_run;
 use words::{Run, flag_at, layout, sum_at, wipe};
 pub use words_scopes::kinds::{Scope, ScopeKind};
-use words_scopes::{Record, append_record, drop_scope, open, record_at};
+use words_scopes::{Record, append_record, drop_scope, first_binding, open, record_at};
 
 // A binding of a closed scope, whose record j is, goes up if it is a `var`: in place of the innermost scope's binding of the same name, or appended.
 // Answers the count that ends.
@@ -36,12 +37,12 @@ fn hoist_one(w: &mut [u32], j: usize) -> u32
         hoisted: true,
         ..closed
     };
-    let Some(k) = own_binding(w, x) else {
+    let Some(k) = find_binding_from_current(w, x) else {
         append_record(w, x, hoisted, count);
         return 0;
     };
     let old = w[layout::COUNTS + k];
-    set_run(w, k, Run { at: 0, len: 0 });
+    set_run(w, k, Run::NONE);
     rewrite(w, k, hoisted);
     set_count(w, k, count);
     old
@@ -65,7 +66,7 @@ fn sum_counts(w: &[u32], a: usize, e: usize) -> u32
     requires { (16384 ≤ length w.now) × (a ≤ e) × (e ≤ 256) }
     ensures { result ≡ counts_in (tab (e - a) (λ j. bind_at w.now (a + j))) % 4294967296 }
 {
-    (sum_at(w, layout::COUNTS, 1, a, e) % (1 << 32)) as u32
+    (sum_at(w, layout::COUNT_TABLE, a, e) % (1 << 32)) as u32
 }
 
 // No scope is left.
@@ -92,8 +93,8 @@ pub fn close(w: &mut [u32]) -> u32
         drop_all(w);
         return ended;
     }
-    let kind = ScopeKind::from_word(w[layout::SCOPES + (d - 1) * 4]);
-    let a = w[layout::SCOPES + (d - 1) * 4 + layout::FIRST_BINDING] as usize;
+    let kind = scope_kind(w, d - 1);
+    let a = first_binding(w, d - 1);
     match kind {
         ScopeKind::Cond | ScopeKind::Loop | ScopeKind::Block => {
             drop_scope(w);

@@ -13,13 +13,15 @@ use Rattle.words.specs.Tab.{tab-zero, tab-suc, tab-ext, set-tab, same_or_not, su
 use Rattle.words.specs.Layout.{Agree, run, tree, beyond, core_from}
 use Rattle.words.proofs.Nodes.{beyond-same}
 use Rattle.def_pass.specs.Scope.{Free}
-use Rattle.words_scopes.specs.State.{heads, flags, binds, consts, const_at, clen_at, off, coff, crun_at, CFits, Good, Whole, value_of, run_of, targeted}
-use Rattle.words_scopes.proofs.Words.{heads-part, part-tree, part-coff, part-crun, targeted-same, whole-none}
+use Rattle.words_scopes.specs.State.{heads, flags, binds, consts, const_at, clen_at, off, coff, crun_at, CFits, Good, Whole, value_of, targeted}
+use Rattle.words_scopes.proofs.Words.{heads-part, part-tree, part-coff, part-crun, targeted-same, whole-none, words-const}
 use Rattle.words_scopes.proofs.Grow.{part_off, part-run, part-binds, part-flags}
 use Rattle.words_scopes.proofs.Index.{begins, beside_same}
-use Rattle.scope_values.specs.Steps.{Listed, Spliced}
+use Rattle.words.specs.declared.Run.{Run}
+use Rattle.words.specs.declared.layout.Table.{Table}
+use Rattle.scope_values.specs.Steps.{Listed, Refilled, Offered, run_value, len_in, run_in}
 use Rattle.scope_constants.proofs.Constants.{Const, cfits-more}
-use Rattle.scope_values.proofs.Store as store
+use Rattle.scope_values.proofs.Store.{run-names, refilled-sum}
 
 -- all but the constants' records, their values and their count is kept
 pub record CKept (w w' : List ℕ) : Type 0 where
@@ -96,48 +98,36 @@ module _ {w w' : List ℕ} (g : Good w) (t : CKept w w') where
     rest = t.rest;
   }
 
--- the value of constant k becomes the m nodes of the tree from node i on
-module _ (w v : List ℕ) (g : Good w) (k i m : ℕ) (h : k < get_or w 3 0) (hi : i + m ≤ get_or w 0 0) (hm : m + (off w (get_or w 1 0) + coff w (get_or w 3 0)) ≤ 512 + clen_at w k)
-    (s : Spliced w v 3088 (coff w k) (clen_at w k) (coff w (get_or w 3 0)) i m) where
-  abbrev len : ℕ → ℕ
-  len j = 6672 + j * 2 + 1
+-- the constants' values, as a store
+abbrev pub lengths : Table
+lengths = record { base = 6673; stride = 2 }
 
-  abbrev w' : List ℕ
-  w' = set v (6672 + k * 2 + 1) m
+pub len-const : (w : List ℕ) (k : ℕ) → len_in w lengths k ≡ clen_at w k
+len-const w k = ap (λ (j : ℕ). get_or w j 0) (omega arith)
 
-  above : (j : ℕ) → 4112 ≤ len j
-  above j = omega arith
+run-const : (w : List ℕ) (k : ℕ) → run_in w 3088 lengths k ≡ crun_at w k
+run-const w k = rw (words-const w k, len-const w k) refl
 
-  alone : (a b : ℕ) → len a ≡ len b → a ≡ b
-  alone a b e = omega arith
-
-  within : len k < 16384
-  within = omega (arith, g.ccount)
-
-  tree-long : i + m ≤ 1024
-  tree-long = omega (arith, g.nodes)
-
-  own : m + coff w (get_or w 3 0) ≤ 512 + clen_at w k
-  own = omega arith
-
+-- the value of constant k becomes a run of the tree's nodes
+module _ {w w' : List ℕ} (g : Good w) (k : ℕ) (h : k < get_or w 3 0) (r : Run) (o : Offered w r) (p : Free (targeted w) (run_value w r)) (hm : r.len + (off w (get_or w 1 0) + coff w (get_or w 3 0)) ≤ 512 + clen_at w k) (s : Refilled w w' 3088 lengths k (get_or w 3 0) r) where
   out : (j : ℕ) → (j < 3088) ⊎ (4112 ≤ j) → (j ≡ 6672 + k * 2 + 1 → ⊥) → get_or w' j 0 ≡ get_or w j 0
-  out = store.out 3088 len (omega arith) (omega arith) above alone w v (get_or w 3 0) k i m h within g.long tree-long g.cvals own s
+  out j l d = s.out j l (λ e. d (omega arith))
 
   set-kept : CKept w w'
   set-kept = let l = g.ccount in record {
-    size = store.size 3088 len (omega arith) (omega arith) above alone w v (get_or w 3 0) k i m h within g.long tree-long g.cvals own s;
+    size = s.size;
     counts = λ j a b. out j (inl (omega arith)) (λ e. omega arith);
     nodes = λ j a b. out j (inl (omega arith)) (λ e. omega arith);
     bind = λ j a b. out j (inr (omega arith)) (λ e. omega arith);
     tail = λ j a b. out j (inr (omega arith)) (λ e. omega arith);
-    rest = store.stored-rest 3088 len (omega arith) (omega arith) above alone w v (get_or w 3 0) k i m h within g.long tree-long g.cvals own s;
+    rest = beyond-same w w' s.size (λ j a. out j (inr (omega arith)) (λ e. omega arith));
   }
 
-  run-this : crun_at w' k ≡ run w 16 i m
-  run-this = store.run-this 3088 len (omega arith) (omega arith) above alone w v (get_or w 3 0) k i m h within g.long tree-long g.cvals own s
+  run-this : crun_at w' k ≡ run w 16 r.at r.len
+  run-this = sym (run-const w' k) ∙ s.this
 
   run-other : (j : ℕ) → j < get_or w 3 0 → (j ≡ k → ⊥) → crun_at w' j ≡ crun_at w j
-  run-other = store.run-other 3088 len (omega arith) (omega arith) above alone w v (get_or w 3 0) k i m h within g.long tree-long g.cvals own s
+  run-other j l d = sym (run-const w' j) ∙ s.other j l d ∙ run-const w j
 
   named : (j : ℕ) → get_or w' (6672 + j * 2) 0 ≡ get_or w (6672 + j * 2) 0
   named j = out (6672 + j * 2) (inr (omega arith)) (λ e. omega arith)
@@ -145,17 +135,17 @@ module _ (w v : List ℕ) (g : Good w) (k i m : ℕ) (h : k < get_or w 3 0) (hi 
   n3 : get_or w' 3 0 ≡ get_or w 3 0
   n3 = out 3 (inl (omega arith)) (λ e. omega arith)
 
-  set-good : run_of (value_of (run w 16 i m)) ≡ run w 16 i m → Free (targeted w) (value_of (run w 16 i m)) → Good w'
-  set-good q p = ckept-good g set-kept (get_or w 3 0) n3 g.live (omega (arith, store.vals-after 3088 len (omega arith) (omega arith) above alone w v (get_or w 3 0) k i m h within g.long tree-long g.cvals own s)) g.cfits (λ j l. rw (named j) (g.cids j l))
-      (λ j l. ⊎_elim (λ (e : j ≡ k). rw (e, run-this) (record { one = q; names = store.run-names w i m g.names hi })) (λ (d : j ≡ k → ⊥). rw (run-other j l d) (g.cwhole j l)) (same_or_not j k))
+  set-good : Good w'
+  set-good = ckept-good g set-kept (get_or w 3 0) n3 g.live (omega (arith, refilled-sum s h, len-const w k, words-const w (get_or w 3 0), words-const w' (get_or w 3 0))) g.cfits (λ j l. rw (named j) (g.cids j l))
+      (λ j l. ⊎_elim (λ (e : j ≡ k). rw (e, run-this) (record { one = o.one; names = run-names w r.at r.len g.names o.inside })) (λ (d : j ≡ k → ⊥). rw (run-other j l d) (g.cwhole j l)) (same_or_not j k))
       (λ j l. ⊎_elim (λ (e : j ≡ k). rw (e, run-this) p) (λ (d : j ≡ k → ⊥). rw (run-other j l d) (g.cfree j l)) (same_or_not j k))
 
-  set-consts : consts w' ≡ set (consts w) k (get_or w (6672 + k * 2) 0, value_of (run w 16 i m))
+  set-consts : consts w' ≡ set (consts w) k (get_or w (6672 + k * 2) 0, run_value w r)
   unfolding consts
-  set-consts = rw n3 (set-tab (get_or w 3 0) (λ j. const_at w j) (λ j. const_at w' j) k (get_or w (6672 + k * 2) 0, value_of (run w 16 i m)) h (rw (run-this, named k) refl) (λ j l d. rw (run-other j l d, named j) refl))
+  set-consts = rw n3 (set-tab (get_or w 3 0) (λ j. const_at w j) (λ j. const_at w' j) k (get_or w (6672 + k * 2) 0, run_value w r) h (rw (run-this, named k) refl) (λ j l d. rw (run-other j l d, named j) refl))
 
-  pub const-set : run_of (value_of (run w 16 i m)) ≡ run w 16 i m → Free (targeted w) (value_of (run w 16 i m)) → Listed w w' (binds w) (set (consts w) k (get_or w (6672 + k * 2) 0, value_of (run w 16 i m)))
-  const-set q p = ckept-listed g set-kept (set (consts w) k (get_or w (6672 + k * 2) 0, value_of (run w 16 i m))) (set-good q p) set-consts
+  pub const-set : Listed w w' (binds w) (set (consts w) k (get_or w (6672 + k * 2) 0, run_value w r))
+  const-set = ckept-listed g set-kept (set (consts w) k (get_or w (6672 + k * 2) 0, run_value w r)) set-good set-consts
 
 -- a constant without a value is appended
 module _ (w : List ℕ) (g : Good w) (x : ℕ) (h : get_or w 1 0 + get_or w 3 0 < 256) (z : 0 < get_or w 2 0) (small : x < 256) where

@@ -124,23 +124,20 @@ pub walked_none : {w : List ℕ} {x k e : ℕ} → k ≡ 0 → Walked w x k e �
 unfolding heads_at
 walked_none {w} {x} {k} {e} z t = rw z at t.is
 
--- its next scope
-module _ (w : List ℕ) (x k e : ℕ) (h : 0 < k) (t : Walked w x k e) where
-  abbrev a : ℕ
-  a = get_or w (7184 + (k - 1) * 4 + 2) 0
-
+-- its next scope, whose constants begin at a
+module _ {w : List ℕ} {x k e : ℕ} (t : Walked w x k e) (h : 0 < k) {a : ℕ} (is : a ≡ get_or w (7184 + (k - 1) * 4 + 2) 0) where
   fits-here : CFits (heads_at w (suc (k - 1))) e
   fits-here = let q : k ≡ suc (k - 1) = omega arith in rw q at t.fits
+
+  pub next_fits : (a ≤ e) × CFits (heads_at w (k - 1)) a
+  unfolding heads_at
+  next_fits = rw is (fits-here.0, fits-here.1)
 
   behind : (o : Option (Option Tree)) → const_in x (drop a (tab_c w e)) ≡ o → find_constant x (stack w) ≡ or_else (flat o) (find_c x (heads_at w (k - 1)) (tab_c w a))
   unfolding heads_at
   behind o p =
       let q : k ≡ suc (k - 1) = omega arith in
-      t.is ∙ ap (λ (n : ℕ). find_c x (heads_at w n) (tab_c w e)) q ∙ rw (p, take-tab a e (λ j. const_at w j) fits-here.0) refl
-
-  pub next_fits : (a ≤ e) × CFits (heads_at w (k - 1)) a
-  unfolding heads_at
-  next_fits = (fits-here.0, fits-here.1)
+      t.is ∙ ap (λ (n : ℕ). find_c x (heads_at w n) (tab_c w e)) q ∙ rw (← is, p, take-tab a e (λ j. const_at w j) next_fits.0) refl
 
   walked_to : find_constant x (stack w) ≡ find_c x (heads_at w (k - 1)) (tab_c w a) → Walked w x (k - 1) a
   walked_to p = record { most = omega (arith, t.most, next_fits.0); fits = next_fits.1; is = p }
@@ -238,15 +235,15 @@ module _ (w : List ℕ) (g : Good w) where
       let l : live (stack_c (consts w ++ (c ∷ []))) ≡ live (stack w) + 1 = omega (arith, live-split (heads w) (flags w) (binds w) (consts w ++ (c ∷ [])) (fits-binds w g) f, live-is w g, len, length-binds w g, length-consts w g) in
       rw (r, l) refl
 
--- a run of the tree in place of the value of constant k: what `passes` and `set_const` ask, and what `passes` tells
+-- a run of the tree in place of the value of constant k: what `room_for` and `set_const` ask, and what `room_for` tells
 module _ (w : List ℕ) (g : Good w) (k : ℕ) (h : k < get_or w 3 0) (r : Run) (o : Offered w r) where
-  pub passes-asks : Good w × (clen_at w k ≤ recorded_nodes (stack w)) × (r.len ≤ 1024) × (0 ≤ 1)
-  passes-asks = let part = sum-part (λ j. clen_at w j) k (get_or w 3 0) h in (g, omega (arith, recorded-is w g), omega (arith, g.nodes, o.inside), omega arith)
+  pub room-asks : Good w × (clen_at w k ≤ recorded_nodes (stack w)) × (r.len ≤ 1024) × (0 ≤ 1)
+  room-asks = let part = sum-part (λ j. clen_at w j) k (get_or w 3 0) h in (g, omega (arith, recorded-is w g), omega (arith, g.nodes, o.inside), omega arith)
 
   pub put-room : (p : Bool) → p ≡ (ltb 512 (recorded_nodes (stack w) - clen_at w k + r.len) || ltb 256 (live (stack w) + 0)) → p ≡ false
       → r.len + (off w (get_or w 1 0) + coff w (get_or w 3 0)) ≤ 512 + clen_at w k
   put-room p is e =
-      let part = passes-asks.1 in
+      let part = room-asks.1 in
       let l = room (recorded_nodes (stack w) - clen_at w k + r.len) (live (stack w) + 0) (sym is ∙ e) in
       omega (arith, l.0, recorded-is w g)
 

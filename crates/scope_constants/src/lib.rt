@@ -1,4 +1,5 @@
-// Constants over the working words: found, and recorded.
+// Constants over the working words: found, and recorded. That what a run becomes is no targeted identifier (`Free`) is a clause, as `Offered` is: a run
+// cannot hold the words that say which are targeted.
 #![tactic(auto)]
 
 ghost use Rattle.std.specs.Prelude.{◌≡◌, ◌+◌, ◌*◌, ◌-◌, ◌≤◌, ◌<◌, [], ◌∷◌, ◌++◌, get_or, set};
@@ -10,8 +11,9 @@ ghost use Rattle.scope_constants.specs.Consts.{Found, Own, Left};
 
 use def_file::kind::Kind;
 use refusal::Refusal;
-use scope_values::{const_offset, room_for, splice};
+use scope_values::{const_offset, refill, room_for};
 use words::{Run, first_at, flag_at, kind_at, layout, num_at};
+use words_scopes::first_constant;
 
 // The value of the innermost constant of x that has one; no identifier that the script as read targets (request 8).
 // The walk over the scopes is that of words_scopes' `find_by_walk`, but for the test of the length, by which it goes on.
@@ -22,8 +24,8 @@ pub fn find_constant(w: &[u32], x: u8) -> Option<Run>
     let d = w[layout::SCOPE_COUNT] as usize;
     let mut e = w[layout::CONSTANT_COUNT] as usize;
     for k in (0..d).rev() {
-        let a = w[layout::SCOPES + k * 4 + layout::FIRST_CONSTANT] as usize;
-        if let Some(r) = first_at(w, layout::CONSTANTS, 2, a, e, x) {
+        let a = first_constant(w, k);
+        if let Some(r) = first_at(w, layout::CONSTANT_TABLE, a, e, x) {
             let len = w[layout::CONSTANTS + r * 2 + layout::CONSTANT_LENGTH] as usize;
             if 0 < len {
                 return Some(Run {
@@ -43,9 +45,9 @@ fn own_const(w: &[u32], x: u8) -> Option<usize>
     ensures { Own w.now x result }
 {
     let d = w[layout::SCOPE_COUNT] as usize - 1;
-    let a = w[layout::SCOPES + d * 4 + layout::FIRST_CONSTANT] as usize;
+    let a = first_constant(w, d);
     let c = w[layout::CONSTANT_COUNT] as usize;
-    first_at(w, layout::CONSTANTS, 2, a, c, x)
+    first_at(w, layout::CONSTANT_TABLE, a, c, x)
 }
 
 // Constant k gets a run of the tree's nodes as its value.
@@ -54,11 +56,14 @@ fn set_const(w: &mut [u32], k: usize, r: Run)
     ensures { Listed w.old w.new (binds w.old) (set (consts w.old) k (get_or w.old (6672 + k * 2) 0, run_value w.old r)) }
 {
     let n = w[layout::CONSTANT_COUNT] as usize;
-    let at = const_offset(w, k);
-    let end = const_offset(w, n);
-    let old = w[layout::CONSTANTS + k * 2 + layout::CONSTANT_LENGTH] as usize;
-    splice(w, layout::CONSTANT_VALUES, at, old, end, r);
-    w[layout::CONSTANTS + k * 2 + layout::CONSTANT_LENGTH] = r.len as u32;
+    refill(
+        w,
+        layout::CONSTANT_VALUES,
+        layout::CONSTANT_LENGTHS,
+        k,
+        n,
+        r,
+    );
 }
 
 // Appends a constant without a value to the innermost scope.
@@ -67,7 +72,7 @@ fn push_const(w: &mut [u32], x: u8)
     ensures { Listed w.old w.new (binds w.old) (consts w.old ++ ((x, none) ∷ [])) }
 {
     let c = w[layout::CONSTANT_COUNT] as usize;
-    w[layout::CONSTANTS + c * 2] = x as u32;
+    w[layout::CONSTANTS + c * 2] = u32::from(x);
     w[layout::CONSTANTS + c * 2 + layout::CONSTANT_LENGTH] = 0;
     w[layout::CONSTANT_COUNT] = (c + 1) as u32;
 }

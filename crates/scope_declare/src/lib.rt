@@ -1,4 +1,5 @@
-// declare over the working words: what bars or prevents an init, and a declaration with none, with an identifier, or with another value.
+// declare over the working words: what bars or prevents an init, and a declaration with none, with an identifier, or with another value. Its bools are
+// the source's own arguments.
 #![tactic(auto)]
 
 ghost use Rattle.std.specs.Prelude.{◌≡◌, ◌||◌, ◌&&◌, ◌≤◌, ◌<◌};
@@ -20,7 +21,7 @@ use scope_find::{
     should_prevent_inline_because_of_scope, var_type,
 };
 use words::kind_at;
-use words_nodes::skip;
+use words_nodes::tree_len;
 use words_scopes::kinds::VarType;
 
 // Where x is among the bindings of the current scope, or would be.
@@ -115,7 +116,7 @@ pub fn declare(
     let Some(i) = v.node() else {
         return declare_bare(w, again, x, undefined, kind);
     };
-    let len = skip(w, i) - i;
+    let len = tree_len(w, i);
     let prevented = again || prevented_at(w, x, i);
     let d = plain(w, kind, prevented, undefined);
     if !is_ident(w, i) {

@@ -21,7 +21,7 @@ use Rattle.words.proofs.Nodes.{run_length}
 use Rattle.scope_values.proofs.Count.{depth_is, nodes_b, total-append, length-binds, recorded-is, values-in}
 use Rattle.scope_values.proofs.Listed.{bind-there, change-at}
 use Rattle.std.proofs.Common.{None}
-use Rattle.scope_redeclare.specs.Own.{Own, OwnAt}
+use Rattle.scope_find.specs.Own.{Own, OwnAt}
 use Rattle.scope_define.specs.Declare.{put_declared, declare_with}
 use Rattle.scope_define.specs.Kinds.{init_at, nodes_of, is_seen, Sized}
 use Rattle.scope_define.specs.declared.Init.{Init}

@@ -11,7 +11,8 @@ ghost use Rattle.scope_define.specs.Kinds.{init_at, start_of, nodes_of, is_seen,
 ghost use Rattle.scope_define.specs.Declare.{put_declared, declare_with};
 
 use refusal::Refusal;
-use scope_redeclare::{own_binding, redeclare_as, redeclare_seen};
+use scope_find::find_binding_from_current;
+use scope_redeclare::{redeclare_as, redeclare_seen};
 use scope_values::{record_value, room_for, set_run};
 use words::{Run, layout};
 pub use words_scopes::kinds::{VarDeclKind, VarType};
@@ -95,7 +96,7 @@ fn put_declared(w: &mut [u32], x: u8, v: Init, len: usize, d: Declaration) -> Re
     if w[layout::SCOPE_COUNT] == 0 {
         return Ok(());
     }
-    match own_binding(w, x) {
+    match find_binding_from_current(w, x) {
         Some(k) => match v {
             Init::Seen(_) => {
                 redeclare_seen(w, k, d.prevented, d.undefined);

@@ -36,10 +36,6 @@ pub flag : (v : ℕ) → not (eqb v 0) ≡ yes v
 flag zero = refl
 flag (suc v) = ap not (ne_eqb (suc v) 0 (λ e. omega arith))
 
-pub flag-set : (v : ℕ) → (v ≡ 0 → ⊥) → yes v ≡ true
-flag-set zero h = absurd (h refl)
-flag-set (suc v) h = refl
-
 -- a number less one, if there is one, by its place
 pub placed-less : (n : ℕ) (r : Answer ℕ) → SomeIff r (1 ≤ n) (n - 1) → at r ≡ n
 placed-less n None h = omega arith

@@ -4,3 +4,4 @@ pub mod Facts
 pub mod Touch
 pub mod Placed
 pub mod AllConsts
+pub mod Down

@@ -1,7 +1,7 @@
 -- The walk through the scopes from the current one outwards, or from the root inwards. Assumes nothing.
 use mathlib.Core.Path.{◌≡◌, refl, sym, ap, ◌∙◌}
-use mathlib.Core.List.{List, [], ◌∷◌}
-use mathlib.Core.Bool.{Bool, true, false}
+use mathlib.Core.List.{List, [], ◌∷◌, map}
+use mathlib.Core.Bool.{Bool, true, false, ◌||◌}
 use mathlib.Core.Option.{Option, none, some}
 use Rattle.std.proofs.Common.{Option as Answer, Some, None, is_some as holds}
 use Rattle.words.specs.Place.{placed, FirstAt}
@@ -12,14 +12,16 @@ use lib.ListN.{length, get_or, drop, length-drop}
 use lib.Dec.{eqb}
 use lib.Seq.{get_or-drop}
 use Rattle.def_tree.specs.Tree.{Tree}
-use Rattle.def_pass.specs.Scope.{Scope, Stack, is_fn, is_loop, is_block, is_some, has_in, const_in, write_prevents_inline, in_loop}
+use Rattle.def_pass.specs.Scope.{ScopeKind, cond, loop, block, fn, Scope, Stack, is_fn, is_loop, is_block, is_some, has_in, const_in, write_prevents_inline, in_loop}
 use Rattle.words.specs.Tab.{tab, length-tab, get_d-tab}
 use Rattle.words_scopes.specs.declared.kinds.ScopeKind.{ScopeKind as Kind}
 use Rattle.words_scopes.specs.declared.kinds.ScopeKind.TheVariants.{Cond, Loop, Block, Fn}
-use Rattle.words_scopes.specs.Kinds.{kind_of, scope_kind_of}
+use Rattle.words_scopes.specs.Kinds.{kind_of}
 use Rattle.words_scopes.specs.State.{const_at, heads_at, heads, stack, Fits, CFits, Good}
 use Rattle.words_scopes.proofs.Split as laws
 use Rattle.words_scopes.proofs.Look as outwards
+use Rattle.std.specs.List.{find}
+use Rattle.scope_find.proofs.Down.{down}
 use Rattle.scope_find.specs.Look.{first, cfirst, scope_at, below, at_place, FoundIn}
 
 abbrev pub no_const : ℕ × Option Tree
@@ -162,16 +164,6 @@ block_other Loop h = refl
 block_other Block h = absurd (h refl)
 block_other (Fn b) h = refl
 
-pub fn_other : (t : Kind) → ((b : Bool) → t ≡ Fn b → ⊥) → is_fn (kind_of t) ≡ false
-fn_other Cond h = refl
-fn_other Loop h = refl
-fn_other Block h = refl
-fn_other (Fn b) h = absurd (h b refl)
-
-pub kind-here : (w : List ℕ) (k : ℕ) → (scope_at w k).kind ≡ scope_kind_of (get_or w (7184 + k * 4) 0)
-unfolding scope_at
-kind-here w k = refl
-
 -- is there one, by the place found
 pub at_holds : (w : List ℕ) (r : Answer ℕ) → is_some (at_place w (placed r)) ≡ holds r
 at_holds w None = refl
@@ -202,3 +194,29 @@ module _ (s : Scope) (st : Stack) where
 
     pub loop-on : is_loop s.kind ≡ false → in_loop (s ∷ st) ≡ in_loop st
     loop-on l = rw (in_loop, f, l) refl
+
+-- the first scope outwards that is a function or a loop
+abbrev pub kind-at : List ℕ → ℕ → ScopeKind
+kind-at w k = (scope_at w k).kind
+
+abbrev pub stops : ScopeKind → Bool
+stops k = is_fn k || is_loop k
+
+abbrev pub said : Answer ScopeKind → Bool
+said None = false
+said (Some k) = is_loop k
+
+no-loop : (k : ScopeKind) → is_fn k ≡ true → is_loop k ≡ false
+no-loop cond e = refl
+no-loop loop e = absurd (laws.never e)
+no-loop block e = refl
+no-loop (fn n) e = refl
+
+module _ (w : List ℕ) (g : Good w) where
+  pub loop-first : (d : ℕ) → d ≤ get_or w 2 0 → said (find stops (map (kind-at w) (down d))) ≡ in_loop (below w d)
+  loop-first zero h = sym (ap in_loop (below_none w))
+  loop-first (suc d) h = laws.tested (is_fn (kind-at w d))
+      (λ f. rw f (no-loop (kind-at w d) f) ∙ sym (ap in_loop (below_next w g d (omega arith)) ∙ loop-out (scope_at w d) (below w d) f))
+      (λ f. laws.tested (is_loop (kind-at w d))
+      (λ l. rw (f, l) l ∙ sym (ap in_loop (below_next w g d (omega arith)) ∙ loop-here (scope_at w d) (below w d) f l))
+      (λ l. rw (f, l) (loop-first d (omega arith)) ∙ sym (ap in_loop (below_next w g d (omega arith)) ∙ loop-on (scope_at w d) (below w d) f l)))

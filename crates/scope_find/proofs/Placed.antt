@@ -7,12 +7,15 @@ use Prim.Native.Nat.{ℕ, zero, suc, ◌+◌, ◌-◌, ◌*◌, ◌≤◌, ◌<�
 use native.Mathlib.Omega.{arith}
 use lib.ListN.{length, get_or, take, drop, length-drop}
 use lib.Seq.{get_or-drop}
-use Rattle.def_pass.specs.Scope.{VarInfo, has_in}
+use Rattle.def_pass.specs.Scope.{VarInfo, has_in, is_some, find_binding_from_current}
+use Rattle.std.proofs.Common.{Option as Answer, Some, None}
+use Rattle.words.specs.Place.{placed}
 use Rattle.words.specs.Tab.{tab, length-tab, get_d-tab, take-tab}
-use Rattle.words_scopes.specs.State.{bind_at, head_at, heads_at, heads, binds, place, index_in, Good}
+use Rattle.words_scopes.specs.State.{bind_at, head_at, heads_at, heads, binds, stack, place, index_in, Good}
 use Rattle.words_scopes.proofs.Split as laws
 use Rattle.words_scopes.proofs.Index as index
 use Rattle.scope_find.specs.Look.{first, scope_at, at_place, place_below, FoundIn}
+use Rattle.scope_find.specs.Own.{Own}
 use Rattle.scope_find.proofs.Out as out
 
 -- all scopes
@@ -118,6 +121,22 @@ module _ (w : List ℕ) (g : Good w) where
           ∙ ap (place x (head_at w k ∷ heads_at w k)) (sym (take-tab j e (λ k. bind_at w k) (omega (arith, j-in))))
           ∙ index.place-under x (head_at w k) (heads_at w k) bs (omega (arith, begin.0)) ∙ ap (place x (heads_at w k)) below
 
+    -- binding b was found in it
+    module _ (b : ℕ) (f : FoundIn w k x (suc b)) where
+      has : has_in x (drop a bs) ≡ true
+      unfolding scope_at
+      has = ap is_some f.is
+
+      there : p ≡ suc b
+      unfolding scope_at
+      there = laws.place-yes x (head_at w k) (heads_at w k) bs has ∙ omega (arith, f.index (omega arith), begin.0)
+
+      pub own-place : place_below w x (suc k) ≡ suc b
+      own-place = is-p ∙ there
+
+      pub own-name : get_or w (4112 + b * 10) 0 ≡ x
+      own-name = let q : p - 1 ≡ b = omega (arith, there) in rw q at name (omega (arith, f.index (omega arith), there))
+
     -- outside scope k
     pub outside-none : 0 ≡ place_below w x (suc k) → 0 ≡ place_below w x k
     outside-none e = e ∙ is-p ∙ outer_same (omega (arith, e ∙ is-p))
@@ -135,3 +154,14 @@ module _ (w : List ℕ) (g : Good w) where
 -- scope k is the current one
 pub placed-current : (w : List ℕ) (x k : ℕ) → suc k ≡ get_or w 2 0 → place x (heads w) (binds w) ≡ place_below w x (suc k)
 placed-current w x k e = placed-all w x ∙ ap (place_below w x) (sym e)
+
+-- its own binding
+module _ (w : List ℕ) (g : Good w) (x k : ℕ) (e : suc k ≡ get_or w 2 0) where
+  pub from-current : (r : ℕ) → FoundIn w k x r → find_binding_from_current x (stack w) ≡ at_place w r
+  from-current r f = ap (find_binding_from_current x) (out.current w k g e) ∙ f.is
+
+  pub own : (r : Answer ℕ) → FoundIn w k x (placed r) → Own w x r
+  own None f = ap is_some (from-current 0 f)
+  own (Some b) f =
+      let l : k < get_or w 2 0 = omega arith in
+      record { below = f.low; place = placed-current w x k e ∙ own-place w g k l x b f; named = own-name w g k l x b f; found = from-current (suc b) f }

@@ -195,10 +195,7 @@ module _ {w w' : List ℕ} (g : Good w) (t : Touched w w') where
   unresolved-same k a m = ap (λ (l : List ℕ). yes (get_or l m 0)) (tab-ext 256 (λ j. flag_at w' (7312 + k * 8) j) (λ j. flag_at w (7312 + k * 8) j) (λ j l. flag_same w w' (7312 + k * 8) j l (λ i h. a (7312 + k * 8 + i) (omega arith) (omega arith))))
 
 -- an unresolved use is stored
-module _ (w w' : List ℕ) (g : Good w) (x : ℕ) (small : x < 256) (z : 0 < get_or w 2 0) (f : Flagged w w' (7312 + (get_or w 2 0 - 1) * 8) x) where
-  abbrev k : ℕ
-  k = get_or w 2 0 - 1
-
+module _ (w w' : List ℕ) (g : Good w) (x : ℕ) (small : x < 256) (k : ℕ) (z : suc k ≡ get_or w 2 0) (f : Flagged w w' (7312 + k * 8) x) where
   abbrev p : ℕ
   p = 7312 + k * 8 + x / 32
 
@@ -231,10 +228,10 @@ module _ (w w' : List ℕ) (g : Good w) (x : ℕ) (small : x < 256) (z : 0 < get
 
   pub unresolved : Becomes w w' (add_unresolved x (stack w))
   unresolved =
-      let top : below w' (get_or w 2 0) ≡ scope_at w' k ∷ below w' k = out.turn w' (get_or w 2 0) (touched-good g touched) z (omega (arith, keeps 2 (λ e. omega arith))) in
+      let top : below w' (get_or w 2 0) ≡ scope_at w' k ∷ below w' k = ap (below w') (sym z) ∙ out.below_next w' (touched-good g touched) k (omega (arith, keeps 2 (λ e. omega arith))) in
       touched-becomes g touched (add_unresolved x (stack w))
       (top ∙ rw (scope-to g touched k (omega arith) (scope_at w k).inline_barriers (λ m. eqb x m || (scope_at w k).unresolved_usages m) (same-bars k (omega arith)) used, below-same g touched k (omega arith) outer_same) refl
-      ∙ sym (ap (add_unresolved x) (out.below_all w ∙ out.turn w (get_or w 2 0) g z (omega arith))))
+      ∙ sym (ap (add_unresolved x) (out.current w k g z)))
 
 -- a barrier by the words, where scope k begins at a and ends at e
 module _ (u : List ℕ) (k j a e : ℕ) (begin : get_or u (7184 + k * 4 + 1) 0 ≡ a) (end : first u (suc k) ≡ e) where

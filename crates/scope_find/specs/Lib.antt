@@ -1,3 +1,4 @@
 pub mod Look
 pub mod Answers
 pub mod Touched
+pub mod Own

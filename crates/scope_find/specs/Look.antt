@@ -10,13 +10,7 @@ use Rattle.words.specs.Tab.{tab}
 use Rattle.words.specs.Layout.{tree}
 use Rattle.words_scopes.specs.State.{Good, bind_at, const_at, Head, head_at, heads_at, scope_of, split, index_in, place}
 
--- the words stand for a state, and it has scope k, binding k, node i
-abbrev pub HasScope : List ℕ → ℕ → Type 0
-HasScope w k = Good w × (k < get_or w 2 0)
-
-abbrev pub HasBinding : List ℕ → ℕ → Type 0
-HasBinding w k = Good w × (k < get_or w 1 0)
-
+-- the words stand for a state, and it has node i
 abbrev pub HasNode : List ℕ → ℕ → Type 0
 HasNode w i = Good w × (i < get_or w 0 0)
 
@@ -70,11 +64,6 @@ idx_at w (suc j) = some (j, bind_at w (first w (get_or w 2 0 - 1) + j))
 abbrev pub reads_o : Option VarInfo → Option ℕ
 reads_o none = none
 reads_o (some b) = some b.read_cnt
-
--- a value's kind
-abbrev pub kind_o : Option Tree → Option ℕ
-kind_o none = none
-kind_o (some t) = some (kind t)
 
 -- the kind of a value, none where there is no value
 abbrev pub IsKindOfValue : Option Tree → Answer Kind → Type 0

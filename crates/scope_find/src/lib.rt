@@ -1,4 +1,5 @@
-// Look-ups and marks of scope.rs over the working words. Their contracts speak of the definition's stack of scopes.
+// Look-ups of scope.rs over the working words. Their contracts speak of the definition's stack of scopes. That a number is a scope's, a binding's or a
+// node's is a clause: a number cannot hold the words that it is a number in.
 #![tactic(auto)]
 
 ghost use Rattle.std.specs.Prelude.{◌≡◌, suc, ◌+◌, ◌*◌, ◌-◌, ◌≤◌, ◌<◌, true, ◌||◌, ltb, ◌⊎◌, get_or};
@@ -10,15 +11,16 @@ ghost use Rattle.def_pass.specs.Twice.{is_twice, unflagged, is_args};
 ghost use Rattle.words.specs.Layout.{yes, node_of};
 ghost use Rattle.words.specs.Place.{placed};
 ghost use Rattle.words_scopes.specs.Kinds.{type_of, kind_of};
-ghost use Rattle.words_scopes.specs.State.{Good, stack, heads, binds, place, bind_at, len_at, off};
-ghost use Rattle.scope_find.specs.Look.{HasScope, HasBinding, HasNode, start, first, scope_at, below, at_place, place_below, FoundIn, idx_here, idx_at, reads_o, IsKindOfValue, node_tree, held, bars_here, bound_here};
+ghost use Rattle.words_scopes.specs.State.{Good, HasBinding, HasScope, stack, heads, binds, place, bind_at, len_at, off};
+ghost use Rattle.scope_find.specs.Look.{HasNode, start, first, scope_at, below, at_place, place_below, FoundIn, idx_here, idx_at, reads_o, IsKindOfValue, node_tree, held, bars_here, bound_here};
 ghost use Rattle.scope_find.specs.Answers.{count_of};
+ghost use Rattle.scope_find.specs.Own.{Own};
 
 use def_file::form;
 use def_file::kind::Kind;
-use words::{arity_at, first_at, flag_at, form_at, kind_at, layout, num_at};
+use words::{arity_at, first_at, flag_at, form_at, kind_at, layout, node_at, num_at};
 use words_scopes::kinds::{ScopeKind, VarType};
-use words_scopes::{find_binding, offset};
+use words_scopes::{current, find_binding, offset};
 
 // A name, a binding or an identifier of the tree: its number, and its form.
 #[derive(Clone, Copy, Debug, PartialEq, Eq)]
@@ -129,15 +131,16 @@ fn const_in(w: &[u32], k: usize, x: u8) -> bool
 {
     let a = start_of(w, k, layout::FIRST_CONSTANT, layout::CONSTANT_COUNT);
     let e = start_of(w, k + 1, layout::FIRST_CONSTANT, layout::CONSTANT_COUNT);
-    first_at(w, layout::CONSTANTS, 2, a, e, x).is_some()
+    first_at(w, layout::CONSTANT_TABLE, a, e, x).is_some()
 }
 
 // The binding of x in the current scope.
 pub fn find_binding_from_current(w: &[u32], x: u8) -> Option<usize>
     requires { Good w.now }
-    ensures { (find_binding_from_current x (stack w.now) ≡ at_place w.now (placed result)) × (placed result ≤ get_or w.now 1 0) }
+    ensures found { (find_binding_from_current x (stack w.now) ≡ at_place w.now (placed result)) × (placed result ≤ get_or w.now 1 0) }
+    ensures own { Own w.now x result }
 {
-    let k = (w[layout::SCOPE_COUNT] as usize).checked_sub(1)?;
+    let k = current(w)?;
     found_in(w, k, x)
 }
 
@@ -147,11 +150,12 @@ pub fn has_constant(w: &[u32], x: u8) -> bool
     ensures { result ≡ has_constant x (stack w.now) }
 {
     let c = w[layout::CONSTANT_COUNT] as usize;
-    first_at(w, layout::CONSTANTS, 2, 0, c, x).is_some()
+    first_at(w, layout::CONSTANT_TABLE, 0, c, x).is_some()
 }
 
-// Outwards, is a function, a loop or a condition met before the binding of x. This and the other loops outwards stay loops: each has two tests
-// with an answer each, and one function over them would take a closure for both.
+// Outwards, is a function, a loop or a condition met before the binding of x. A loop, as `bound_outwards` and `held_below`: `found_in`
+// asks that no scope inside has x, a fact that goes from turn to turn. `find`, as `in_loop` has it, would ask that of the calls before (its clause
+// `callable`), and the library has no lemma for it.
 pub fn write_prevents_inline(w: &[u32], x: u8) -> bool
     requires { Good w.now }
     ensures { result ≡ write_prevents_inline x (stack w.now) }
@@ -172,14 +176,11 @@ pub fn in_loop(w: &[u32]) -> bool
     requires { Good w.now }
     ensures { result ≡ in_loop (stack w.now) }
 {
-    for k in (0..w[layout::SCOPE_COUNT] as usize).rev() {
-        match scope_kind(w, k) {
-            ScopeKind::Fn { .. } => return false,
-            ScopeKind::Loop => return true,
-            ScopeKind::Cond | ScopeKind::Block => {}
-        }
-    }
-    false
+    (0..w[layout::SCOPE_COUNT] as usize)
+        .rev()
+        .map(|k| scope_kind(w, k))
+        .find(|kind| matches!(kind, ScopeKind::Fn { .. } | ScopeKind::Loop))
+        .is_some_and(|kind| kind == ScopeKind::Loop)
 }
 
 // The index within the current scope of the binding of x.
@@ -187,7 +188,7 @@ pub fn idx_val(w: &[u32], x: u8) -> Option<usize>
     requires { Good w.now }
     ensures { idx_here x (stack w.now) ≡ idx_at w.now (placed result) }
 {
-    let k = (w[layout::SCOPE_COUNT] as usize).checked_sub(1)?;
+    let k = current(w)?;
     let b = found_in(w, k, x)?;
     Some(b - first_of(w, k))
 }
@@ -197,11 +198,10 @@ pub fn bound_here(w: &[u32]) -> usize
     requires { Good w.now }
     ensures { result ≡ bound_here (stack w.now) }
 {
-    let d = w[layout::SCOPE_COUNT] as usize;
-    if d == 0 {
+    let Some(d) = current(w) else {
         return 0;
-    }
-    w[layout::BINDING_COUNT] as usize - first_of(w, d - 1)
+    };
+    w[layout::BINDING_COUNT] as usize - first_of(w, d)
 }
 
 // Is a word of binding k's record set, as a flag.
@@ -258,7 +258,7 @@ pub fn value_kind(w: &[u32], k: usize) -> Option<Kind>
         return None;
     }
     let at = offset(w, k);
-    Some(Kind::from(w[layout::VALUES + at * 2] % 64))
+    Some(node_at(w, layout::VALUES, at).kind)
 }
 
 // How many nodes it has; they stand from offset(w, k) on.
@@ -361,12 +361,11 @@ pub fn should_prevent_inline_because_of_scope(w: &[u32], x: u8) -> bool
     requires { Good w.now }
     ensures { result ≡ should_prevent_inline_because_of_scope x (stack w.now) }
 {
-    let d = w[layout::SCOPE_COUNT] as usize;
-    if d == 0 {
+    let Some(d) = current(w) else {
         return false;
-    }
-    flag_at(w, layout::UNRESOLVED + (d - 1) * 8, x)
-        || held_below(w, d - 1, x, outside(w, d - 1, x, find_binding(w, x)))
+    };
+    flag_at(w, layout::UNRESOLVED + d * 8, x)
+        || held_below(w, d, x, outside(w, d, x, find_binding(w, x)))
 }
 
 // The mark of the innermost binding of x.
@@ -443,14 +442,13 @@ fn bar(w: &[u32], j: usize) -> bool
     requires { Good w.now }
     ensures { result ≡ bars_here (stack w.now) j }
 {
-    let d = w[layout::SCOPE_COUNT] as usize;
-    if d == 0 {
+    let Some(d) = current(w) else {
         return false;
-    }
+    };
     if j == 0 {
-        return w[layout::SCOPES + (d - 1) * 4 + layout::FIRST_BARRIER] != 0;
+        return w[layout::SCOPES + d * 4 + layout::FIRST_BARRIER] != 0;
     }
-    let a = first_of(w, d - 1);
+    let a = first_of(w, d);
     j <= w[layout::BINDING_COUNT] as usize - a && is_set(w, a + j - 1, layout::BARRIER)
 }
 

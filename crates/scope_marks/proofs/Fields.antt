@@ -1,10 +1,10 @@
 -- One binding's fields stored; the parameters swept. Assumes nothing.
 use mathlib.Core.Path.{◌≡◌, refl, sym, ap, ◌∙◌}
 use mathlib.Core.List.{List, [], ◌∷◌, map}
-use mathlib.Core.Bool.{Bool, true, false, ◌||◌}
+use mathlib.Core.Bool.{Bool, true, false, cond, ◌||◌}
 use mathlib.Core.Option.{Option}
 use mathlib.Core.Logic.{⊎_elim}
-use Prim.Native.Nat.{ℕ, zero, suc, ◌+◌, ◌-◌, ◌*◌, ◌≤◌, ◌<◌}
+use Prim.Native.Nat.{ℕ, zero, suc, ◌+◌, ◌*◌, ◌≤◌, ◌<◌}
 use native.Mathlib.Nat.{eq-or-lt_of_le}
 use native.Mathlib.Omega.{arith}
 use borrow.Author.Tests.{lt-ltb, le-ltb}
@@ -16,13 +16,15 @@ use Rattle.def_tree.specs.Tree.{Tree}
 use Rattle.def_pass.specs.Scope.{VarInfo, Scope, Stack, is_fn, is_param, change, sensitive_now, prevent, one_more, read_once, prevent_param, prevent_inline_of_params, on_bindings}
 use Rattle.words.specs.Tab.{tab, tab-ext, length-tab, get_d-tab, below_or_not}
 use Rattle.words.specs.Layout.{yes}
-use Rattle.words_scopes.specs.State.{bind_at, Head, head_at, heads_at, heads, flags, binds, consts, split, scope_of, stack, Good, Becomes, Fits, place}
+use Rattle.words_scopes.specs.State.{bind_at, Head, head_at, heads_at, heads, flags, binds, consts, split, scope_of, stack, Good, HasBinding, Becomes, Fits, place}
 use Rattle.words_scopes.proofs.Split as laws
 use Rattle.words_scopes.proofs.Words as words
 use Rattle.words_scopes.proofs.Stored.{store-this, store-becomes}
-use Rattle.words_scopes.proofs.Grow.{some-head}
-use Rattle.scope_find.specs.Look.{fn_start, params_from}
-use Rattle.scope_find.proofs.Facts.{flag-set}
+use Rattle.std.proofs.Common.{Option as Answer, Some, None}
+use Rattle.std.specs.List.{find}
+use Rattle.scope_find.specs.Look.{first, scope_at, fn_start, params_from}
+use Rattle.scope_find.proofs.Out as out
+use Rattle.scope_find.proofs.Down.{down}
 
 pub sensed : (w : List ℕ) → Good w → (k : ℕ) → k < get_or w 1 0 → (x : ℕ) → place x (heads w) (binds w) ≡ suc k → Becomes w (set w (4112 + k * 10 + 6) 1) (change x sensitive_now (stack w))
 sensed w g k h = store-becomes w g k h 6 1 (omega arith) (omega arith) sensitive_now refl
@@ -48,16 +50,20 @@ module _ (w : List ℕ) (g : Good w) (k : ℕ) (h : k < get_or w 1 0) where
 
   -- a read is counted, n now, and marks a hoisted binding
   module _ (n : ℕ) (e : n ≡ one_more (bind_at w k).read_cnt) where
-    hoisted-same : get_or (set w (4112 + k * 10 + 3) n) (4112 + k * 10 + 7) 0 ≡ get_or w (4112 + k * 10 + 7) 0
-    hoisted-same = words.field-same w g k h 3 n (omega arith) (omega arith) k 7 (omega arith) (λ z. omega arith)
+    abbrev u : List ℕ
+    u = set w (4112 + k * 10 + 3) n
 
-    pub read-marked : (get_or (set w (4112 + k * 10 + 3) n) (4112 + k * 10 + 7) 0 ≡ 0 → ⊥) → (x : ℕ) → place x (heads w) (binds w) ≡ suc k
-        → Becomes w (set (set w (4112 + k * 10 + 3) n) (4112 + k * 10 + 4) 1) (change x read_once (stack w))
-    read-marked m = read-now n 1 e (sym (rw (flag-set (get_or w (4112 + k * 10 + 7) 0) (λ z. m (hoisted-same ∙ z))) refl))
+    pub counted : HasBinding u k
+    counted = (words.field-good w g k h 3 n (omega arith) (omega arith), omega (arith, (words.field-kept w g k h 3 n (omega arith) (omega arith)).counts 1 (omega arith) (omega arith)))
 
-    pub read-plain : get_or (set w (4112 + k * 10 + 3) n) (4112 + k * 10 + 7) 0 ≡ 0 → (x : ℕ) → place x (heads w) (binds w) ≡ suc k
-        → Becomes w (set w (4112 + k * 10 + 3) n) (change x read_once (stack w))
-    read-plain z = store-becomes w g k h 3 n (omega arith) (omega arith) read_once (let q : get_or w (4112 + k * 10 + 7) 0 ≡ 0 = sym hoisted-same ∙ z in rw (e, q) refl)
+    hoisted-same : (bind_at u k).hoisted ≡ (bind_at w k).hoisted
+    hoisted-same = ap yes (words.field-same w g k h 3 n (omega arith) (omega arith) k 7 (omega arith) (λ z. omega arith))
+
+    pub read-marked : (bind_at u k).hoisted ≡ true → (x : ℕ) → place x (heads w) (binds w) ≡ suc k → Becomes w (set u (4112 + k * 10 + 4) 1) (change x read_once (stack w))
+    read-marked m = read-now n 1 e (sym (rw (sym hoisted-same ∙ m) refl))
+
+    pub read-plain : (bind_at u k).hoisted ≡ false → (x : ℕ) → place x (heads w) (binds w) ≡ suc k → Becomes w u (change x read_once (stack w))
+    read-plain z = store-becomes w g k h 3 n (omega arith) (omega arith) read_once (rw (e, sym hoisted-same ∙ z) refl)
 
 -- the parameters, from a place on
 drop-params : (a l : ℕ) (bs : List VarInfo) → l ≤ a → drop a (params_from l bs) ≡ map prevent_param (drop a bs)
@@ -212,9 +218,22 @@ params-becomes {w} lo g e b = rw (params_are w g, ← e) b
 pub start-low : (w : List ℕ) → Good w → fn_start (heads w) ≤ get_or w 1 0
 start-low w g = start-le (heads w) (get_or w 1 0) g.fits
 
--- outwards, by the kind
-pub start-here : (w : List ℕ) (k : ℕ) → 0 < k → is_fn (head_at w (k - 1)).kind ≡ true → fn_start (heads_at w k) ≡ get_or w (7184 + (k - 1) * 4 + 1) 0
-start-here w k z e = ap fn_start (some-head w k z) ∙ start-fn (head_at w (k - 1)) (heads_at w (k - 1)) e
+-- by the first scope outwards that is a function, if there is one
+abbrev pub start_of : List ℕ → Answer ℕ → ℕ
+start_of w None = 0
+start_of w (Some k) = first w k
 
-pub start-next : (w : List ℕ) (k : ℕ) → 0 < k → is_fn (head_at w (k - 1)).kind ≡ false → fn_start (heads_at w k) ≡ fn_start (heads_at w (k - 1))
-start-next w k z e = ap fn_start (some-head w k z) ∙ start-on (head_at w (k - 1)) (heads_at w (k - 1)) e
+module _ (w : List ℕ) where
+  abbrev pub fn-at : ℕ → Bool
+  fn-at k = is_fn (scope_at w k).kind
+
+  nearest : (d : ℕ) → d ≤ get_or w 2 0 → start_of w (find fn-at (down d)) ≡ fn_start (heads_at w d)
+  unfolding heads_at scope_at
+  nearest zero h = refl
+  nearest (suc d) h = laws.tested (fn-at d)
+      (λ e. ap (λ (p : Bool). start_of w (cond p (Some d) (find fn-at (down d)))) e ∙ out.first-in w d (omega arith) ∙ sym (start-fn (head_at w d) (heads_at w d) e))
+      (λ e. ap (λ (p : Bool). start_of w (cond p (Some d) (find fn-at (down d)))) e ∙ nearest d (omega arith) ∙ sym (start-on (head_at w d) (heads_at w d) e))
+
+  pub nearest-all : start_of w (find fn-at (down (get_or w 2 0))) ≡ fn_start (heads w)
+  unfolding heads
+  nearest-all = nearest (get_or w 2 0) (omega arith)

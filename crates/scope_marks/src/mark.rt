@@ -1,18 +1,18 @@
 // Marks: what changes the scopes and adds nothing to them.
 ghost use Rattle.std.specs.Prelude.{◌≡◌, ◌≤◌, get_or};
-ghost use Rattle.def_pass.specs.Scope.{is_some, find_binding, change, sensitive_now, read_once, add_unresolved, prevent_inline_of_params, store_inline_barrier};
+ghost use Rattle.def_pass.specs.Scope.{is_some, is_fn, find_binding, change, sensitive_now, read_once, add_unresolved, prevent_inline_of_params, store_inline_barrier};
 ghost use Rattle.def_tree.specs.Base.{pick};
-ghost use Rattle.words_scopes.specs.State.{Good, Becomes, stack, heads, flags, binds, consts, split};
-ghost use Rattle.scope_find.specs.Look.{HasScope, fn_start, params_from};
+ghost use Rattle.words_scopes.specs.State.{Good, HasScope, Becomes, stack, heads, flags, binds, consts, split};
+ghost use Rattle.scope_find.specs.Look.{scope_at, fn_start, params_from};
 ghost use Rattle.scope_find.specs.Touched.{BarStored};
 
-use scope_find::{first_of, scope_kind, var_type};
+use scope_find::{first_of, hoisted, scope_kind, var_type};
 use words::{layout, set_flag};
-use words_scopes::find_binding;
 use words_scopes::kinds::ScopeKind;
+use words_scopes::{current, find_binding};
 
-// What `this` is matters to the innermost binding of x. It and words_scopes' `define` and `prevent_found` store one field each: one function would
-// take the field, its value and the definition, which is all that they have.
+// What `this` is matters to the innermost binding of x. It and words_scopes' `define` and `prevent_found` change one word each: one function would
+// take the word, its value and the definition, and be called by no other name.
 pub fn mark_this_sensitive(w: &mut [u32], x: u8)
     requires { Good w.old }
     ensures { Becomes w.old w.new (change x sensitive_now (stack w.old)) }
@@ -27,11 +27,10 @@ pub fn add_unresolved(w: &mut [u32], x: u8)
     requires { Good w.old }
     ensures { Becomes w.old w.new (add_unresolved x (stack w.old)) }
 {
-    let d = w[layout::SCOPE_COUNT] as usize;
-    if d == 0 {
+    let Some(d) = current(w) else {
         return;
-    }
-    set_flag(w, layout::UNRESOLVED + (d - 1) * 8, x);
+    };
+    set_flag(w, layout::UNRESOLVED + d * 8, x);
 }
 
 // A read of x is counted at its innermost binding, which is prevented if it is hoisted; without a binding x is unresolved.
@@ -46,22 +45,28 @@ pub fn count_read(w: &mut [u32], x: u8)
     let p = layout::BINDINGS + k * 10;
     let reads = w[p + layout::READS];
     w[p + layout::READS] = if reads < 2 { reads + 1 } else { reads };
-    if w[p + layout::HOISTED] != 0 {
+    if hoisted(w, k) {
         w[p + layout::PREVENTED] = 1;
     }
 }
 
-// Where the bindings of the nearest function begin, outwards. A loop, as those outwards of scope_find.
+// Is scope k a function.
+fn is_fn(w: &[u32], k: usize) -> bool
+    requires { HasScope w.now k }
+    ensures { result ≡ is_fn (scope_at w.now k).kind }
+{
+    matches!(scope_kind(w, k), ScopeKind::Fn { .. })
+}
+
+// Where the bindings of the nearest function begin, outwards.
 fn fn_start(w: &[u32]) -> usize
     requires { Good w.now }
     ensures { result ≡ fn_start (heads w.now) }
 {
-    for k in (0..w[layout::SCOPE_COUNT] as usize).rev() {
-        if let ScopeKind::Fn { .. } = scope_kind(w, k) {
-            return first_of(w, k);
-        }
-    }
-    0
+    (0..w[layout::SCOPE_COUNT] as usize)
+        .rev()
+        .find(|&k| is_fn(w, k))
+        .map_or(0, |k| first_of(w, k))
 }
 
 // Marks the parameters among the bindings from lo on.

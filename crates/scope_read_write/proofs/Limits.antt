@@ -1,10 +1,10 @@
 -- Row 9 with a binding more; and steps one after the other. Assumes nothing.
 use mathlib.Core.Path.{◌≡◌, refl, sym, ap, ◌∙◌}
 use mathlib.Core.List.{List, [], ◌∷◌}
-use mathlib.Core.Bool.{Bool, true, false}
+use mathlib.Core.Bool.{Bool, true, false, ◌||◌}
 use Prim.Native.Nat.{ℕ, ◌+◌, ◌-◌, ◌<◌}
 use native.Mathlib.Omega.{arith}
-use borrow.Author.Tests.{lt-ltb}
+use borrow.Author.Tests.{le-ltb}
 use lib.ListN.{get_or, length-append}
 use lib.Dec.{ltb}
 use Rattle.def_tree.specs.Base.{pick}
@@ -17,8 +17,7 @@ use Rattle.scope_find.specs.Look.{scope_at, below}
 use Rattle.scope_values.specs.Steps.{over, Still, Grown}
 use Rattle.std.proofs.Common.{Result, Ok, Err}
 use Rattle.refusal.specs.declared.Refusal.{Refusal}
-use Rattle.refusal.specs.declared.Refusal.TheVariants.{Room}
-use Rattle.scope_values.proofs.Count.{live-is}
+use Rattle.scope_values.proofs.Count.{recorded-is}
 use Rattle.scope_find.proofs.Facts.{or-true}
 use Rattle.scope_find.proofs.Out as out
 
@@ -26,16 +25,20 @@ use Rattle.scope_find.proofs.Out as out
 live-append : (b : VarInfo) (s : Scope) (st : Stack) → live (append b (s ∷ st)) ≡ live (s ∷ st) + 1
 live-append b s st = omega (arith, length-append s.bindings (b ∷ []))
 
-pub live_more : (b : VarInfo) (w : List ℕ) → Good w → 0 < get_or w 2 0 → live (append b (stack w)) ≡ get_or w 1 0 + get_or w 3 0 + 1
+live_more : (b : VarInfo) (w : List ℕ) → Good w → 0 < get_or w 2 0 → live (append b (stack w)) ≡ live (stack w) + 1
 live_more b w g z =
-    let e : stack w ≡ scope_at w (get_or w 2 0 - 1) ∷ below w (get_or w 2 0 - 1) = out.below_all w ∙ out.turn w (get_or w 2 0) g z (omega arith) in
-    ap (λ (st : Stack). live (append b st)) e ∙ live-append b (scope_at w (get_or w 2 0 - 1)) (below w (get_or w 2 0 - 1)) ∙ ap (λ (n : ℕ). n + 1) (sym (ap live e) ∙ live-is w g)
+    let e = out.current w (get_or w 2 0 - 1) g (omega arith) in
+    ap (λ (st : Stack). live (append b st)) e ∙ live-append b (scope_at w (get_or w 2 0 - 1)) (below w (get_or w 2 0 - 1)) ∙ ap (λ (n : ℕ). n + 1) (sym (ap live e))
 
 pub no-scope : (b : VarInfo) (w : List ℕ) → get_or w 2 0 ≡ 0 → append b (stack w) ≡ stack w
-no-scope b w z = rw (out.below_all w ∙ ap (below w) z ∙ out.below_none w) refl
+no-scope b w z = rw (out.none-open w z) refl
 
-pub over-live : (st : Stack) → 256 < live st → over st ≡ true
-over-live st h = rw (lt-ltb 256 (live st) h) (or-true (ltb 512 (recorded_nodes st)))
+-- no room for it: the nodes are within their limit, so the records pass theirs
+pub over-append : (b : VarInfo) (w : List ℕ) → Good w → 0 < get_or w 2 0 → (ltb 512 (recorded_nodes (stack w) - 0 + 0) || ltb 256 (live (stack w) + 1)) ≡ true → over (append b (stack w)) ≡ true
+over-append b w g z t =
+    let few : ltb 512 (recorded_nodes (stack w) - 0 + 0) ≡ false = le-ltb 512 (recorded_nodes (stack w) - 0 + 0) (omega (arith, recorded-is w g, g.recorded)) in
+    let many : ltb 256 (live (append b (stack w))) ≡ true = ap (ltb 256) (live_more b w g z) ∙ rw few at t in
+    rw many (or-true (ltb 512 (recorded_nodes (append b (stack w)))))
 
 -- steps one after the other
 pub becomes-self : (w : List ℕ) → Good w → Becomes w w (stack w)
@@ -56,12 +59,6 @@ step-yes t e q b = rw (e, q) b
 
 pub step-no : {w v : List ℕ} {p : Bool} (s : Stack) → Good w → p ≡ false → v ≡ w → Becomes w v (pick p s (stack w))
 step-no {w} s g e q = rw (e, q) (becomes-self w g)
-
-pub still : {w w' : List ℕ} {st : Stack} → Becomes w w' st → Still w w'
-still b = record { good = b.good; tree = b.tree; others = b.others; rest = b.rest }
-
-pub refused : (w : List ℕ) (st : Stack) → Good w → over st ≡ true → Grown w w st (Err Room)
-refused w st g e = (refl, e, still (becomes-self w g))
 
 still-then : {u v w : List ℕ} {s : Stack} → Becomes u v s → Still v w → Still u w
 still-then a b = record {

@@ -11,11 +11,12 @@ ghost use Rattle.scope_read_write.specs.Writes.{forced};
 use refusal::Refusal;
 use scope_find::{has_constant, read_prevents_inlining, scope_for, write_prevents_inline};
 use scope_marks::mark::{count_read, prevent_inline_of_params};
+use scope_values::room_for;
 use words::layout;
 use words_scopes::kinds::{VarDeclKind, VarType};
 use words_scopes::{define, prevent_inline, push};
 
-// How a name is written: it is prevented where the scopes say so, or in any case.
+// How a name is written: it is prevented where the scopes say so, or in any case. Two cases with names, where a bool said `force`.
 #[derive(Clone, Copy, Debug, PartialEq, Eq)]
 pub enum Write {
     Plain,
@@ -64,9 +65,7 @@ fn write_free(w: &mut [u32], x: u8, how: Write) -> Result<(), Refusal>
     if has_constant(w, x) || w[layout::SCOPE_COUNT] == 0 {
         return Ok(());
     }
-    if 256 <= w[layout::BINDING_COUNT] + w[layout::CONSTANT_COUNT] {
-        return Err(Refusal::Room);
-    }
+    room_for(w, 0, 0, 1)?;
     push(
         w,
         x,

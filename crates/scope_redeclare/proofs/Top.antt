@@ -1,25 +1,18 @@
--- The innermost scope: what it is in the words, and its own binding of an identifier. Assumes nothing.
+-- The innermost scope: what it is in the words. Assumes nothing.
 use mathlib.Core.Path.{◌≡◌, refl, sym, ap, ◌∙◌}
 use mathlib.Core.List.{List, [], ◌∷◌}
 use mathlib.Core.Bool.{Bool, true, false}
-use mathlib.Core.Option.{some}
 use Prim.Native.Nat.{ℕ, suc, ◌+◌, ◌-◌, ◌*◌, ◌≤◌, ◌<◌}
 use native.Mathlib.Omega.{arith}
-use lib.ListN.{length, get_or, take, drop, length-drop}
-use lib.Seq.{get_or-drop}
-use Rattle.def_pass.specs.Scope.{VarInfo, Scope, Stack, has_in, find_binding_from_current, is_some, put, change, append, on_bindings}
+use lib.ListN.{length, get_or, take, drop}
+use Rattle.def_pass.specs.Scope.{VarInfo, Scope, Stack, find_binding_from_current, is_some, put, change, append, on_bindings}
 use Rattle.words.specs.Tab.{get_d-tab}
 use Rattle.words.specs.Layout.{yes}
 use Rattle.words.specs.Flags.{flag_at}
-use Rattle.words_scopes.specs.State.{Good, Fits, split, scope_of, Head, head_at, heads_at, heads, flags, binds, consts, stack, bind_at, unres_at, place, index_in}
+use Rattle.words_scopes.specs.State.{Good, Fits, split, scope_of, head_at, heads_at, heads, flags, binds, consts, stack, unres_at}
 use Rattle.words_scopes.proofs.Split as laws
-use Rattle.words_scopes.proofs.Index as index
 use Rattle.words_scopes.proofs.Grow.{some-head}
-use Rattle.scope_values.proofs.Count.{length-binds, depth_is}
-use Rattle.scope_values.proofs.Listed.{bind-there}
-use Rattle.std.specs.Bool.{then_some}
-use Rattle.std.proofs.Common.{leb, leb-true, leb-false, None}
-use Rattle.scope_redeclare.specs.Own.{Own, OwnAt}
+use Rattle.scope_values.proofs.Count.{depth_is}
 
 -- a binding put into the innermost scope
 abbrev pub put_top : VarInfo → Stack → Stack
@@ -69,57 +62,3 @@ module _ (w : List ℕ) (g : Good w) (z : 0 < get_or w 2 0) where
   pub unres-at : (x : ℕ) → x < 256 → unres_top (stack w) x ≡ yes (flag_at w (7312 + d * 8) x)
   unfolding unres_at
   unres-at x h = rw stack_top (ap yes (get_d-tab 256 (λ j. flag_at w (7312 + d * 8) j) x 0 h))
-
-  at : (j : ℕ) → a + j < get_or w 1 0 → get_or (drop a (binds w)) j laws.no_bind ≡ bind_at w (a + j)
-  at j h = get_or-drop a (binds w) j laws.no_bind ∙ bind-there w (a + j) h laws.no_bind
-
-  len : length (drop a (binds w)) ≡ get_or w 1 0 - a
-  len = length-drop a (binds w) ∙ ap (λ (n : ℕ). n - a) (length-binds w g)
-
-  -- by the place of the innermost binding: it is the innermost scope's own, if it stands behind its beginning
-  module _ (x p : ℕ) (e : p ≡ place x (heads w) (binds w)) where
-    is : p ≡ place x (head_at w d ∷ heads_at w d) (binds w)
-    is = e ∙ ap (λ (hs : List Head). place x hs (binds w)) heads-top
-
-    module _ (l : a < p) where
-      abbrev i : ℕ
-      i = index_in x (drop a (binds w))
-
-      has : has_in x (drop a (binds w)) ≡ true
-      has = index.place_here_lem x (head_at w d) (heads_at w d) (binds w) (omega (arith, is))
-
-      there : p ≡ suc (a + i)
-      there = is ∙ laws.place-yes x (head_at w d) (heads_at w d) (binds w) has
-
-      within : a + i < get_or w 1 0
-      within = omega (arith, laws.index-lt x (drop a (binds w)) has, len)
-
-      name : get_or w (4112 + (p - 1) * 10) 0 ≡ x
-      name = ap (λ (b : VarInfo). b.id) (sym (bind-there w (p - 1) (omega (arith, there, within)) laws.no_bind)) ∙ ap (λ (n : ℕ). (get_or (binds w) (n - 1) laws.no_bind).id) is ∙ index.place-id x (head_at w d) (heads_at w d) (binds w) (omega (arith, is))
-
-      -- by its place from 0
-      pub own-there : (k : ℕ) → suc k ≡ p → OwnAt w x k
-      own-there k q =
-          let s : a + i ≡ k = omega (arith, there) in
-          let n : p - 1 ≡ k = omega arith in
-          record {
-            below = omega (arith, there, within);
-            place = sym (q ∙ e);
-            named = rw n at name;
-            found = rw stack_top (laws.in-found x (drop a (binds w)) has ∙ ap some (at i within ∙ ap (λ (n : ℕ). bind_at w n) s));
-          }
-
-    pub own-absent : p ≤ a → is_some (find_binding_from_current x (stack w)) ≡ false
-    own-absent l = rw stack_top (index.place-above x (head_at w d) (heads_at w d) (binds w) (omega (arith, is)))
-
-  -- the innermost binding of x is binding k, or x has none
-  module _ (x : ℕ) where
-    pub own-test : (k : ℕ) → suc k ≡ place x (heads w) (binds w) → Own w x (then_some (leb a k) k)
-    own-test k e = go (leb a k) refl
-      where
-        go : (p : Bool) → leb a k ≡ p → Own w x (then_some p k)
-        go true t = own-there x (suc k) e (omega (arith, leb-true a k t)) k refl
-        go false t = own-absent x (suc k) e (omega (arith, leb-false a k t))
-
-    pub own-none : 0 ≡ place x (heads w) (binds w) → Own w x None
-    own-none e = own-absent x 0 e (omega arith)

@@ -1,20 +1,19 @@
-// Bindings over the working words: the innermost scope's own, and one overwritten in place.
+// Bindings over the working words: one overwritten in place. `prevented` and `undefined` are two bools, as the definition's `redeclare` has them.
 #![tactic(auto)]
 
 ghost use Rattle.std.specs.Prelude.{◌≡◌, ◌+◌, ◌*◌, ◌-◌, ◌≤◌, ◌<◌, get_or, set};
 ghost use Rattle.def_pass.specs.Scope.{redeclare};
-ghost use Rattle.words_scopes.specs.State.{Good, Past, binds, consts, bind_at, with_count};
+ghost use Rattle.words_scopes.specs.State.{HasBinding, Past, binds, consts, bind_at, with_count};
 ghost use Rattle.scope_values.specs.Steps.{Listed, Grown, Offered, run_value, refill, put_at};
-ghost use Rattle.scope_redeclare.specs.Own.{Own};
 
 use refusal::Refusal;
 use scope_values::{room_for, set_run};
 use words::{Run, layout, put};
-use words_scopes::{Record, find_binding, record_at};
+use words_scopes::{Record, record_at};
 
 // Overwrites the words of binding k but its name, its value and its count.
 pub fn rewrite(w: &mut [u32], k: usize, r: Record)
-    requires { (Good w.old) × (k < get_or w.old 1 0) }
+    requires { HasBinding w.old k }
     ensures { (Listed w.old w.new (set (binds w.old) k (refill r (bind_at w.old k))) (consts w.old)) × (Past (k + 1) w.old w.new) }
 {
     put(w, layout::BINDINGS + k * 10 + layout::KIND, r.words());
@@ -22,26 +21,15 @@ pub fn rewrite(w: &mut [u32], k: usize, r: Record)
 
 // Overwrites the count of binding k.
 pub fn set_count(w: &mut [u32], k: usize, count: u32)
-    requires { (Good w.old) × (k < get_or w.old 1 0) }
+    requires { HasBinding w.old k }
     ensures { (Listed w.old w.new (set (binds w.old) k (with_count count (bind_at w.old k))) (consts w.old)) × (Past (k + 1) w.old w.new) }
 {
     w[layout::COUNTS + k] = count;
 }
 
-// The binding of x in the innermost scope, by its place among all.
-pub fn own_binding(w: &[u32], x: u8) -> Option<usize>
-    requires { (Good w.now) × (0 < get_or w.now 2 0) }
-    ensures { Own w.now x result }
-{
-    let d = w[layout::SCOPE_COUNT] as usize - 1;
-    let a = w[layout::SCOPES + d * 4 + layout::FIRST_BINDING] as usize;
-    let k = find_binding(w, x)?;
-    (a <= k).then_some(k)
-}
-
 // Binding k is declared again, with its value as it is.
 pub fn redeclare_seen(w: &mut [u32], k: usize, prevented: bool, undefined: bool)
-    requires { (Good w.old) × (k < get_or w.old 1 0) }
+    requires { HasBinding w.old k }
     ensures { Listed w.old w.new (set (binds w.old) k (redeclare prevented undefined (bind_at w.old k).value (bind_at w.old k))) (consts w.old) }
 {
     let r = record_at(w, k);
@@ -62,7 +50,7 @@ pub fn redeclare_as(
     prevented: bool,
     undefined: bool,
 ) -> Result<(), Refusal>
-    requires { (Good w.old) × (k < get_or w.old 1 0) × (Offered w.old r) }
+    requires { (HasBinding w.old k) × (Offered w.old r) }
     ensures { Grown w.old w.new (put_at w.old k (redeclare prevented undefined (run_value w.old r) (bind_at w.old k))) result }
 {
     let old = w[layout::BINDINGS + k * 10 + layout::LENGTH] as usize;

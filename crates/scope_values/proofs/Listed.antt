@@ -14,14 +14,16 @@ use Rattle.def_pass.specs.Tree.{count_o}
 use Rattle.def_pass.specs.Scope.{VarInfo, Stack, change, with_value, recorded_nodes, live}
 use Rattle.words.specs.Tab.{tab, tab-ext, tab-zero, length-tab, get_d-tab, set-tab, same_or_not, sum-part}
 use Rattle.words.specs.Layout.{yes, run, core_from, node_of, tree}
-use Rattle.words.proofs.Nodes.{run_length, tree-length, tree-at}
-use Rattle.words_scopes.specs.State.{Good, Past, Others, Becomes, split, heads, flags, binds, consts, stack, bind_at, len_at, off, coff, run_at, value_of, run_of, var_type_of, alias_at, place}
+use Rattle.words.proofs.Nodes.{run_length, tree-length, tree-at, beyond-same}
+use Rattle.words_scopes.specs.State.{Good, HasBinding, Past, Others, Becomes, split, heads, flags, binds, consts, stack, bind_at, len_at, off, coff, run_at, value_of, run_of, var_type_of, alias_at, place}
 use Rattle.words_scopes.proofs.Split as laws
-use Rattle.words_scopes.proofs.Words.{Kept, kept-heads, kept-flags, kept-consts, kept-tree, kept-good, bind-eq}
+use Rattle.words_scopes.proofs.Words.{Kept, kept-heads, kept-flags, kept-consts, kept-tree, kept-good, bind-eq, words-bind}
 use Rattle.words.specs.declared.Run.{Run}
-use Rattle.scope_values.specs.Steps.{Listed, Still, Spliced, over, put_at, Grown, Offered, run_value}
+use Rattle.words.specs.declared.layout.Table.{Table}
+use Rattle.scope_values.specs.Steps.{Listed, Still, Refilled, len_in, run_in, over, put_at, Grown, Offered, run_value}
 use Rattle.scope_values.proofs.Count.{depth_is, count-whole, nodes_b, total-set, recorded-split, live-split, recorded-is, live-is, total-binds, total-consts, length-binds, length-consts, fits-binds, fits-consts, nodes-bind}
 use Rattle.scope_values.proofs.Store as store
+use Rattle.scope_values.proofs.Store.{refilled-sum}
 use Rattle.refusal.specs.declared.Refusal.{Refusal}
 use Rattle.std.proofs.Common.{Result, Ok, Err}
 
@@ -119,17 +121,17 @@ room r l e = let n = neither (ltb 512 r) (ltb 256 l) e in (ltb-false 512 r n.0, 
 pub count-tree : (w : List ℕ) (i m : ℕ) → run_of (value_of (run w 16 i m)) ≡ run w 16 i m → count_o (value_of (run w 16 i m)) ≡ m
 count-tree w i m q = count-whole (run w 16 i m) q ∙ run_length w 16 i m
 
--- a run of the tree in place of the value of binding k: what `passes` and `set_run` ask, and what `passes` tells
+-- a run of the tree in place of the value of binding k: what `room_for` and `set_run` ask, and what `room_for` tells
 module _ (w : List ℕ) (g : Good w) (k : ℕ) (h : k < get_or w 1 0) (r : Run) (o : Offered w r) where
-  pub passes-asks : Good w × (len_at w k ≤ recorded_nodes (stack w)) × (r.len ≤ 1024) × (0 ≤ 1)
-  passes-asks = let part = sum-part (λ j. len_at w j) k (get_or w 1 0) h in (g, omega (arith, recorded-is w g), omega (arith, g.nodes, o.inside), omega arith)
+  pub room-asks : Good w × (len_at w k ≤ recorded_nodes (stack w)) × (r.len ≤ 1024) × (0 ≤ 1)
+  room-asks = let part = sum-part (λ j. len_at w j) k (get_or w 1 0) h in (g, omega (arith, recorded-is w g), omega (arith, g.nodes, o.inside), omega arith)
 
   pub set-asks : (p : Bool) → p ≡ (ltb 512 (recorded_nodes (stack w) - len_at w k + r.len) || ltb 256 (live (stack w) + 0)) → p ≡ false
-      → Good w × (k < get_or w 1 0) × Offered w r × (r.len + (off w (get_or w 1 0) + coff w (get_or w 3 0)) ≤ 512 + len_at w k)
+      → HasBinding w k × Offered w r × (r.len + (off w (get_or w 1 0) + coff w (get_or w 3 0)) ≤ 512 + len_at w k)
   set-asks p is e =
-      let part = passes-asks.1 in
+      let part = room-asks.1 in
       let l = room (recorded_nodes (stack w) - len_at w k + r.len) (live (stack w) + 0) (sym is ∙ e) in
-      (g, h, o, omega (arith, l.0, recorded-is w g))
+      ((g, h), o, omega (arith, l.0, recorded-is w g))
 
   pub over-run : over (put_at w k (with_value (run_value w r) (bind_at w k))) ≡ (ltb 512 (recorded_nodes (stack w) - len_at w k + r.len) || ltb 256 (live (stack w) + 0))
   over-run = over-put w k h g (with_value (run_value w r) (bind_at w k)) ∙ ap (λ (n : ℕ). ltb 512 (recorded_nodes (stack w) - len_at w k + n) || ltb 256 (live (stack w) + 0)) (count-tree w r.at r.len o.one)
@@ -149,72 +151,60 @@ good-under w g = rw (le-ltb 512 (recorded_nodes (stack w)) (omega (arith, record
 pub done-under : {w w' : List ℕ} {st : Stack} → Becomes w w' st → Grown w w' st (Ok tt)
 done-under {w} {w'} b = (b, sym (ap over b.is) ∙ good-under w' b.good)
 
--- the value of binding k becomes the m nodes of the tree from node i on
-module _ (w v : List ℕ) (g : Good w) (k i m : ℕ) (h : k < get_or w 1 0) (hi : i + m ≤ get_or w 0 0) (hm : m + (off w (get_or w 1 0) + coff w (get_or w 3 0)) ≤ 512 + len_at w k)
-    (s : Spliced w v 2064 (off w k) (len_at w k) (off w (get_or w 1 0)) i m) where
-  abbrev len : ℕ → ℕ
-  len j = 4112 + j * 10 + 8
+-- the bindings' values, as a store
+abbrev pub lengths : Table
+lengths = record { base = 4120; stride = 10 }
 
-  abbrev w' : List ℕ
-  w' = set v (4112 + k * 10 + 8) m
+pub len-bind : (w : List ℕ) (k : ℕ) → len_in w lengths k ≡ len_at w k
+len-bind w k = ap (λ (j : ℕ). get_or w j 0) (omega arith)
 
-  above : (j : ℕ) → 4112 ≤ len j
-  above j = omega arith
+run-bind : (w : List ℕ) (k : ℕ) → run_in w 2064 lengths k ≡ run_at w k
+run-bind w k = rw (words-bind w k, len-bind w k) refl
 
-  alone : (a b : ℕ) → len a ≡ len b → a ≡ b
-  alone a b e = omega arith
-
-  within : len k < 16384
-  within = omega (arith, g.count)
-
-  tree-long : i + m ≤ 1024
-  tree-long = omega (arith, g.nodes)
-
-  own : m + off w (get_or w 1 0) ≤ 512 + len_at w k
-  own = omega arith
-
+-- the value of binding k becomes a run of the tree's nodes
+module _ {w w' : List ℕ} (g : Good w) (k : ℕ) (h : k < get_or w 1 0) (r : Run) (o : Offered w r) (hm : r.len + (off w (get_or w 1 0) + coff w (get_or w 3 0)) ≤ 512 + len_at w k) (s : Refilled w w' 2064 lengths k (get_or w 1 0) r) where
   out : (j : ℕ) → (j < 2064) ⊎ (3088 ≤ j) → (j ≡ 4112 + k * 10 + 8 → ⊥) → get_or w' j 0 ≡ get_or w j 0
-  out = store.out 2064 len (omega arith) (omega arith) above alone w v (get_or w 1 0) k i m h within g.long tree-long g.vals own s
+  out j l d = s.out j l (λ e. d (omega arith))
 
   aside : (j f : ℕ) → f < 10 → (f ≡ 8 → ⊥) → get_or w' (4112 + j * 10 + f) 0 ≡ get_or w (4112 + j * 10 + f) 0
   aside j f l d = out (4112 + j * 10 + f) (inr (omega arith)) (λ e. omega arith)
 
   value-kept : Kept w w'
   value-kept = let l = g.count in record {
-    size = store.size 2064 len (omega arith) (omega arith) above alone w v (get_or w 1 0) k i m h within g.long tree-long g.vals own s;
+    size = s.size;
     counts = λ j a b. out j (inl (omega arith)) (λ e. omega arith);
     nodes = λ j a b. out j (inl (omega arith)) (λ e. omega arith);
     cstore = λ j a b. out j (inr (omega arith)) (λ e. omega arith);
     tail = λ j a b. out j (inr (omega arith)) (λ e. omega arith);
     high = λ j a b. out j (inr (omega arith)) (λ e. omega arith);
     flag = λ j a. aside j 9 (omega arith) (λ e. omega arith);
-    rest = store.stored-rest 2064 len (omega arith) (omega arith) above alone w v (get_or w 1 0) k i m h within g.long tree-long g.vals own s;
+    rest = beyond-same w w' s.size (λ j a. out j (inr (omega arith)) (λ e. omega arith));
   }
 
-  run-this : run_at w' k ≡ run w 16 i m
-  run-this = store.run-this 2064 len (omega arith) (omega arith) above alone w v (get_or w 1 0) k i m h within g.long tree-long g.vals own s
+  run-this : run_at w' k ≡ run w 16 r.at r.len
+  run-this = sym (run-bind w' k) ∙ s.this
 
   run-other : (j : ℕ) → j < get_or w 1 0 → (j ≡ k → ⊥) → run_at w' j ≡ run_at w j
-  run-other = store.run-other 2064 len (omega arith) (omega arith) above alone w v (get_or w 1 0) k i m h within g.long tree-long g.vals own s
+  run-other j l d = sym (run-bind w' j) ∙ s.other j l d ∙ run-bind w j
 
   named : (j : ℕ) → get_or w' (4112 + j * 10) 0 ≡ get_or w (4112 + j * 10) 0
   named j = out (4112 + j * 10) (inr (omega arith)) (λ e. omega arith)
 
   bind-with : (j : ℕ) (t : List Core) → run_at w' j ≡ t → bind_at w' j ≡ with_value (value_of t) (bind_at w j)
-  bind-with j t r =
+  bind-with j t e =
       bind-eq (named j) (ap var_type_of (aside j 1 (omega arith) (λ e. omega arith))) (ap alias_at (aside j 2 (omega arith) (λ e. omega arith))) (aside j 3 (omega arith) (λ e. omega arith))
-      (ap yes (aside j 4 (omega arith) (λ e. omega arith))) (ap yes (aside j 5 (omega arith) (λ e. omega arith))) (ap value_of r) (ap yes (aside j 6 (omega arith) (λ e. omega arith))) (ap yes (aside j 7 (omega arith) (λ e. omega arith))) (out (8080 + j) (inr (omega arith)) (λ e. omega (arith, g.count)))
+      (ap yes (aside j 4 (omega arith) (λ e. omega arith))) (ap yes (aside j 5 (omega arith) (λ e. omega arith))) (ap value_of e) (ap yes (aside j 6 (omega arith) (λ e. omega arith))) (ap yes (aside j 7 (omega arith) (λ e. omega arith))) (out (8080 + j) (inr (omega arith)) (λ e. omega (arith, g.count)))
 
-  value-good : run_of (value_of (run w 16 i m)) ≡ run w 16 i m → Good w'
-  value-good q =
-      kept-good g value-kept (omega (arith, store.vals-after 2064 len (omega arith) (omega arith) above alone w v (get_or w 1 0) k i m h within g.long tree-long g.vals own s)) (λ j l. named j)
-      (λ j l. ⊎_elim (λ (e : j ≡ k). rw (e, run-this) (record { one = q; names = store.run-names w i m g.names hi })) (λ (d : j ≡ k → ⊥). rw (run-other j l d) (g.whole j l)) (same_or_not j k))
+  value-good : Good w'
+  value-good =
+      kept-good g value-kept (omega (arith, refilled-sum s h, len-bind w k, words-bind w (get_or w 1 0), words-bind w' (get_or w 1 0))) (λ j l. named j)
+      (λ j l. ⊎_elim (λ (e : j ≡ k). rw (e, run-this) (record { one = o.one; names = store.run-names w r.at r.len g.names o.inside })) (λ (d : j ≡ k → ⊥). rw (run-other j l d) (g.whole j l)) (same_or_not j k))
 
-  pub valued : run_of (value_of (run w 16 i m)) ≡ run w 16 i m → Listed w w' (set (binds w) k (with_value (value_of (run w 16 i m)) (bind_at w k))) (consts w)
-  valued q = kept-listed g value-kept (value-good q) (set-binds w k h w' (with_value (value_of (run w 16 i m)) (bind_at w k)) (value-kept.counts 1 (omega arith) (omega arith)) (bind-with k (run w 16 i m) run-this) (λ j l d. bind-with j (run_at w j) (run-other j l d)))
-
-  pub valued_past : Past (k + 1) w w'
-  valued_past = (λ j a b. out j (inr (omega arith)) (λ e. omega arith), λ j a b. out j (inr (omega arith)) (λ e. omega (arith, g.count)))
+  pub valued : Listed w w' (set (binds w) k (with_value (run_value w r) (bind_at w k))) (consts w) × Past (k + 1) w w'
+  valued = (
+    kept-listed g value-kept value-good (set-binds w k h w' (with_value (run_value w r) (bind_at w k)) (value-kept.counts 1 (omega arith) (omega arith)) (bind-with k (run w 16 r.at r.len) run-this) (λ j l d. bind-with j (run_at w j) (run-other j l d))),
+    (λ j a b. out j (inr (omega arith)) (λ e. omega arith), λ j a b. out j (inr (omega arith)) (λ e. omega (arith, g.count))),
+  )
 
 -- the same tree: its nodes, and a run of them
 pub same_nodes : (w w' : List ℕ) → tree w' ≡ tree w → get_or w' 0 0 ≡ get_or w 0 0

@@ -1,20 +1,20 @@
--- A value overwritten in a store of values: of the bindings or of the constants. Assumes nothing.
+-- A value overwritten in a store of values. Assumes nothing.
 use mathlib.Core.Path.{◌≡◌, sym, ap, ◌∙◌}
 use mathlib.Core.List.{List}
-use mathlib.Core.Logic.{◌⊎◌, inr, ⊎_elim}
-use Prim.Native.Nat.{ℕ, ◌+◌, ◌-◌, ◌*◌, ◌≤◌, ◌<◌}
-use native.Mathlib.Nat.{mul-le-mul}
+use mathlib.Core.Logic.{⊎_elim}
+use Prim.Native.Nat.{ℕ, ◌+◌, ◌-◌, ◌*◌, ◌/◌, ◌≤◌, ◌<◌}
+use native.Mathlib.Nat.{mul-le-mul, mul-div_cancel}
 use native.Mathlib.Omega.{arith}
 use lib.ListN.{length, get_or, set, length-set}
 use lib.Seq.{get_or-set_same, get_or-set_other}
-use Rattle.def_tree.specs.Tree.{Core}
-use Rattle.words.specs.Tab.{sum, below_or_not, sum-ext, sum-part, sum_one}
+use Rattle.words.specs.Tab.{sum, below_or_not, sum-ext, sum-part, sum_one, sum-next, sum-zero}
 use Rattle.words.specs.Layout.{run, tree}
 use Rattle.words.specs.Moved.{Moved}
-use Rattle.words.proofs.Nodes.{run_moved, run-at, run_out, tree-at, beyond-same}
-use Rattle.words.specs.Layout.{beyond}
+use Rattle.words.specs.declared.Run.{Run}
+use Rattle.words.specs.declared.layout.Table.{Table}
+use Rattle.words.proofs.Nodes.{run_length, run_moved, run-at, run_out, tree-at}
 use Rattle.words_scopes.specs.State.{Names}
-use Rattle.scope_values.specs.Steps.{Spliced}
+use Rattle.scope_values.specs.Steps.{IsStore, Spliced, Refilled, len_in, off_in, run_in}
 
 -- two shifts
 pub spliced : {w u v : List ℕ} (base at old end i m : ℕ) → 2064 ≤ base → i + m ≤ 1024 → at + old ≤ end → end ≤ 512 → m + end ≤ 512 + old
@@ -34,79 +34,82 @@ run-names w i m t h j = ⊎_elim
     (λ (l : m ≤ j). rw (run_out w 16 i m j l) (λ e. omega arith))
     (below_or_not j m)
 
--- the store begins at base, and the length of value k is word `len k`
-module _ (base : ℕ) (len : ℕ → ℕ) where
-  abbrev offs : List ℕ → ℕ → ℕ
-  offs w k = sum (λ j. get_or w (len j) 0) k
-
-  abbrev runs : List ℕ → ℕ → List Core
-  runs w k = run w base (offs w k) (get_or w (len k) 0)
-
-  module _ (lo : 2064 ≤ base) (hi : base ≤ 3088) (above : (j : ℕ) → 4112 ≤ len j) (alone : (j k : ℕ) → len j ≡ len k → j ≡ k)
-      (w v : List ℕ) (n k i m : ℕ) (h : k < n) (small : len k < 16384) (long : 16384 ≤ length w) (tree : i + m ≤ 1024) (vals : offs w n ≤ 512) (room : m + offs w n ≤ 512 + get_or w (len k) 0)
-      (s : Spliced w v base (offs w k) (get_or w (len k) 0) (offs w n) i m) where
-    abbrev w' : List ℕ
-    w' = set v (len k) m
-
-    part : offs w k + get_or w (len k) 0 ≤ offs w n
-    part = sum-part (λ j. get_or w (len j) 0) k n h
-
-    -- a word outside the store, but the length
-    pub out : (j : ℕ) → (j < base) ⊎ (base + 1024 ≤ j) → (j ≡ len k → ⊥) → get_or w' j 0 ≡ get_or w j 0
-    out j o d = get_or-set_other v (len k) j m 0 d ∙ ⊎_elim (λ (l : j < base). s.low j (omega arith)) (λ (l : base + 1024 ≤ j). s.high j l) o
-
-    pub size : length w' ≡ length w
-    size = simp length-set s.size
-
-    len-this : get_or w' (len k) 0 ≡ m
-    len-this = get_or-set_same v (len k) m 0 (omega (arith, s.size))
-
-    len-other : (j : ℕ) → (j ≡ k → ⊥) → get_or w' (len j) 0 ≡ get_or w (len j) 0
-    len-other j d = out (len j) (inr (omega (arith, above j))) (λ e. d (alone j k e))
-
-    off-low : (j : ℕ) → j ≤ k → offs w' j ≡ offs w j
-    off-low j l = sum-ext (λ q. get_or w' (len q) 0) (λ q. get_or w (len q) 0) j (λ q a. len-other q (λ e. omega arith))
-
-    off-high : (j : ℕ) → k < j → offs w' j + get_or w (len k) 0 ≡ offs w j + m
-    off-high j l = sum_one (λ q. get_or w' (len q) 0) (λ q. get_or w (len q) 0) k j l (λ q a d. len-other q d) ∙ ap (λ (q : ℕ). offs w j + q) len-this
-
-    pub vals-after : offs w' n + get_or w (len k) 0 ≡ offs w n + m
-    vals-after = off-high n h
-
-    store : (j : ℕ) → j < 4112 → get_or w' j 0 ≡ get_or v j 0
-    store j l = get_or-set_other v (len k) j m 0 (λ e. omega (arith, above k))
-
-    pub run-this : runs w' k ≡ run w 16 i m
-    run-this =
-        let p = part in
-        rw (len-this, off-low k (omega arith)) (run_moved w w' 16 i base (offs w k) m (λ q l. store (base + offs w k * 2 + q) (omega arith) ∙ s.here q l))
-
-    run-low : (j : ℕ) → j < k → runs w' j ≡ runs w j
-    run-low j l =
-        let p = part in
-        let t = sum-part (λ q. get_or w (len q) 0) j k l in
-        rw (len-other j (λ e. omega arith), off-low j (omega arith)) (run_moved w w' base (offs w j) base (offs w j) (get_or w (len j) 0)
-        (λ q a. store (base + offs w j * 2 + q) (omega arith) ∙ s.low (base + offs w j * 2 + q) (omega arith)))
-
-    run-high : (j : ℕ) → k < j → j < n → runs w' j ≡ runs w j
-    run-high j l r =
-        let p = part in
-        let t = sum-part (λ q. get_or w (len q) 0) k j l in
-        let u = sum-part (λ q. get_or w (len q) 0) j n r in
-        let o = off-high j l in
-        rw (len-other j (λ e. omega arith)) (run_moved w w' base (offs w j) base (offs w' j) (get_or w (len j) 0)
-        (λ q a.
-        let d : ℕ = (offs w j - offs w k - get_or w (len k) 0) * 2 + q in
-        let e1 : base + offs w' j * 2 + q ≡ base + (offs w k + m) * 2 + d = omega arith in
-        let e2 : base + offs w j * 2 + q ≡ base + (offs w k + get_or w (len k) 0) * 2 + d = omega arith in
-        store (base + offs w' j * 2 + q) (omega arith) ∙ rw (e1, e2) (s.behind d (omega arith))))
-
-    pub run-other : (j : ℕ) → j < n → (j ≡ k → ⊥) → runs w' j ≡ runs w j
-    run-other j l d = ⊎_elim (λ (q : j < k). run-low j q) (λ (q : k ≤ j). run-high j (omega arith) l) (below_or_not j k)
-
-    pub stored-rest : beyond w' ≡ beyond w
-    stored-rest = beyond-same w w' size (λ j a. out j (inr (omega arith)) (λ e. omega arith))
-
 -- a word of a table of at most 256 records of at most 10 words
 pub stride : (k s : ℕ) → k < 256 → s ≤ 10 → k * s ≤ 2560
 stride k s h l = let p : k ≤ 256 = omega arith in mul-le-mul p l
+
+-- a sum by its parts
+pub ruleset sums = (sum-next, sum-zero)
+
+-- value k of n becomes the run r: spliced, and its length is stored
+module _ {w v : List ℕ} {base : ℕ} {t : Table} (is : IsStore base t) (k n : ℕ) (r : Run) (h : k < n) (small : k * t.stride ≤ 2560) (long : 16384 ≤ length w)
+    (tree : r.at + r.len ≤ 1024) (vals : off_in w t n ≤ 512) (room : r.len + off_in w t n ≤ 512 + len_in w t k)
+    (s : Spliced w v base (off_in w t k) (len_in w t k) (off_in w t n) r.at r.len) where
+  all : off_in w t k + len_in w t k ≤ off_in w t n
+  all = sum-part (λ j. len_in w t j) k n h
+
+  abbrev len : ℕ → ℕ
+  len j = t.base + j * t.stride
+
+  abbrev w' : List ℕ
+  w' = set v (len k) r.len
+
+  alone : (j : ℕ) → len j ≡ len k → j ≡ k
+  alone j e = let p : j * t.stride ≡ k * t.stride = omega arith in sym (mul-div_cancel j is.4) ∙ ap (λ (m : ℕ). m / t.stride) p ∙ mul-div_cancel k is.4
+
+  low : (j : ℕ) → j < base + off_in w t k * 2 → get_or w' j 0 ≡ get_or w j 0
+  low j l = get_or-set_other v (len k) j r.len 0 (λ e. omega (arith, all)) ∙ s.low j l
+
+  high : (j : ℕ) → base + 1024 ≤ j → (j ≡ len k → ⊥) → get_or w' j 0 ≡ get_or w j 0
+  high j l d = get_or-set_other v (len k) j r.len 0 d ∙ s.high j l
+
+  len-this : len_in w' t k ≡ r.len
+  len-this = get_or-set_same v (len k) r.len 0 (omega (arith, s.size))
+
+  len-other : (j : ℕ) → (j ≡ k → ⊥) → len_in w' t j ≡ len_in w t j
+  len-other j d = high (len j) (omega arith) (λ e. d (alone j e))
+
+  off-low : (j : ℕ) → j ≤ k → off_in w' t j ≡ off_in w t j
+  off-low j l = sum-ext (λ q. len_in w' t q) (λ q. len_in w t q) j (λ q a. len-other q (λ e. omega arith))
+
+  off-high : (j : ℕ) → k < j → off_in w' t j + len_in w t k ≡ off_in w t j + r.len
+  off-high j l = sum_one (λ q. len_in w' t q) (λ q. len_in w t q) k j l (λ q a d. len-other q d) ∙ ap (λ (q : ℕ). off_in w t j + q) len-this
+
+  run-this : run_in w' base t k ≡ run w 16 r.at r.len
+  run-this = rw (len-this, off-low k (omega arith)) (run_moved w w' 16 r.at base (off_in w t k) r.len
+      (λ q l. get_or-set_other v (len k) (base + off_in w t k * 2 + q) r.len 0 (λ e. omega (arith, all)) ∙ s.here q l))
+
+  run-low : (j : ℕ) → j < k → run_in w' base t j ≡ run_in w base t j
+  run-low j l =
+      let a = sum-part (λ q. len_in w t q) j k l in
+      rw (len-other j (λ e. omega arith), off-low j (omega arith)) (run_moved w w' base (off_in w t j) base (off_in w t j) (len_in w t j) (λ q m. low (base + off_in w t j * 2 + q) (omega arith)))
+
+  run-high : (j : ℕ) → k < j → j < n → run_in w' base t j ≡ run_in w base t j
+  run-high j l g =
+      let a = sum-part (λ q. len_in w t q) k j l in
+      let b = sum-part (λ q. len_in w t q) j n g in
+      let o = off-high j l in
+      rw (len-other j (λ e. omega arith)) (run_moved w w' base (off_in w t j) base (off_in w' t j) (len_in w t j)
+      (λ q m.
+      let d : ℕ = (off_in w t j - off_in w t k - len_in w t k) * 2 + q in
+      let e1 : base + off_in w' t j * 2 + q ≡ base + (off_in w t k + r.len) * 2 + d = omega arith in
+      let e2 : base + off_in w t j * 2 + q ≡ base + (off_in w t k + len_in w t k) * 2 + d = omega arith in
+      rw (e1, e2) (get_or-set_other v (len k) (base + (off_in w t k + r.len) * 2 + d) r.len 0 (λ e. omega arith) ∙ s.behind d (omega arith))))
+
+  pub refilled : Refilled w w' base t k n r
+  refilled = record {
+    size = simp length-set s.size;
+    this = run-this;
+    other = λ j l d. ⊎_elim (λ (q : j < k). run-low j q) (λ (q : k ≤ j). run-high j (omega arith) l) (below_or_not j k);
+    out = λ j o d. ⊎_elim (λ (l : j < base). low j (omega arith)) (λ (l : base + 1024 ≤ j). high j l d) o;
+  }
+
+-- the nodes of all its values
+module _ {w w' : List ℕ} {base : ℕ} {t : Table} {k n : ℕ} {r : Run} (s : Refilled w w' base t k n r) where
+  long : (xs : List ℕ) (j : ℕ) → length (run_in xs base t j) ≡ len_in xs t j
+  long xs j = run_length xs base (off_in xs t j) (len_in xs t j)
+
+  pub refilled-sum : k < n → off_in w' t n + len_in w t k ≡ off_in w t n + r.len
+  refilled-sum h =
+      sum_one (λ j. len_in w' t j) (λ j. len_in w t j) k n h (λ j l d. sym (long w' j) ∙ ap length (s.other j l d) ∙ long w j)
+      ∙ ap (λ (m : ℕ). off_in w t n + m) (sym (long w' k) ∙ ap length s.this ∙ run_length w 16 r.at r.len)

@@ -1,12 +1,14 @@
 -- What a step on the records does, and what a step that may pass a limit answers. Assumes nothing: these are definitions.
-use Rattle.std.specs.Prelude.{◌≡◌, List, Bool, true, false, Result, Ok, Err, ◌||◌, ℕ, ◌+◌, ◌-◌, ◌*◌, ◌≤◌, ◌<◌, length, get_or, set, ltb}
+use Rattle.std.specs.Prelude.{◌≡◌, ◌⊎◌, List, Bool, true, false, Result, Ok, Err, ◌||◌, ℕ, ◌+◌, ◌-◌, ◌*◌, ◌≤◌, ◌<◌, length, get_or, set, ltb}
 use Rattle.std.proofs.Math.Option.{Option}
-use Rattle.def_tree.specs.Tree.{Tree}
+use Rattle.def_tree.specs.Tree.{Tree, Core}
 use Rattle.def_pass.specs.Scope.{VarInfo, Stack, recorded_nodes, live}
 use Rattle.words.specs.Layout.{run, tree, beyond}
+use Rattle.words.specs.Tab.{sum}
 use Rattle.words_scopes.specs.State.{split, heads, flags, binds, consts, value_of, run_of, Good, Others, Becomes}
 use Rattle.words_scopes.specs.Kinds.{type_of, alias_of}
 use Rattle.words.specs.declared.Run.{Run}
+use Rattle.words.specs.declared.layout.Table.{Table}
 use Rattle.words_scopes.specs.declared.Record.{Record}
 use Rattle.refusal.specs.declared.Refusal.{Refusal}
 use Rattle.refusal.specs.declared.Refusal.TheVariants.{Room}
@@ -18,6 +20,26 @@ pub record Spliced (w w' : List ℕ) (base at old end i m : ℕ) : Type 0 where
   pub behind : (j : ℕ) → j < (end - at - old) * 2 → get_or w' (base + (at + m) * 2 + j) 0 ≡ get_or w (base + (at + old) * 2 + j) 0
   pub low : (j : ℕ) → j < base + at * 2 → get_or w' j 0 ≡ get_or w j 0
   pub high : (j : ℕ) → base + 1024 ≤ j → get_or w' j 0 ≡ get_or w j 0
+
+-- a store of values: their nodes stand from `base` on with no gap, and their lengths are the words of a table
+abbrev pub IsStore : ℕ → Table → Type 0
+IsStore base t = (2064 ≤ base) × (base ≤ 3088) × (4112 ≤ t.base) × (t.base ≤ 8192) × (0 < t.stride) × (t.stride ≤ 10)
+
+abbrev pub len_in : List ℕ → Table → ℕ → ℕ
+len_in w t k = get_or w (t.base + k * t.stride) 0
+
+abbrev pub off_in : List ℕ → Table → ℕ → ℕ
+off_in w t k = sum (λ j. len_in w t j) k
+
+abbrev pub run_in : List ℕ → ℕ → Table → ℕ → List Core
+run_in w base t k = run w base (off_in w t k) (len_in w t k)
+
+-- value k of n became a run of the tree's nodes, and the others are as they were; so is each word outside the store, but for the length
+pub record Refilled (w w' : List ℕ) (base : ℕ) (t : Table) (k n : ℕ) (r : Run) : Type 0 where
+  pub size : length w' ≡ length w
+  pub this : run_in w' base t k ≡ run w 16 r.at r.len
+  pub other : (j : ℕ) → j < n → (j ≡ k → ⊥) → run_in w' base t j ≡ run_in w base t j
+  pub out : (j : ℕ) → (j < base) ⊎ (base + 1024 ≤ j) → (j ≡ t.base + k * t.stride → ⊥) → get_or w' j 0 ≡ get_or w j 0
 
 -- w became w', with the same scopes: the bindings of all are bs, the constants cs
 pub record Listed (w w' : List ℕ) (bs : List VarInfo) (cs : List (ℕ × Option Tree)) : Type 0 where

@@ -1,16 +1,17 @@
-// Records over the working words: what row 9 counts, and values.
+// Records over the working words: what row 9 counts, and values. That a run is one of the tree's (`Offered`) is a clause, as a number's place is: a run
+// cannot hold the words that it stands in.
 #![tactic(auto)]
 
 ghost use Rattle.std.specs.Prelude.{◌≡◌, ℕ, ◌+◌, ◌*◌, ◌-◌, ◌≤◌, ◌<◌, ◌||◌, get_or, length, set, ltb};
 ghost use Rattle.def_pass.specs.Scope.{recorded_nodes, live, change, with_value};
 ghost use Rattle.words.specs.Tab.{sum};
-ghost use Rattle.words_scopes.specs.State.{Good, Past, stack, binds, consts, bind_at, off, coff};
+ghost use Rattle.words_scopes.specs.State.{Good, HasBinding, Past, stack, binds, consts, bind_at, off, coff};
 ghost use Rattle.scope_values.specs.Outwards.{stops_at};
-ghost use Rattle.scope_values.specs.Steps.{Roomed, Spliced, Listed, Grown, Offered, run_value};
+ghost use Rattle.scope_values.specs.Steps.{Roomed, IsStore, Spliced, Refilled, Listed, Grown, Offered, run_value, len_in, off_in};
 
 use refusal::Refusal;
 use words::{Run, layout, shift, sum_at};
-use words_scopes::{find_binding, offset, offset_from};
+use words_scopes::{find_binding, first_binding, first_constant, offset};
 
 // In a store of values: a run of the tree's nodes takes the place of the old nodes at a place; those behind are shifted.
 pub fn splice(w: &mut [u32], base: usize, at: usize, old: usize, end: usize, r: Run)
@@ -26,13 +27,28 @@ pub fn splice(w: &mut [u32], base: usize, at: usize, old: usize, end: usize, r: 
     shift(w, layout::NODES + r.at * 2, base + at * 2, r.len * 2);
 }
 
-// How many nodes the values before constant k have. Beside `offset` of words_scopes, as set_const of scope_constants beside `set_run`: the laws are of
-// two lists of different records, so that one function over both stores would promise each by a case.
+// In a store of n values, of the bindings or of the constants: value k becomes a run of the tree's nodes, and those behind it are shifted. `set_run` and
+// `set_const` of scope_constants are names for one call of it each, for their laws.
+#[tactic(auto, using(crate::proofs::Store::sums))]
+pub fn refill(w: &mut [u32], base: usize, lengths: layout::Table, k: usize, n: usize, r: Run)
+    requires { (16384 ≤ length w.old) × IsStore base lengths × (k < n) × (n ≤ 256) × (r.at + r.len ≤ 1024) × (off_in w.old lengths n ≤ 512) × (r.len + off_in w.old lengths n ≤ 512 + len_in w.old lengths k) }
+    ensures { Refilled w.old w.new base lengths k n r }
+{
+    let at = sum_at(w, lengths, 0, k);
+    let end = at + sum_at(w, lengths, k, n);
+    let p = lengths.base + k * lengths.stride;
+    let old = w[p] as usize;
+    splice(w, base, at, old, end, r);
+    w[p] = r.len as u32;
+}
+
+// How many nodes the values before constant k have. Beside `offset` of words_scopes, each one sum: the laws are of two lists of different records, so
+// that one function over both would promise each by a case.
 pub fn const_offset(w: &[u32], k: usize) -> usize
     requires { (Good w.now) × (k ≤ get_or w.now 3 0) }
     ensures { (result ≡ coff w.now k) × (result ≤ 512) }
 {
-    sum_at(w, layout::CONSTANTS + layout::CONSTANT_LENGTH, 2, 0, k)
+    sum_at(w, layout::CONSTANT_LENGTHS, 0, k)
 }
 
 // How many nodes are recorded.
@@ -58,10 +74,8 @@ fn nodes_in(w: &[u32], k: usize, e: usize, c: usize) -> usize
     requires { (Good w.now) × (k < 32) × (get_or w.now (7184 + k * 4 + 1) 0 ≤ e) × (e ≤ get_or w.now 1 0) × (get_or w.now (7184 + k * 4 + 2) 0 ≤ c) × (c ≤ get_or w.now 3 0) }
     ensures { off w.now (get_or w.now (7184 + k * 4 + 1) 0) + coff w.now (get_or w.now (7184 + k * 4 + 2) 0) + result ≡ off w.now e + coff w.now c }
 {
-    let a = w[layout::SCOPES + k * 4 + layout::FIRST_BINDING] as usize;
-    let b = w[layout::SCOPES + k * 4 + layout::FIRST_CONSTANT] as usize;
-    sum_at(w, layout::BINDINGS + layout::LENGTH, 10, a, e)
-        + sum_at(w, layout::CONSTANTS + layout::CONSTANT_LENGTH, 2, b, c)
+    sum_at(w, layout::LENGTHS, first_binding(w, k), e)
+        + sum_at(w, layout::CONSTANT_LENGTHS, first_constant(w, k), c)
 }
 
 // Adds to n nodes those recorded, scope by scope from the current one outwards, and stops once they are more than row 9 allows: after how many
@@ -79,13 +93,14 @@ pub fn stops_at(w: &[u32], n: usize) -> Option<usize>
             return Some(d - 1 - k);
         }
         sum += nodes_in(w, k, e, c);
-        e = w[layout::SCOPES + k * 4 + layout::FIRST_BINDING] as usize;
-        c = w[layout::SCOPES + k * 4 + layout::FIRST_CONSTANT] as usize;
+        e = first_binding(w, k);
+        c = first_constant(w, k);
     }
     (512 < sum).then_some(d)
 }
 
-// Are there more nodes than row 9 allows once old nodes give way to m: there can be only where m are more.
+// Are there more nodes than row 9 allows once old nodes give way to m: there can be only where m are more. That old nodes are recorded, and that m are at
+// most a tree's, are clauses here and in `room_for`: they are facts of numbers about the words, which a number cannot hold.
 fn nodes_pass(w: &[u32], old: usize, m: usize) -> bool
     requires { (Good w.now) × (old ≤ recorded_nodes (stack w.now)) × (m ≤ 1024) }
     ensures { result ≡ ltb 512 (recorded_nodes (stack w.now) - old + m) }
@@ -93,20 +108,12 @@ fn nodes_pass(w: &[u32], old: usize, m: usize) -> bool
     old < m && stops_at(w, m - old).is_some()
 }
 
-// Is row 9 passed once old nodes give way to m, and there are `more` records more, 0 or 1: a summand of the count.
-pub fn passes(w: &[u32], old: usize, m: usize, more: usize) -> bool
-    requires { (Good w.now) × (old ≤ recorded_nodes (stack w.now)) × (m ≤ 1024) × (more ≤ 1) }
-    ensures { result ≡ (ltb 512 (recorded_nodes (stack w.now) - old + m) || ltb 256 (live (stack w.now) + more)) }
-{
-    nodes_pass(w, old, m) || 256 < live(w) + more
-}
-
-// The refusal, if it is.
+// The refusal, if row 9 is passed once old nodes give way to m, and there are `more` records more, 0 or 1: a summand of the count.
 pub fn room_for(w: &[u32], old: usize, m: usize, more: usize) -> Result<(), Refusal>
     requires { (Good w.now) × (old ≤ recorded_nodes (stack w.now)) × (m ≤ 1024) × (more ≤ 1) }
     ensures { Roomed result (ltb 512 (recorded_nodes (stack w.now) - old + m) || ltb 256 (live (stack w.now) + more)) }
 {
-    if passes(w, old, m, more) {
+    if nodes_pass(w, old, m) || 256 < live(w) + more {
         return Err(Refusal::Room);
     }
     Ok(())
@@ -114,15 +121,11 @@ pub fn room_for(w: &[u32], old: usize, m: usize, more: usize) -> Result<(), Refu
 
 // Binding k gets a run of the tree's nodes as its value, which are one tree or none.
 pub fn set_run(w: &mut [u32], k: usize, r: Run)
-    requires { (Good w.old) × (k < get_or w.old 1 0) × (Offered w.old r) × (r.len + (off w.old (get_or w.old 1 0) + coff w.old (get_or w.old 3 0)) ≤ 512 + get_or w.old (4112 + k * 10 + 8) 0) }
+    requires { (HasBinding w.old k) × (Offered w.old r) × (r.len + (off w.old (get_or w.old 1 0) + coff w.old (get_or w.old 3 0)) ≤ 512 + get_or w.old (4112 + k * 10 + 8) 0) }
     ensures { (Listed w.old w.new (set (binds w.old) k (with_value (run_value w.old r) (bind_at w.old k))) (consts w.old)) × (Past (k + 1) w.old w.new) }
 {
     let n = w[layout::BINDING_COUNT] as usize;
-    let at = offset(w, k);
-    let end = offset_from(w, k, at, n);
-    let old = w[layout::BINDINGS + k * 10 + layout::LENGTH] as usize;
-    splice(w, layout::VALUES, at, old, end, r);
-    w[layout::BINDINGS + k * 10 + layout::LENGTH] = r.len as u32;
+    refill(w, layout::VALUES, layout::LENGTHS, k, n, r);
 }
 
 // The innermost binding of x gets a run of the tree's nodes as its value, none if it is empty.

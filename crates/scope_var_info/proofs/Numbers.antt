@@ -5,16 +5,16 @@ use mathlib.Core.Option.{Option, none, some}
 use Prim.Native.Nat.{ℕ, zero, suc, ◌+◌, ◌-◌, ◌≤◌, ◌<◌, min}
 use native.Mathlib.Omega.{arith}
 use borrow.Author.Tests.{lt-ltb, le-ltb}
-use mathlib.Core.Bool.{Bool, true, false, not, ◌&&◌}
+use mathlib.Core.Bool.{Bool, true, false}
 use lib.ListN.{length, get_or, get_elem?, take, drop, length-take, take-append-drop}
 use lib.Dec.{eqb}
-use Rattle.std.specs.Prelude.{Option as Maybe, Some, None, Result, Ok, Err, IfSome}
+use Rattle.std.specs.Prelude.{Option as Maybe, Some, None, Result, Err, IfSome}
 use Rattle.words.specs.Place as place
 use Rattle.std.specs.Bool.{then_some}
 use Rattle.refusal.specs.declared.Refusal.{Refusal}
 use Rattle.refusal.specs.declared.Refusal.TheVariants.{Depth}
 use Rattle.def_tree.specs.Tree.{Tree, Core}
-use Rattle.def_pass.specs.Scope.{VarInfo, Stack, find_in, find_constant, Free, has_same_this}
+use Rattle.def_pass.specs.Scope.{VarInfo, Stack, find_in, find_constant, Free}
 use Rattle.scope_constants.specs.Consts.{Found}
 use Rattle.words.specs.Tab.{get_d-tab, sum-part}
 use Rattle.words.specs.Layout.{tree, run}
@@ -30,7 +30,7 @@ use Rattle.scope_find.proofs.Facts.{with_index as at_index, idx-find}
 use Rattle.words_nodes.specs.Nodes.{tree_from, value_from, Swapped}
 use Rattle.words_nodes.proofs.Trees.{count-some}
 use Rattle.words_nodes.proofs.Splice.{run-count}
-use Rattle.scope_var_info.specs.Handles.{bindings_of, numbered, tree_o, with_index, indexed, of_bindings, of_constants, Held, held, Puts}
+use Rattle.scope_var_info.specs.Handles.{bindings_of, numbered, tree_o, with_index, IsBinding, indexed, of_constants, Held, held, Puts}
 
 no-elements : {A : Type 0} (xs : List A) → length xs ≡ 0 → xs ≡ []
 no-elements [] e = refl
@@ -82,20 +82,9 @@ module _ (w : List ℕ) (g : Good w) where
   number-place (suc k) h = sym (number_in k (omega arith))
 
 -- a number that is known, or none
-module _ {p : Bool} {b k : ℕ} (e : then_some p b ≡ Some k) where
-  known-is : (p ≡ true) × (k ≡ b)
-  known-is = go p e
-    where
-      go : (q : Bool) → then_some q b ≡ Some k → (q ≡ true) × (k ≡ b)
-      go true h = (refl, cc)
-      go false h = absurd (let z : ◌≡◌ {A = Maybe ℕ} None (Some k) = h in cc)
-
-  pub known-number : (w : List ℕ) → Good w → (p ≡ true → b < get_or w 1 0) → (numbered (stack w) (suc b) ≡ some (bind_at w k)) × (k < get_or w 1 0)
-  known-number w g h = rw (known-is.1) (number_in w g b (h known-is.0), h known-is.0)
-
-pub known-none : (p : Bool) (b : ℕ) → then_some p b ≡ None → p ≡ false
-known-none true b e = absurd (let z : ◌≡◌ {A = Maybe ℕ} (Some b) None = e in cc)
-known-none false b e = refl
+pub binding-is : (w : List ℕ) → Good w → (b : ℕ) (p : Bool) → (p ≡ true → b < get_or w 1 0) → (p ≡ false → numbered (stack w) (suc b) ≡ none) → IsBinding w (numbered (stack w) (suc b)) (then_some p b)
+binding-is w g b true y n = (number_in w g b (y refl), y refl)
+binding-is w g b false y n = n refl
 
 -- an answer is a number or 0
 pub placed-most : (o : Maybe ℕ) (n : ℕ) → IfSome o (λ k. k < n) → place.placed o ≤ n
@@ -140,20 +129,24 @@ module _ (w : List ℕ) (g : Good w) (k : ℕ) (h : k < get_or w 1 0) where
   bound-count = nodes-bind w g k h
 
   module _ (at m : ℕ) (p : at ≡ off w k) (q : m ≡ len_at w k) (z : 0 < m) where
-    pub bound-value : (bind_at w k).value ≡ some (value_from w of_bindings at m)
+    bound-value : (bind_at w k).value ≡ some (value_from w 2064 at m)
     bound-value = rw (p, q) (value-some (run_at w k) (omega (arith, run_length w 2064 (off w k) (len_at w k))))
 
-    pub bound-held : Held w of_bindings at m
+    bound-held : Held w 2064 at m
     bound-held = record { some = z; inside = omega (arith, sum-part (λ j. len_at w j) k (get_or w 1 0) h, g.vals, p, q); whole = rw (p, q) (g.whole k h) }
+
+    -- is recorded there
+    pub bound-kept : ((bind_at w k).value ≡ some (value_from w 2064 at m)) × ((2064 ≤ of_constants) × Held w 2064 at m)
+    bound-kept = (bound-value, (omega arith, bound-held))
 
   pub bound-inside : off w k + len_at w k ≤ 512
   bound-inside = omega (arith, sum-part (λ j. len_at w j) k (get_or w 1 0) h, g.vals)
 
 -- the constant that was found
 module _ (w : List ℕ) (x : ℕ) where
-  pub const-at : (r : Run) → Found w x (Some r) → (find_constant x (stack w) ≡ some (value_from w of_constants r.at r.len)) × Held w of_constants r.at r.len
-  const-at r h =
-      (h.0 ∙ value-some (run w 3088 r.at r.len) (omega (arith, run_length w 3088 r.at r.len, h.1)), record { some = h.1; inside = h.2; whole = h.3 })
+  pub const-kept : (r : Run) → Found w x (Some r) → (find_constant x (stack w) ≡ some (value_from w of_constants r.at r.len)) × ((of_constants ≤ of_constants) × Held w of_constants r.at r.len)
+  const-kept r h =
+      (h.0 ∙ value-some (run w 3088 r.at r.len) (omega (arith, run_length w 3088 r.at r.len, h.1)), (omega arith, record { some = h.1; inside = h.2; whole = h.3 }))
 
   -- an identifier that it gives is not targeted
   pub const_free : (q : Maybe Run) → Found w x q → Free (targeted w) (find_constant x (stack w))
@@ -171,40 +164,17 @@ pub count_none : (o : Option Tree) → count_o o ≡ 0 → o ≡ none
 count_none none z = refl
 count_none (some t) z = absurd (omega (arith, count-some t))
 
--- a value in the place of a tree: none, and one that is too deep
-module _ (w : List ℕ) (p i : ℕ) where
-  pub puts_none : (o v : Option Tree) → v ≡ none → Puts (Ok tt) w w p i o v
-  puts_none o v e = subst (λ (x : Option Tree). Puts (Ok tt) w w p i o x) (sym e) (go o)
-    where
-      go : (o : Option Tree) → Puts (Ok tt) w w p i o none
-      go none = (refl, refl)
-      go (some t) = (refl, refl)
+-- a value in the place of a tree, and one that is too deep
+module _ (w : List ℕ) (p i : ℕ) (e : Tree) where
+  pub puts-at : (r : Result Unit Refusal) (u : List ℕ) → i < get_or w 0 0 → Swapped r w u p i e → Puts r w u p i (tree_o (tree w) i) (some e)
+  puts-at r u h s = subst (λ (o : Option Tree). Puts r w u p i o (some e)) (sym (tree-in w i h)) s
 
-  pub puts-as : (r : Result Unit Refusal) (u : List ℕ) (o v v' : Option Tree) → v' ≡ v → Puts r w u p i o v → Puts r w u p i o v'
-  puts-as r u o v v' e h = subst (λ (x : Option Tree). Puts r w u p i o x) (sym e) h
+  pub puts-swapped : (r : Result Unit Refusal) (u : List ℕ) (v : Option Tree) → i < get_or w 0 0 → v ≡ some e → Puts r w u p i (tree_o (tree w) i) v → Swapped r w u p i e
+  puts-swapped r u v h q s =
+      subst (λ (o : Option Tree). Puts r w u p i o (some e)) (tree-in w i h) (subst (λ (x : Option Tree). Puts r w u p i (tree_o (tree w) i) x) q s)
 
-  module _ (e : Tree) where
-    pub puts-nowhere : tree_o (tree w) i ≡ none → Puts (Ok tt) w w p i (tree_o (tree w) i) (some e)
-    puts-nowhere q = subst (λ (o : Option Tree). Puts (Ok tt) w w p i o (some e)) (sym q) (refl, refl)
-
-    pub puts-at : (r : Result Unit Refusal) (u : List ℕ) → i < get_or w 0 0 → Swapped r w u p i e → Puts r w u p i (tree_o (tree w) i) (some e)
-    puts-at r u h s = subst (λ (o : Option Tree). Puts r w u p i o (some e)) (sym (tree-in w i h)) s
-
-    pub puts-swapped : (r : Result Unit Refusal) (u : List ℕ) (v : Option Tree) → i < get_or w 0 0 → v ≡ some e → Puts r w u p i (tree_o (tree w) i) v → Swapped r w u p i e
-    puts-swapped r u v h q s =
-        subst (λ (o : Option Tree). Puts r w u p i o (some e)) (tree-in w i h) (subst (λ (x : Option Tree). Puts r w u p i (tree_o (tree w) i) x) q s)
-
-    pub too-deep : 201 < p → Swapped (Err Depth) w w p i e
-    too-deep h = (rw (lt-ltb 201 (p + height e) (omega arith)) refl, refl)
-
--- has_same_this without an init
-pub same_none : (o : Option VarInfo) → has_same_this o none ≡ true
-same_none none = refl
-same_none (some b) = go b.this_sensitive
-  where
-    go : (a : Bool) → not (a && false) ≡ true
-    go true = refl
-    go false = refl
+  pub too-deep : 201 < p → Swapped (Err Depth) w w p i e
+  too-deep h = (rw (lt-ltb 201 (p + height e) (omega arith)) refl, refl)
 
 -- idx_val: the binding at its index
 abbrev index_o : Option (ℕ × VarInfo) → ℕ

@@ -1,13 +1,13 @@
 -- What a caller of scope.rs holds: a binding by its number, a tree by its first node. Assumes nothing: these are definitions.
-use Rattle.std.specs.Prelude.{◌≡◌, Option as Answer, Some, None, Result, Ok, List, [], ◌∷◌, ◌++◌, Bool, false, ℕ, zero, suc, ◌+◌, ◌≤◌, ◌<◌, ltb, length}
+use Rattle.std.specs.Prelude.{◌≡◌, Option as Answer, Some, None, IfSome, Result, Ok, List, [], ◌∷◌, ◌++◌, Bool, false, ℕ, zero, suc, ◌+◌, ◌≤◌, ◌<◌, ltb, length, get_or}
 use Rattle.std.proofs.Math.Option.{Option, none, some}
 use Rattle.std.proofs.Math.ListN.{get_elem?}
 use Rattle.def_tree.specs.Base.{pick}
 use Rattle.def_tree.specs.Tree.{Tree, node, nil, Core, count}
 use Rattle.def_pass.specs.Scope.{VarInfo, Stack}
 use Rattle.words.specs.Layout.{run}
-use Rattle.words.specs.declared.Run.{Run}
-use Rattle.words_scopes.specs.State.{Whole}
+use Rattle.words.specs.declared.Value.{Value}
+use Rattle.words_scopes.specs.State.{Whole, bind_at}
 use Rattle.words_nodes.specs.Nodes.{tree_from, value_from, Swapped}
 use Rattle.refusal.specs.declared.Refusal.{Refusal}
 
@@ -21,6 +21,11 @@ abbrev pub numbered : Stack → ℕ → Option VarInfo
 numbered st zero = none
 numbered st (suc k) = get_elem? (bindings_of st) k
 
+-- it is binding k of the words, or there is none
+abbrev pub IsBinding : List ℕ → Option VarInfo → Answer ℕ → Type 0
+IsBinding w o None = o ≡ none
+IsBinding w o (Some k) = (o ≡ some (bind_at w k)) × (k < get_or w 1 0)
+
 -- a test of it
 abbrev pub of_binding : (VarInfo → Bool) → Option VarInfo → Bool
 of_binding f none = false
@@ -30,10 +35,7 @@ of_binding f (some b) = f b
 abbrev pub tree_o : List Core → ℕ → Option Tree
 tree_o xs i = pick (ltb i (length xs)) (some (tree_from xs i)) none
 
--- the two stores of values: that of the bindings, and that of the constants, by their first words
-abbrev pub of_bindings : ℕ
-of_bindings = 2064
-
+-- the store behind the others: that of the constants' values, by its first word
 abbrev pub of_constants : ℕ
 of_constants = 3088
 
@@ -43,10 +45,17 @@ pub record Held (w : List ℕ) (base at m : ℕ) : Type 0 where
   pub inside : at + m ≤ 512
   pub whole : Whole (run w base at m)
 
--- the value of a binding, if it has one, is the nodes of a run
-abbrev pub Kept : List ℕ → Option Tree → Answer Run → Type 0
-Kept w v None = v ≡ none
-Kept w v (Some r) = (v ≡ some (value_from w of_bindings r.at r.len)) × Held w of_bindings r.at r.len
+-- a recorded value, if there is one, is the nodes of one tree; which tree
+abbrev pub Holds : List ℕ → Answer Value → Type 0
+Holds w r = IfSome r (λ s. (s.base ≤ of_constants) × Held w s.base s.run.at s.run.len)
+
+abbrev pub held_value : List ℕ → Answer Value → Option Tree
+held_value w None = none
+held_value w (Some s) = some (value_from w s.base s.run.at s.run.len)
+
+-- a value, if there is one, is recorded there
+abbrev pub Kept : List ℕ → Option Tree → Answer Value → Type 0
+Kept w v r = (v ≡ held_value w r) × Holds w r
 
 -- a binding of the current scope with its index; 1 + the index, 0 for none
 abbrev pub with_index : ℕ → Option VarInfo → Option (ℕ × VarInfo)

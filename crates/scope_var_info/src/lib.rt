@@ -3,7 +3,7 @@
 #![tactic(auto)]
 
 ghost use Rattle.std.specs.Prelude.{◌≡◌, true, false, suc, ◌≤◌, ◌<◌, get_or, length, IfSome};
-ghost use Rattle.std.proofs.Math.Option.{none, some};
+ghost use Rattle.std.proofs.Math.Option.{none};
 ghost use Rattle.def_pass.specs.Scope.{find_binding, find_binding_from_current, is_param, var_inline_prevented, value_o, prevented_o, has_same_this, find_constant, Free};
 ghost use Rattle.def_pass.specs.Tree.{count_o};
 ghost use Rattle.words.specs.Layout.{tree};
@@ -11,12 +11,12 @@ ghost use Rattle.words.specs.Place.{placed};
 ghost use Rattle.words_scopes.specs.State.{Good, stack, name_of, targeted};
 ghost use Rattle.scope_find.specs.Look.{idx_here, IsKindOfValue};
 ghost use Rattle.scope_find.specs.Answers.{count_of};
-ghost use Rattle.words_nodes.specs.Nodes.{Planted, value_from, size};
-ghost use Rattle.scope_var_info.specs.Handles.{bindings_of, numbered, indexed, of_binding, tree_o, counted_o, Held, Kept, Puts};
+ghost use Rattle.words_nodes.specs.Nodes.{Planted, size};
+ghost use Rattle.scope_var_info.specs.Handles.{bindings_of, numbered, IsBinding, indexed, of_binding, tree_o, counted_o, Holds, Kept, held_value, Puts};
 
 use def_file::kind::Kind;
 use refusal::Refusal;
-use words::{Run, layout};
+use words::{Run, Value, layout};
 use words_nodes::replace_at;
 
 // Is b the number of a binding.
@@ -25,6 +25,14 @@ fn known(w: &[u32], b: usize) -> bool
     ensures { (result ≡ true → b < get_or w.now 1 0) × (result ≡ false → numbered (stack w.now) (suc b) ≡ none) }
 {
     b < w[layout::BINDING_COUNT] as usize
+}
+
+// That binding, if there is one.
+fn binding(w: &[u32], b: usize) -> Option<usize>
+    requires { Good w.now }
+    ensures { IsBinding w.now (numbered (stack w.now) (suc b)) result }
+{
+    known(w, b).then_some(b)
 }
 
 // Is i a node of the tree.
@@ -100,7 +108,7 @@ pub fn value_kind(w: &[u32], b: usize) -> Option<Kind>
     requires { Good w.now }
     ensures { IsKindOfValue (value_o (numbered (stack w.now) (suc b))) result }
 {
-    let b = known(w, b).then_some(b)?;
+    let b = binding(w, b)?;
     scope_find::value_kind(w, b)
 }
 
@@ -109,12 +117,12 @@ pub fn value_ident(w: &[u32], b: usize) -> Option<u32>
     requires { Good w.now }
     ensures { result ≡ name_of (value_o (numbered (stack w.now) (suc b))) }
 {
-    let b = known(w, b).then_some(b)?;
+    let b = binding(w, b)?;
     let at = words_scopes::offset(w, b);
     words_scopes::named(w, b, at)
 }
 
-// How many nodes it has, 0 if there is none.
+// How many nodes it has, 0 if there is none: a count, so no Option.
 pub fn value_len(w: &[u32], b: usize) -> usize
     requires { Good w.now }
     ensures { (result ≡ count_o (value_o (numbered (stack w.now) (suc b)))) × (result ≤ 512) }
@@ -125,34 +133,50 @@ pub fn value_len(w: &[u32], b: usize) -> usize
     0
 }
 
-// Its run of the values recorded for bindings.
-fn value_run(w: &[u32], b: usize) -> Option<Run>
+// Where it is recorded.
+fn value_run(w: &[u32], b: usize) -> Option<Value>
     requires { Good w.now }
     ensures { Kept w.now (value_o (numbered (stack w.now) (suc b))) result }
 {
-    let b = known(w, b).then_some(b)?;
+    let b = binding(w, b)?;
     let len = scope_find::value_len(w, b);
     if len == 0 {
         return None;
     }
-    Some(Run {
-        at: words_scopes::offset(w, b),
-        len,
+    let at = words_scopes::offset(w, b);
+    Some(Value {
+        base: layout::VALUES,
+        run: Run { at, len },
     })
 }
 
-// A recorded value, a run of nodes of a store, takes the place of the tree at node i, at depth p, if rows 8 and 9 let it.
-fn put_held(w: &mut [u32], i: usize, p: u32, base: usize, r: Run) -> Result<(), Refusal>
-    requires { (Planted w.old) × (2064 ≤ base) × (base ≤ 3088) × (Held w.old base r.at r.len) }
-    ensures { Puts result w.old w.new p i (tree_o (tree w.old) i) (some (value_from w.old base r.at r.len)) }
+// Where the value of the innermost constant of x that has one is recorded.
+fn constant_run(w: &[u32], x: u8) -> Option<Value>
+    requires { Good w.now }
+    ensures { (Kept w.now (find_constant x (stack w.now)) result) × (Free (targeted w.now) (find_constant x (stack w.now))) }
 {
-    if in_tree(w, i) {
-        if 201 < p {
-            return Err(Refusal::Depth);
-        }
-        return replace_at(w, i, p, base, r);
+    let run = scope_constants::find_constant(w, x)?;
+    Some(Value {
+        base: layout::CONSTANT_VALUES,
+        run,
+    })
+}
+
+// A recorded value, if there is one, takes the place of the tree at node i, at depth p, if rows 8 and 9 let it.
+fn put_held(w: &mut [u32], i: usize, p: u32, v: Option<Value>) -> Result<(), Refusal>
+    requires { (Planted w.old) × (Holds w.old v) }
+    ensures { Puts result w.old w.new p i (tree_o (tree w.old) i) (held_value w.old v) }
+{
+    let Some(v) = v else {
+        return Ok(());
+    };
+    if !in_tree(w, i) {
+        return Ok(());
     }
-    Ok(())
+    if 201 < p {
+        return Err(Refusal::Depth);
+    }
+    replace_at(w, i, p, v)
 }
 
 // The value of binding b, if it has one, takes the place of the tree at node i, at depth p, if rows 8 and 9 let it.
@@ -160,10 +184,8 @@ pub fn put_value(w: &mut [u32], i: usize, p: u32, b: usize) -> Result<(), Refusa
     requires { Planted w.old }
     ensures { Puts result w.old w.new p i (tree_o (tree w.old) i) (value_o (numbered (stack w.old) (suc b))) }
 {
-    match value_run(w, b) {
-        None => Ok(()),
-        Some(r) => put_held(w, i, p, layout::VALUES, r),
-    }
+    let v = value_run(w, b);
+    put_held(w, i, p, v)
 }
 
 // How many nodes the value of the innermost constant of x that has one has; an identifier is none that the script as read targets (request 8).
@@ -171,8 +193,8 @@ pub fn find_constant(w: &[u32], x: u8) -> Option<usize>
     requires { Good w.now }
     ensures { (count_of result ≡ counted_o (find_constant x (stack w.now))) × (IfSome result (λ m. m ≤ 512)) × (Free (targeted w.now) (find_constant x (stack w.now))) }
 {
-    let r = scope_constants::find_constant(w, x)?;
-    Some(r.len)
+    let v = constant_run(w, x)?;
+    Some(v.run.len)
 }
 
 // That value, if there is one, takes the place of the tree at node i, at depth p, if rows 8 and 9 let it; an identifier is none that is targeted.
@@ -180,8 +202,6 @@ pub fn put_constant(w: &mut [u32], i: usize, p: u32, x: u8) -> Result<(), Refusa
     requires { Planted w.old }
     ensures { (Puts result w.old w.new p i (tree_o (tree w.old) i) (find_constant x (stack w.old))) × (Free (targeted w.old) (find_constant x (stack w.old))) }
 {
-    match scope_constants::find_constant(w, x) {
-        None => Ok(()),
-        Some(r) => put_held(w, i, p, layout::CONSTANT_VALUES, r),
-    }
+    let v = constant_run(w, x);
+    put_held(w, i, p, v)
 }

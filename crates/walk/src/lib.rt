@@ -92,7 +92,8 @@ fn stmts(w: &mut [u32], p: usize, d: usize, n: usize, i: usize) -> Result<usize,
     many(w, p, d, n, i)
 }
 
-// The statements of a script, or of a function's body.
+// The statements of a script, or of a function's body. `body` and `kids`, `params` and `loops` differ in the member of the cycle that they call: one
+// over both would take it as a closure, which would be a member itself, with a measure.
 #[cycle(walks)]
 fn body(w: &mut [u32], p: usize, d: usize, i: usize) -> Result<usize, Refusal>
     requires { Here w.old 1 i p (d + 1) }

@@ -1,4 +1,4 @@
-// Small steps of the walks.
+// Small steps of the walks. n, i: n trees from node i on, as the walks have them.
 ghost use Rattle.std.specs.Prelude.{◌≡◌};
 ghost use Rattle.words.specs.Layout.{node_of};
 ghost use Rattle.words_scopes.specs.Kinds.{type_of};

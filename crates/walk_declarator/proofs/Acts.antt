@@ -1,5 +1,5 @@
 -- Steps one after the other, with an exit where one refuses. Assumes nothing.
-use Rattle.std.proofs.Common.{◌≡◌, Result, Err, IsErrAnd, List, ℕ}
+use Rattle.std.proofs.Common.{◌≡◌, Result, IsErrAnd, List, ℕ}
 use Rattle.refusal.specs.declared.Refusal.{Refusal}
 use Rattle.refusal.specs.Number.{number}
 use Rattle.refusal.proofs.Rows.{exit}

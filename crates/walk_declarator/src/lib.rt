@@ -23,7 +23,7 @@ use scope::{
 };
 use scope_declare::is_ident;
 use words::kind_at;
-use words_nodes::{cut, has_this, skip};
+use words_nodes::{cut, has_this, skip, tree_len};
 use words_state::{is_first_run, var_decl_kind};
 
 // What is declared: the name of a declarator, and the kind of its declaration.
@@ -211,7 +211,7 @@ fn cut_init(w: &mut [u32], q: usize, i: usize, j: usize) -> usize
     requires { (Planted w.old) × (Child (tree w.old) q 1 i) × (i + count (tree_from (tree w.old) i) ≤ j) }
     ensures { (Replants w.old w.new (cut_at (tree w.old) q i)) × (result ≡ j - count (tree_from (tree w.old) i)) }
 {
-    let old = skip(w, i) - i;
+    let old = tree_len(w, i);
     cut(w, q, i);
     j - old
 }

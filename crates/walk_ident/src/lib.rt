@@ -29,7 +29,7 @@ use scope::{
 };
 use scope_find::ident_at;
 use words::layout;
-use words_nodes::{put_void, skip, unwrap};
+use words_nodes::{put_void, tree_len, unwrap};
 use words_scopes::count_one;
 use words_state::{
     SavedFields, in_test, is_first_run, restore_fields, set_changed, set_conds, set_ended,
@@ -105,7 +105,7 @@ fn same_ident(w: &[u32], x: u8, b: usize) -> bool
     requires { (Planted w.now) × (Has w.now b) }
     ensures { result ≡ same_ident (named 0 x) (value_by w.now b) }
 {
-    value_ident(w, b) == Some(x as u32)
+    value_ident(w, b) == Some(u32::from(x))
 }
 
 // The end of a replacement by the value of the innermost binding of x: a change, and counted (request 9), or neither. The test is a parameter, since
@@ -172,7 +172,7 @@ fn lift_value(w: &mut [u32], i: usize, j: usize, p: u32) -> Result<usize, Refusa
     requires { (Planted w.old) × (Child (tree w.old) i 1 j) × (p ≤ 201) }
     ensures { Did w.old w.new result (swap_f p (tree_from (tree w.old) j) i (abs w.old)) }
 {
-    let m = skip(w, j) - j;
+    let m = tree_len(w, j);
     unwrap(w, i, j, p)?;
     Ok(i + m)
 }

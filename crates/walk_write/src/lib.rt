@@ -1,4 +1,5 @@
-// Leaf steps of the walks: names written, marked, declared and stored. Each contract names the walk's own action.
+// Leaf steps of the walks: names written, marked, declared and stored. Each contract names the walk's own action. n, i: n trees from node i on, as the
+// walks have them; that there are n is a clause, a fact of the words.
 #![tactic(auto)]
 
 ghost use Rattle.std.specs.Prelude.{◌≡◌, true, false, not, ◌&&◌, ◌⊎◌, ℕ, eqb, drop, ◌<◌, ◌≤◌};

@@ -1,6 +1,13 @@
 // What stands where in the working words; specs/Layout.antt has the same table for the contracts. Fixed stretches of lent words: the library has no
 // memory of its own.
 
+// Words at even distances: where the first stands, and how far on each next one. Of a table of records they are its first words, or those of a field.
+#[derive(Clone, Copy, Debug, PartialEq, Eq)]
+pub struct Table {
+    pub base: usize,
+    pub stride: usize,
+}
+
 // Counts.
 pub const NODE_COUNT: usize = 0;
 
@@ -59,10 +66,30 @@ pub const LENGTH: usize = 8;
 
 pub const BARRIER: usize = 9;
 
+pub const BINDING_TABLE: Table = Table {
+    base: BINDINGS,
+    stride: 10,
+};
+
+pub const LENGTHS: Table = Table {
+    base: BINDINGS + LENGTH,
+    stride: 10,
+};
+
 // Constants, two words each: the identifier, and the length of the value.
 pub const CONSTANTS: usize = 6672;
 
 pub const CONSTANT_LENGTH: usize = 1;
+
+pub const CONSTANT_TABLE: Table = Table {
+    base: CONSTANTS,
+    stride: 2,
+};
+
+pub const CONSTANT_LENGTHS: Table = Table {
+    base: CONSTANTS + CONSTANT_LENGTH,
+    stride: 2,
+};
 
 // Scopes, four words each: the kind, and the fields below.
 pub const SCOPES: usize = 7184;
@@ -87,6 +114,11 @@ pub const SHADOWED: usize = 7824;
 
 // Of each binding how often an identifier was replaced by its value, one word each.
 pub const COUNTS: usize = 8080;
+
+pub const COUNT_TABLE: Table = Table {
+    base: COUNTS,
+    stride: 1,
+};
 
 // The number of the first node of each identifier, one word each.
 pub const IDENTS: usize = 15504;

@@ -1,7 +1,8 @@
-// The working words: functions that copy, store, wipe, read and search them. What stands where is in specs/Layout.antt.
+// The working words: functions that copy, store, wipe, read and search them. What stands where is in layout.rt, and for contracts in
+// specs/Layout.antt.
 #![tactic(auto)]
 
-ghost use Rattle.std.specs.Prelude.{◌≡◌, ◌+◌, ◌*◌, ◌≤◌, ◌<◌, [], ◌∷◌, ◌++◌, get_or, length};
+ghost use Rattle.std.specs.Prelude.{◌≡◌, ◌+◌, ◌*◌, ◌/◌, ◌%◌, ◌≤◌, ◌<◌, [], ◌∷◌, ◌++◌, get_or, length};
 ghost use Rattle.std.proofs.lemmas.List.Edits.{sets};
 ghost use Rattle.words.specs.Layout.{yes, core_from, node_of, tree};
 ghost use Rattle.def_file.specs.Named.{IsKindOf};
@@ -12,6 +13,7 @@ ghost use Rattle.words.specs.Place.{FirstAt};
 ghost use Rattle.words.specs.Tab.{sum};
 
 use def_file::kind::Kind;
+use layout::Table;
 
 pub mod layout;
 
@@ -36,7 +38,15 @@ impl Run {
     pub const NONE: Run = Run { at: 0, len: 0 };
 }
 
-// The kind of node k of the tree.
+// A recorded value: the word at which its store begins, which is one of those behind the tree's nodes, and the value's nodes in it.
+#[derive(Clone, Copy, Debug, PartialEq, Eq)]
+pub struct Value {
+    pub base: usize,
+    pub run: Run,
+    ghost behind: { 2064 ≤ base },
+}
+
+// The kind of node k of the tree. This and the next three read one word each, where `node_at` reads both.
 pub fn kind_at(w: &[u32], k: usize) -> Kind
     requires { (16384 ≤ length w.now) × (k < 1024) }
     ensures { IsKindOf (node_of w.now k).kind result }
@@ -102,7 +112,7 @@ pub fn add_node(w: &mut [u32], x: Node)
     w[layout::NODE_COUNT] = (n + 1) as u32;
 }
 
-// Copies n words from a to b; the two stretches may meet. This and the next three are names for one call of the library each, for its law in the
+// Copies n words from a to b; the two stretches may meet. This, `put` and `wipe` are names for one call of the library each, for its law in the
 // contract.
 pub fn shift(w: &mut [u32], a: usize, b: usize, n: usize)
     requires { (a + n ≤ length w.old) × (b + n ≤ length w.old) }
@@ -145,13 +155,19 @@ pub fn merge(w: &mut [u32], a: usize, b: usize, n: usize)
     }
 }
 
+// Where the bit of x is in a set: the word, and which of its bits.
+fn bit_of(x: u8) -> (usize, u32)
+    ensures { (result.0 ≡ x / 32) × (result.1 ≡ x % 32) }
+{
+    (usize::from(x) / 32, u32::from(x) % 32)
+}
+
 // Whether x is in the set that stands in eight words from p on, a bit for each number.
 pub fn flag_at(w: &[u32], p: usize, x: u8) -> bool
     requires { p + 8 ≤ length w.now }
     ensures { result ≡ yes (flag_at w.now p x) }
 {
-    let i = x as usize / 32;
-    let k = x as u32 % 32;
+    let (i, k) = bit_of(x);
     (w[p + i] >> k) % 2 != 0
 }
 
@@ -160,32 +176,22 @@ pub fn set_flag(w: &mut [u32], p: usize, x: u8)
     requires { p + 8 ≤ length w.old }
     ensures { Flagged w.old w.new p x }
 {
-    let i = x as usize / 32;
-    let k = x as u32 % 32;
+    let (i, k) = bit_of(x);
     w[p + i] |= 1 << k;
 }
 
-// The first of the places from a up to e whose word is x, if there is one; word 0 stands at p, and each s behind the one before.
-pub fn first_at(w: &[u32], p: usize, s: usize, a: usize, e: usize, x: u8) -> Option<usize>
-    requires { (16384 ≤ length w.now) × (a ≤ e) × (e ≤ 256) × (s ≤ 10) × (p ≤ 8192) }
-    ensures { FirstAt w.now p s a e x result }
+// The first of the places from a up to e of a table whose word is x, if there is one.
+pub fn first_at(w: &[u32], t: Table, a: usize, e: usize, x: u8) -> Option<usize>
+    requires { (16384 ≤ length w.now) × (a ≤ e) × (e ≤ 256) × (t.stride ≤ 10) × (t.base ≤ 8192) }
+    ensures { FirstAt w.now t.base t.stride a e x result }
 {
-    for k in a..e {
-        if w[p + k * s] == u32::from(x) {
-            return Some(k);
-        }
-    }
-    None
+    (a..e).find(|&k| w[t.base + k * t.stride] == u32::from(x))
 }
 
-// The sum of the words at the places from a up to e; word 0 stands at p, and each s behind the one before.
-pub fn sum_at(w: &[u32], p: usize, s: usize, a: usize, e: usize) -> usize
-    requires { (16384 ≤ length w.now) × (a ≤ e) × (e ≤ 256) × (s ≤ 10) × (p ≤ 8192) }
-    ensures { sum (λ j. get_or w.now (p + j * s) 0) a + result ≡ sum (λ j. get_or w.now (p + j * s) 0) e }
+// The sum of the words of a table at the places from a up to e.
+pub fn sum_at(w: &[u32], t: Table, a: usize, e: usize) -> usize
+    requires { (16384 ≤ length w.now) × (a ≤ e) × (e ≤ 256) × (t.stride ≤ 10) × (t.base ≤ 8192) }
+    ensures { sum (λ j. get_or w.now (t.base + j * t.stride) 0) a + result ≡ sum (λ j. get_or w.now (t.base + j * t.stride) 0) e }
 {
-    let mut total: usize = 0;
-    for k in a..e {
-        total += w[p + k * s] as usize;
-    }
-    total
+    (a..e).map(|k| w[t.base + k * t.stride] as usize).sum()
 }

@@ -3,15 +3,19 @@ use mathlib.Core.Path.{◌≡◌, refl, sym, ap, ◌∙◌}
 use mathlib.Core.List.{List, [], ◌∷◌, ◌++◌}
 use mathlib.Core.Option.{some}
 use mathlib.Core.Logic.{⊎_elim}
-use Prim.Native.Nat.{ℕ, zero, suc, ◌+◌, ◌-◌, ◌*◌, ◌/◌, ◌%◌, ◌≤◌, ◌<◌}
+use Prim.Native.Nat.{ℕ, zero, suc, ◌+◌, ◌-◌, ◌*◌, ◌≤◌, ◌<◌}
 use native.Mathlib.Omega.{arith}
 use lib.ListN.{length, get_or, take, drop, set, length-set, length-drop, get_or-append}
-use lib.Seq.{get_or-set_same, get_or-set_other, get_or-drop, take_at, set-get_or, ext_get_or}
+use lib.Seq.{get_or-set_same, get_or-set_other, get_or-drop, take_at, ext_get_or}
 use Rattle.def_tree.specs.Tree.{Tree, Forest, node, count, Core, core, no_core, flat, plant, first_t}
 use Rattle.def_tree.specs.Combine.{re_arity}
 use Rattle.def_tree.proofs.Place.{plant-flat}
 use Rattle.def_tree.proofs.Whole.{Whole as Whole', whole_drop}
 use Rattle.def_pass.specs.Tree.{void_zero}
+use Rattle.def_file.specs.Named.{number_of}
+use Rattle.def_file.proofs.Named.{numbered}
+use Rattle.words.specs.declared.Node.{Node}
+use Rattle.words.specs.Node.{IsNode, Packed, core_of}
 use Rattle.words.specs.Layout.{core_from, node_of, run, tree}
 use Rattle.words.specs.Moved.{Moved}
 use Rattle.words.proofs.Nodes.{core-same, tree-length, tree-at, run_length, run-at}
@@ -20,7 +24,7 @@ use Rattle.words_nodes.specs.Nodes.{tree_from, Trees, Planted, Child, put_at, cu
 use Rattle.words_nodes.proofs.Lists.{spliced, names-append, names-take, names-drop, names-set}
 use Rattle.words_nodes.proofs.Trees.{one-whole, flat_append, length-flat, flat-from, put_one, cut-one, behind-le, child-lt, child-in, whole-trees}
 use Rattle.words_nodes.proofs.Words.{tree-whole}
-use Rattle.words.proofs.Stored.{apart-then, node-put, put-tree}
+use Rattle.words.proofs.Stored.{apart-then, put-tree}
 use Rattle.words_nodes.proofs.Apart.{replants}
 
 -- in the place of `old` nodes from i on stand vs
@@ -251,19 +255,16 @@ module _ {w : List ℕ} (g : Planted w) {i j : ℕ} (h : Child (tree w) i 1 j) w
       } in
       put-done g outer-in (tree_from (tree w) j) (rw eo at done) (names_of g inner-in) (omega arith)
 
--- a node's first word with one child less
-less-word : (x y : ℕ) → 0 < x / 2048 % 65536 → core ((x - 2048) % 64) ((x - 2048) / 64 % 32) ((x - 2048) / 2048 % 65536) y ≡ re_arity (x / 2048 % 65536 - 1) (core (x % 64) (x / 64 % 32) (x / 2048 % 65536) y)
-less-word x y h =
-    let a : (x - 2048) % 64 ≡ x % 64 = omega arith in
-    let b : (x - 2048) / 64 ≡ x / 64 - 32 = omega arith in
-    let c : (x - 2048) / 2048 ≡ x / 2048 - 1 = omega arith in
-    rw (a, b, c, low5 (x / 64) (omega arith), low16 (x / 2048) h) refl
-  where
-    low5 : (y : ℕ) → 32 ≤ y → (y - 32) % 32 ≡ y % 32
-    low5 y l = omega arith
+-- a node read, with one child less
+module _ {c : Core} {x : Node} (r : IsNode c x) where
+  kind-is : number_of x.kind ≡ c.kind
+  kind-is = numbered x.kind c.kind r.0.1
 
-    low16 : (y : ℕ) → 0 < y % 65536 → (y - 1) % 65536 ≡ y % 65536 - 1
-    low16 y l = omega arith
+  pub fewer-packed : c.kind < 64 → c.form < 32 → c.arity < 65536 → Packed (record x { arity = x.arity - 1 })
+  fewer-packed k f a = (omega (arith, kind-is), omega arith, omega arith)
+
+  pub fewer-core : core_of (record x { arity = x.arity - 1 }) ≡ re_arity (c.arity - 1) c
+  fewer-core = rw (kind-is, r.1, r.2, r.3) refl
 
 -- the tree at i, a child of the node at q, taken out
 module _ {w : List ℕ} (g : Planted w) {q i : ℕ} (h : Child (tree w) q 1 i) where
@@ -276,36 +277,15 @@ module _ {w : List ℕ} (g : Planted w) {q i : ℕ} (h : Child (tree w) q 1 i) w
   parent_is : node_of w q ≡ c
   parent_is = sym (tree-at w q (rw tree-length at h.parent))
 
-  module _ {u : List ℕ} {old : ℕ} (eo : old ≡ count (tree_from ys i)) (s : Slid w u i old 0) where
-    abbrev x : ℕ
-    x = get_or u (16 + q * 2) 0
+  pub parent-in : q < 1024
+  parent-in = omega (arith, inner-lt g h, inner-in g h, g.good.nodes)
 
+  module _ {u : List ℕ} {old : ℕ} (eo : old ≡ count (tree_from ys i)) (s : Slid w u i old 0) where
     parent-kept : node_of u q ≡ c
     parent-kept = s.low q (omega (arith, inner-lt g h)) ∙ parent_is
 
-    parent-arity : x / 2048 % 65536 ≡ c.arity
-    parent-arity = ap (λ (d : Core). d.arity) parent-kept
-
-    pub parent-word : 2048 ≤ x
-    parent-word = omega (arith, parent-arity, h.few)
-
-    abbrev u₁ : List ℕ
-    u₁ = set u (16 + q * 2) (x - 2048)
-
-    fewer : NodePut u u₁ q (re_arity (c.arity - 1) c)
-    fewer =
-        let b = g.good.nodes in
-        let low : q < 1024 = omega (arith, inner-lt g h, inner-in g h) in
-        let y : ℕ = get_or u₁ (16 + q * 2 + 1) 0 in
-        let put : NodePut u u₁ q (core ((x - 2048) % 64) ((x - 2048) / 64 % 32) ((x - 2048) / 2048 % 65536) y) =
-        rw (set-get_or u₁ (16 + q * 2 + 1) 0) at (node-put u q (x - 2048) y (omega (arith, s.apart.size, g.good.long)) low) in
-        let num : y ≡ get_or u (16 + q * 2 + 1) 0 = get_or-set_other u (16 + q * 2) (16 + q * 2 + 1) (x - 2048) 0 (λ e. omega arith) in
-        record {
-          apart = put.apart;
-          count = put.count;
-          here = put.here ∙ ap (core ((x - 2048) % 64) ((x - 2048) / 64 % 32) ((x - 2048) / 2048 % 65536)) num ∙ less-word x (get_or u (16 + q * 2 + 1) 0) (omega (arith, parent-arity, h.few)) ∙ ap (λ (d : Core). re_arity (d.arity - 1) d) parent-kept;
-          other = put.other;
-        }
+    pub has-kids : 1 < (node_of u q).arity
+    has-kids = omega (arith, ap (λ (d : Core). d.arity) parent-kept, h.few)
 
     gone : Spliced w u i old []
     gone = record {
@@ -316,14 +296,15 @@ module _ {w : List ℕ} (g : Planted w) {q i : ℕ} (h : Child (tree w) q 1 i) w
       high = λ j l. s.high j l;
     }
 
-    pub cut-done : Replants w u₁ (cut_at ys q i)
+    pub cut-done : {v : List ℕ} {x : Node} → IsNode (node_of u q) x → NodePut u v q (core_of (record x { arity = x.arity - 1 })) → Replants w v (cut_at ys q i)
     unfolding cut_at
-    cut-done =
+    cut-done {v} {x} y put =
+        let fewer : NodePut u v q (re_arity (c.arity - 1) c) = rw (fewer-core y ∙ ap (λ (d : Core). re_arity (d.arity - 1) d) parent-kept) at put in
         let r = room g (inner-in g h) in
         let lt = inner-lt g h in
         let n : get_or u 0 0 ≡ get_or w 0 0 + 0 - old = s.count in
         let c' : Core = re_arity (c.arity - 1) c in
-        let is : tree u₁ ≡ cut_at ys q i = put-tree fewer (omega arith) ∙ ap (λ (l : List Core). set l q c') (spliced-tree gone (omega arith) ∙ ap (λ (k : ℕ). take i ys ++ drop (i + k) ys) eo) in
+        let is : tree v ≡ cut_at ys q i = put-tree fewer (omega arith) ∙ ap (λ (l : List Core). set l q c') (spliced-tree gone (omega arith) ∙ ap (λ (k : ℕ). take i ys ++ drop (i + k) ys) eo) in
         replants (cut_at ys q i) g (apart-then s.apart fewer.apart) (omega (arith, fewer.count, g.good.nodes)) is
         (names-set (take i ys ++ drop (i + count (tree_from ys i)) ys) q c' (g.good.names q) (names-append (take i ys) (drop (i + count (tree_from ys i)) ys) (names-take i ys (omega (arith, tree-length w)) g.good.names) (names-drop (i + count (tree_from ys i)) ys g.good.names)))
         (cut-one h (whole_drop q ys (tree-whole g)) g.one)

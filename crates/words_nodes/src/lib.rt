@@ -1,4 +1,5 @@
-// Operations on the tree's nodes as they stand in the working words. Each contract speaks of the list of nodes.
+// Operations on the tree's nodes as they stand in the working words. Each contract speaks of the list of nodes. `Planted`, and that a node is one of
+// the tree's, are clauses, as `Good` is in words_scopes: a node's number cannot hold the words that it is a number in.
 #![tactic(auto)]
 
 ghost use Rattle.std.specs.Prelude.{◌≡◌, ◌+◌, ◌*◌, ◌-◌, ◌≤◌, ◌<◌, length, drop};
@@ -11,7 +12,7 @@ ghost use Rattle.words_nodes.specs.Nodes.{Planted, Trees, Child, tree_from, valu
 use def_file::form;
 use def_file::kind::Kind;
 use refusal::Refusal;
-use words::{Node, Run, arity_at, kind_at, layout, node_at, put_node, shift};
+use words::{Node, Value, arity_at, kind_at, layout, node_at, put_node, shift};
 
 // The index behind the subtree at i.
 pub fn skip(w: &[u32], i: usize) -> usize
@@ -26,6 +27,14 @@ pub fn skip(w: &[u32], i: usize) -> usize
         at += 1;
     }
     at
+}
+
+// How many nodes the subtree at i has.
+pub fn tree_len(w: &[u32], i: usize) -> usize
+    requires { (Planted w.now) × (i < size w.now) }
+    ensures { (result ≡ count (tree_from (tree w.now) i)) × (0 < result) × (i + result ≤ size w.now) }
+{
+    skip(w, i) - i
 }
 
 // Does the subtree at i have a `this` outside of the functions in it.
@@ -86,27 +95,29 @@ fn slide(w: &mut [u32], i: usize, old: usize, m: usize)
     w[layout::NODE_COUNT] = (n + m - old) as u32;
 }
 
-// The subtree of `old` nodes at i gives way to the run r of the store at word `base`.
-pub fn put_run(w: &mut [u32], i: usize, old: usize, base: usize, r: Run)
-    requires { (Planted w.old) × (i < size w.old) × (old ≡ count (tree_from (tree w.old) i)) × (size w.old + r.len ≤ 1024 + old) × (2064 ≤ base) × (base + (r.at + r.len) * 2 ≤ length w.old) × (0 < r.len) × (Whole (run w.old base r.at r.len)) }
-    ensures { Replants w.old w.new (put_at (tree w.old) i (value_from w.old base r.at r.len)) }
+// The subtree of `old` nodes at i gives way to a recorded value.
+pub fn put_run(w: &mut [u32], i: usize, old: usize, v: Value)
+    requires { (Planted w.old) × (i < size w.old) × (old ≡ count (tree_from (tree w.old) i)) × (size w.old + v.run.len ≤ 1024 + old) × (v.base + (v.run.at + v.run.len) * 2 ≤ length w.old) × (0 < v.run.len) × (Whole (run w.old v.base v.run.at v.run.len)) }
+    ensures { Replants w.old w.new (put_at (tree w.old) i (value_from w.old v.base v.run.at v.run.len)) }
 {
+    let r = v.run;
     slide(w, i, old, r.len);
-    shift(w, base + r.at * 2, layout::NODES + i * 2, r.len * 2);
+    shift(w, v.base + r.at * 2, layout::NODES + i * 2, r.len * 2);
 }
 
 // The subtree at i, at depth p, gives way to a recorded value, if rows 8 and 9 let it.
-pub fn replace_at(w: &mut [u32], i: usize, p: u32, base: usize, r: Run) -> Result<(), Refusal>
-    requires { (Planted w.old) × (i < size w.old) × (p ≤ 201) × (2064 ≤ base) × (base + (r.at + r.len) * 2 ≤ length w.old) × (0 < r.len) × (Whole (run w.old base r.at r.len)) }
-    ensures { Swapped result w.old w.new p i (value_from w.old base r.at r.len) }
+pub fn replace_at(w: &mut [u32], i: usize, p: u32, v: Value) -> Result<(), Refusal>
+    requires { (Planted w.old) × (i < size w.old) × (p ≤ 201) × (v.base + (v.run.at + v.run.len) * 2 ≤ length w.old) × (0 < v.run.len) × (Whole (run w.old v.base v.run.at v.run.len)) }
+    ensures { Swapped result w.old w.new p i (value_from w.old v.base v.run.at v.run.len) }
 {
     let n = w[layout::NODE_COUNT] as usize;
-    within_height(w, base, r.at, r.at + r.len, 201 - p).ok_or(Refusal::Depth)?;
-    let old = skip(w, i) - i;
+    let r = v.run;
+    within_height(w, v.base, r.at, r.at + r.len, 201 - p).ok_or(Refusal::Depth)?;
+    let old = tree_len(w, i);
     if 1024 + old < n + r.len {
         return Err(Refusal::Room);
     }
-    put_run(w, i, old, base, r);
+    put_run(w, i, old, v);
     Ok(())
 }
 
@@ -119,7 +130,7 @@ pub fn put_void(w: &mut [u32], i: usize, p: u32) -> Result<(), Refusal>
         return Err(Refusal::Depth);
     }
     let n = w[layout::NODE_COUNT] as usize;
-    let old = skip(w, i) - i;
+    let old = tree_len(w, i);
     if 1024 + old < n + 2 {
         return Err(Refusal::Room);
     }
@@ -156,18 +167,23 @@ pub fn unwrap(w: &mut [u32], i: usize, j: usize, p: u32) -> Result<(), Refusal>
     ensures { Swapped result w.old w.new p i (tree_from (tree w.old) j) }
 {
     let n = w[layout::NODE_COUNT] as usize;
-    let e = within_height(w, 16, j, n, 201 - p).ok_or(Refusal::Depth)?;
-    let old = skip(w, i) - i;
+    let e = within_height(w, layout::NODES, j, n, 201 - p).ok_or(Refusal::Depth)?;
+    let old = tree_len(w, i);
     lift(w, i, old, j, e - j);
     Ok(())
 }
 
-// The node at q loses its second child, at i: 2048 in its first word is one child.
+// The node at q loses its second child, at i.
 pub fn cut(w: &mut [u32], q: usize, i: usize)
     requires { (Planted w.old) × (Child (tree w.old) q 1 i) }
     ensures { Replants w.old w.new (cut_at (tree w.old) q i) }
 {
-    let old = skip(w, i) - i;
+    let old = tree_len(w, i);
     slide(w, i, old, 0);
-    w[layout::NODES + q * 2] -= 2048;
+    let x = node_at(w, layout::NODES, q);
+    let left = Node {
+        arity: x.arity - 1,
+        ..x
+    };
+    put_node(w, q, left);
 }

@@ -42,7 +42,7 @@ module _ (w t u : List ℕ) (g : Good w) (d : ℕ) (is : get_or w 2 0 ≡ d + 1)
   size : length x ≡ length w
   size = simp length-set (one.size ∙ zeroth.size)
 
-  pub n1 : get_or x 1 0 ≡ n
+  n1 : get_or x 1 0 ≡ n
   n1 = let l = g.long in get_or-set_other (set (set u 1 n) 3 c) 2 1 d 0 (λ e. omega arith) ∙ get_or-set_other (set u 1 n) 3 1 c 0 (λ e. omega arith) ∙ get_or-set_same u 1 n 0 (omega (arith, one.size, zeroth.size))
 
   n3 : get_or x 3 0 ≡ c
@@ -152,13 +152,13 @@ module _ (w t u : List ℕ) (g : Good w) (d : ℕ) (is : get_or w 2 0 ≡ d + 1)
     cfree = rw n3 (λ k l. free-same w x k (λ j a b. keeps j (inr (omega (arith, g.depth))) (λ e. omega arith) (λ e. omega arith) (λ e. omega arith)) (part-crun x g c cfits.0 ow oc k l) (g.cfree k (omega (arith, cfits.0))));
   }
 
-  pub dropped-consts : get_or x 3 0 ≤ get_or w 3 0
+  dropped-consts : get_or x 3 0 ≤ get_or w 3 0
   dropped-consts = omega (arith, n3, cfits.0)
 
-  pub dropped-past : Past 0 w x
+  dropped-past : Past 0 w x
   dropped-past = (λ j a b. low j (omega arith) (inl (omega arith)), λ j a b. keeps j (inr (omega arith)) (λ e. omega arith) (λ e. omega arith) (λ e. omega arith))
 
-  pub dropped : Becomes w x (drop_inner (stack w))
+  dropped : Becomes w x (drop_inner (stack w))
   unfolding stack
   dropped = record {
     good = drop-good;
@@ -168,3 +168,7 @@ module _ (w t u : List ℕ) (g : Good w) (d : ℕ) (is : get_or w 2 0 ≡ d + 1)
     others = record { low = λ j a b. low j (omega arith) (inl (omega arith)); high = λ j a b. keeps j (inr (omega (arith, g.depth))) (λ e. omega arith) (λ e. omega arith) (λ e. omega arith) };
     rest = beyond-same w x size (λ j a. keeps j (inr (omega (arith, g.depth))) (λ e. omega arith) (λ e. omega arith) (λ e. omega arith));
   }
+
+  -- all of it
+  pub shrunk : Becomes w x (drop_inner (stack w)) × Past 0 w x × (get_or x 1 0 ≡ n) × (get_or x 3 0 ≤ get_or w 3 0)
+  shrunk = (dropped, dropped-past, n1, dropped-consts)

@@ -211,6 +211,13 @@ pub record Good (w : List ℕ) : Type 0 where
   pub beside : Beside w
   pub cfree : (k : ℕ) → k < slice_index w 3 → Free (targeted w) (value_of (crun_at w k))
 
+-- the words stand for a state, and it has scope k, or binding k
+abbrev pub HasScope : List ℕ → ℕ → Type 0
+HasScope w k = Good w × (k < get_or w 2 0)
+
+abbrev pub HasBinding : List ℕ → ℕ → Type 0
+HasBinding w k = Good w × (k < get_or w 1 0)
+
 -- the words that no scope has, among the first 16,384: the count of identifiers and what is reserved; what is free, and the first nodes of the identifiers
 pub record Others (w w' : List ℕ) : Type 0 where
   pub low : Agree 4 16 w w'

@@ -1,6 +1,7 @@
 // The scope state in lent words: leaf functions whose contracts speak of the definition's stack of scopes. The words stay a lent slice and `Good` a
 // clause: a struct around a `&mut` makes its lender forget the words unless each function promises that the same slice comes back, so that one clause
-// goes and another comes, and its model is equal to the slice only by a proof.
+// goes and another comes, and its model is equal to the slice only by a proof. Of those that only read, each stands between two that write, so that a
+// struct of the words as they are would be made anew for each call.
 #![tactic(auto)]
 
 ghost use Rattle.std.specs.Prelude.{◌≡◌, ℕ, ◌+◌, ◌-◌, ◌*◌, ◌<◌, ◌≤◌, not, ◌&&◌, ◌∷◌, length, slice_index, IfSome};
@@ -9,12 +10,11 @@ ghost use Rattle.def_pass.specs.Scope.{prevent, defined, count_one, change, prev
 ghost use Rattle.words_prevent.specs.Mark.{marked};
 ghost use Rattle.words.specs.Place.{placed};
 ghost use Rattle.words_scopes.specs.Kinds.{type_of, alias_of, kind_of};
-ghost use Rattle.words_scopes.specs.State.{AreWords, Good, Past, Becomes, stack, heads, binds, place, off, bind_at, name_of, hit_at, Window, recorded, Recorded, drop_inner};
+ghost use Rattle.words_scopes.specs.State.{AreWords, Good, HasBinding, Past, Becomes, stack, heads, binds, place, off, bind_at, name_of, hit_at, Window, recorded, Recorded, drop_inner};
 ghost use Rattle.words_scopes.specs.Index.{Entered, Restored};
 
 use def_file::kind::Kind;
 use kinds::{ScopeKind, VarType, alias_from_word, alias_word};
-use std::num::wrapping_add_u32;
 use words::{first_at, layout, merge, node_at, put, sum_at, wipe};
 use words_prevent::{Binding, mark_all};
 
@@ -33,7 +33,7 @@ pub struct Record {
 }
 
 impl Record {
-    // That of a binding that was not read yet.
+    // That of a binding that was not read yet; its two bools are the definition's arguments.
     pub fn fresh(kind: VarType, alias: Option<VarType>, prevented: bool, undefined: bool) -> Record
         ensures { (i : ℕ) → recorded i result 0 ≡ fresh i (type_of kind) (alias_of alias) prevented undefined none }
     {
@@ -64,6 +64,30 @@ impl Record {
     }
 }
 
+// The current scope, if there is one.
+pub fn current(w: &[u32]) -> Option<usize>
+    requires { 16384 ≤ length w.now }
+    ensures { placed result ≡ slice_index w.now 2 }
+{
+    (w[layout::SCOPE_COUNT] as usize).checked_sub(1)
+}
+
+// Where the bindings of scope k begin, as its own word has it; `first_of` of scope_find answers behind the last scope, too.
+pub fn first_binding(w: &[u32], k: usize) -> usize
+    requires { (16384 ≤ length w.now) × (k < 32) }
+    ensures { result ≡ slice_index w.now (7184 + k * 4 + 1) }
+{
+    w[layout::SCOPES + k * 4 + layout::FIRST_BINDING] as usize
+}
+
+// Where its constants begin. One read each: a field as an argument would be a number in place of a name.
+pub fn first_constant(w: &[u32], k: usize) -> usize
+    requires { (16384 ≤ length w.now) × (k < 32) }
+    ensures { result ≡ slice_index w.now (7184 + k * 4 + 2) }
+{
+    w[layout::SCOPES + k * 4 + layout::FIRST_CONSTANT] as usize
+}
+
 // The innermost binding of x, if there is one.
 pub fn find_binding(w: &[u32], x: u8) -> Option<usize>
     requires { Good w.now }
@@ -84,8 +108,8 @@ pub fn find_by_walk(w: &[u32], x: u8) -> Option<usize>
     let depth = w[layout::SCOPE_COUNT] as usize;
     let mut e = w[layout::BINDING_COUNT] as usize;
     for k in (0..depth).rev() {
-        let a = w[layout::SCOPES + k * 4 + layout::FIRST_BINDING] as usize;
-        if let Some(r) = first_at(w, layout::BINDINGS, 10, a, e, x) {
+        let a = first_binding(w, k);
+        if let Some(r) = first_at(w, layout::BINDING_TABLE, a, e, x) {
             return Some(r);
         }
         e = a;
@@ -93,7 +117,7 @@ pub fn find_by_walk(w: &[u32], x: u8) -> Option<usize>
     None
 }
 
-// Marks the innermost binding of x, if there is one. This and the next two are of one field each, with a definition each.
+// Marks the innermost binding of x, if there is one. This, `define` and `count_one` change one word each, with a definition each.
 pub fn prevent_found(w: &mut [u32], x: u8)
     requires { Good w.old }
     ensures { Becomes w.old w.new (change x prevent (stack w.old)) }
@@ -123,12 +147,12 @@ pub fn count_one(w: &mut [u32], x: u8)
         return;
     };
     let n = w[layout::COUNTS + k];
-    w[layout::COUNTS + k] = wrapping_add_u32(n, 1);
+    w[layout::COUNTS + k] = n.wrapping_add(1);
 }
 
 // The identifier that the value of binding k is, if it is one; the value begins at node at of the store.
 pub fn named(w: &[u32], k: usize, at: usize) -> Option<u32>
-    requires { (Good w.now) × (k < slice_index w.now 1) × (at ≡ off w.now k) × (at + slice_index w.now (4112 + k * 10 + 8) ≤ 512) }
+    requires { (HasBinding w.now k) × (at ≡ off w.now k) × (at + slice_index w.now (4112 + k * 10 + 8) ≤ 512) }
     ensures { result ≡ name_of (bind_at w.now k).value }
 {
     if w[layout::BINDINGS + k * 10 + layout::LENGTH] == 0 {
@@ -144,7 +168,7 @@ pub fn named(w: &[u32], k: usize, at: usize) -> Option<u32>
 // Whether binding k, whose record begins at word p, gets a mark that it has not: it has none, and x is its identifier or its value, which begins at
 // node at of the store.
 fn to_mark(w: &[u32], k: usize, p: usize, at: usize, x: u8) -> bool
-    requires { (Good w.now) × (k < slice_index w.now 1) × (p ≡ 4112 + k * 10) × (at ≡ off w.now k) }
+    requires { (HasBinding w.now k) × (p ≡ 4112 + k * 10) × (at ≡ off w.now k) }
     ensures { result ≡ (not (bind_at w.now k).inline_prevented && hit_at w.now k x) }
 {
     w[p + layout::PREVENTED] == 0
@@ -155,7 +179,7 @@ fn to_mark(w: &[u32], k: usize, p: usize, at: usize, x: u8) -> bool
 // The bindings from k on as records, oldest first, as many as an array holds; the value of k begins at node at. An array of a fixed length, since
 // there is no heap, and the words have no records to lend; past the last binding stands a record of no identifier.
 fn records(w: &[u32], k: usize, at: usize) -> [Binding; 8]
-    requires { (Good w.now) × (k < slice_index w.now 1) × (at ≡ off w.now k) }
+    requires { (HasBinding w.now k) × (at ≡ off w.now k) }
     ensures { (length result ≡ 8) × (Window (λ b. b) w.now k result) }
 {
     let n = w[layout::BINDING_COUNT] as usize;
@@ -166,7 +190,7 @@ fn records(w: &[u32], k: usize, at: usize) -> [Binding; 8]
         prevented: false,
     }; 8];
     let mut o = at;
-    // By the index, which is the binding's too.
+    // By the index, which is the binding's too; over `iter_mut` the array is not named in the invariant.
     for i in 0..e {
         let j = k + i;
         bs[i] = Binding {
@@ -182,7 +206,7 @@ fn records(w: &[u32], k: usize, at: usize) -> [Binding; 8]
 // The same records in the same array, x and its aliases among them marked; beside the pass, so that the pass keeps its registers.
 #[inline(never)]
 fn marks_of(w: &[u32], k: usize, at: usize, x: u8) -> [Binding; 8]
-    requires { (Good w.now) × (k < slice_index w.now 1) × (at ≡ off w.now k) }
+    requires { (HasBinding w.now k) × (at ≡ off w.now k) }
     ensures { Window (marked x) w.now k result }
 {
     let mut bs = records(w, k, at);
@@ -223,12 +247,13 @@ pub fn prevent_inline(w: &mut [u32], x: u8)
     }
 }
 
-// How many nodes the values before binding e have, if those before binding k have `at`.
+// How many nodes the values before binding e have, if those before binding k have `at`. It goes beside k, here and above, as a running sum of the
+// loops, so that it is not added up anew; a struct of the two has no words, and could not say that `at` belongs to k.
 pub fn offset_from(w: &[u32], k: usize, at: usize, e: usize) -> usize
     requires { (Good w.now) × (k ≤ e) × (e ≤ slice_index w.now 1) × (at ≡ off w.now k) × (at ≤ 512) }
     ensures { (result ≡ off w.now e) × (result ≤ 512) }
 {
-    at + sum_at(w, layout::BINDINGS + layout::LENGTH, 10, k, e)
+    at + sum_at(w, layout::LENGTHS, k, e)
 }
 
 // How many nodes the values before binding k have.
@@ -245,10 +270,10 @@ fn enter(w: &mut [u32], n: usize, x: u8, a: usize)
     requires { (16384 ≤ length w.old) × (n < 256) }
     ensures { Entered w.old w.new n x a }
 {
-    let o = w[layout::INDEX + x as usize];
+    let o = w[layout::INDEX + usize::from(x)];
     w[layout::SHADOWED + n] = o;
     if o as usize <= a {
-        w[layout::INDEX + x as usize] = (n + 1) as u32;
+        w[layout::INDEX + usize::from(x)] = (n + 1) as u32;
     }
 }
 
@@ -288,7 +313,7 @@ pub fn append_record(w: &mut [u32], id: u8, r: Record, count: u32)
 {
     let n = w[layout::BINDING_COUNT] as usize;
     let d = w[layout::SCOPE_COUNT] as usize - 1;
-    let a = w[layout::SCOPES + d * 4 + layout::FIRST_BINDING] as usize;
+    let a = first_binding(w, d);
     enter(w, n, id, a);
     let p = layout::BINDINGS + n * 10;
     wipe(w, p, 10);
@@ -333,16 +358,16 @@ pub fn drop_scope(w: &mut [u32])
     ensures { (Becomes w.old w.new (drop_inner (stack w.old))) × (Past 0 w.old w.new) × (slice_index w.new 1 ≡ slice_index w.old (7184 + (slice_index w.old 2 - 1) * 4 + 1)) × (slice_index w.new 3 ≤ slice_index w.old 3) }
 {
     let d = w[layout::SCOPE_COUNT] as usize - 1;
-    let n = w[layout::SCOPES + d * 4 + layout::FIRST_BINDING];
-    let c = w[layout::SCOPES + d * 4 + layout::FIRST_CONSTANT];
-    restore(w, n as usize);
+    let n = first_binding(w, d);
+    let c = first_constant(w, d);
+    restore(w, n);
     merge(
         w,
         layout::UNRESOLVED + d * 8,
         layout::UNRESOLVED + (d - 1) * 8,
         8,
     );
-    w[layout::BINDING_COUNT] = n;
-    w[layout::CONSTANT_COUNT] = c;
+    w[layout::BINDING_COUNT] = n as u32;
+    w[layout::CONSTANT_COUNT] = c as u32;
     w[layout::SCOPE_COUNT] = d as u32;
 }

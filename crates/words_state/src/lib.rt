@@ -20,7 +20,7 @@ pub enum PatFoldingMode {
 }
 
 impl PatFoldingMode {
-    // The mode that a word stands for.
+    // The mode that a word stands for. No `From`: a word past the last case is taken for that, which a conversion does not say.
     pub fn from_word(n: u32) -> PatFoldingMode
         ensures { pat_mode_of result ≡ mode_of n }
     {
@@ -77,7 +77,7 @@ pub fn restore_fields(w: &mut [u32], f: SavedFields)
     set_in_test(w, f.in_test);
 }
 
-// A field of the visitor that is a flag, as its word has it.
+// A field of the visitor that is a flag, as its word has it. A getter for each, as a setter for each below.
 #[tactic(auto, unfolding(crate::specs::State::rest))]
 pub fn changed(w: &[u32]) -> bool
     requires { 16384 ≤ length w.now }

@@ -6,7 +6,8 @@ use Rattle.words.specs.Flags.{flag_at}
 use Rattle.words.specs.Layout.{yes, node_of, tree}
 use Rattle.words_scopes.specs.State.{Names, targeted}
 
--- a script stands in the words, and nothing is known of the others
+-- a script stands in the words, and nothing is known of the others: a fact of the words, which stay a lent slice, and so a clause of three functions, as
+-- `Good` is in words_scopes
 pub record Script (w : List ℕ) : Type 0 where
   pub long : 16384 ≤ length w
   pub few : get_or w 0 0 ≤ 1024

@@ -34,6 +34,10 @@ module _ {w : List ℕ} (g : Planted w) {j : ℕ} (l : j < get_or w 0 0) where
   there : j < length (tree w)
   there = rw tree-length l
 
+  -- the node stands in the words
+  pub in-words : (16384 ≤ length w) × (j < 1024)
+  in-words = (g.good.long, omega (arith, g.good.nodes, l))
+
   pub node-tree : t ≡ node n.kind n.form n.num (forest_from (tree w) n.arity (j + 1))
   node-tree = tree_is (tree w) j there ∙ ap (λ (c : Core). node c.kind c.form c.num (forest_from (tree w) c.arity (j + 1))) (tree-at w j l)
 

@@ -29,7 +29,7 @@ use Rattle.words_twice.specs.Twice.{outside, Stand, Plain, flag_node, flagged_fr
 use Rattle.words_twice.proofs.Places.{split-trees, open-stand}
 use Rattle.words_twice.proofs.Bare.{bare, bare-node, bare-flags, same_test, same-trees}
 use Rattle.words_twice.proofs.Flagging.{Left, left-start, left-all, left_open, in_step, first-stand, body-stand, past-done, place-behind, place-flagged, counts-flags}
-use Rattle.words_twice.proofs.Looks.{node-kids}
+use Rattle.words_twice.proofs.Looks.{in-words, node-kids}
 
 -- flagging changes forms of bindings alone, and nothing behind the trees
 module _ (b : ℕ → Bool) (xs : List Core) (n i : ℕ) where
@@ -125,6 +125,9 @@ module _ {b : ℕ → Bool} {w v : List ℕ} {n i at more : ℕ} (F : Flagging b
   pub inside : at < get_or v 0 0
   inside = in_tree F.planted (left_open F.left) z
 
+  pub here : (16384 ≤ length v) × (at < 1024)
+  here = in-words F.planted inside
+
   at-is : get_or (tree v) at no_core ≡ x
   at-is = ap (λ (ys : List Core). get_or ys at no_core) C.here ∙ get_or_at C.p x rest no_core at C.long
 
@@ -157,14 +160,18 @@ module _ {b : ℕ → Bool} {w v : List ℕ} {n i at more : ℕ} (F : Flagging b
     out-is : out ≡ outside C.k C.f (length_f C.us)
     out-is = eo ∙ rw (ek ∙ ap (λ (y : Core). y.kind) node-is, ef ∙ ap (λ (y : Core). y.form) node-is, kids-are) refl
 
-    pub name-stands : Stand (tree v) (at + 1) out
+    name-stands : Stand (tree v) (at + 1) out
     name-stands = rw (out-is, C.here) (first-stand b C.p C.k C.f C.a C.us C.vs C.z C.long)
 
-    pub name-plain : Plain (tree v) (at + 1)
+    name-plain : Plain (tree v) (at + 1)
     name-plain = plain-later (omega arith) F.plain
 
+    -- its name stands, and has room for a flag
+    pub name : Stand (tree v) (at + 1) out × Plain (tree v) (at + 1)
+    name = (name-stands, name-plain)
+
     module _ {v₁ : List ℕ} {r₁ : ℕ} {b' : ℕ → Bool} (eb : b' ≡ b) (e₁ : r₁ ≡ at + 1 + counts (forest_from (tree v) out (at + 1))) (R₁ : Replants v v₁ (flagged_from b' (tree v) out (at + 1))) where
-      pub body-plain : Plain (tree v₁) r₁
+      body-plain : Plain (tree v₁) r₁
       body-plain = rw (e₁, R₁.is) (plain-from b' (tree v) out (at + 1) name-stands.inside name-plain)
 
       name_done : tree v₁ ≡ flagged_from b (C.p ++ (x ∷ rest)) (outside C.k C.f (length_f C.us)) (at + 1)
@@ -176,11 +183,12 @@ module _ {b : ℕ → Bool} {w v : List ℕ} {n i at more : ℕ} (F : Flagging b
       left_is : c - out ≡ length_f C.us - outside C.k C.f (length_f C.us)
       left_is = ap₂ {C = ℕ} (λ (m o : ℕ). m - o) kids-are out-is
 
-      pub body-stands : Stand (tree v₁) r₁ (c - out)
+      body-stands : Stand (tree v₁) r₁ (c - out)
       body-stands = rw left_is (body-stand b C.p C.k C.f C.a C.us C.vs C.z C.long name_done name-ends)
 
-      pub later : at < r₁
-      later = omega (arith, e₁)
+      -- the rest of it: where it begins, that it stands, and that it has room for flags
+      pub body : (at < r₁) × Stand (tree v₁) r₁ (c - out) × Plain (tree v₁) r₁
+      body = (omega (arith, e₁), body-stands, body-plain)
 
       pub shut-done : {v₂ : List ℕ} {r₂ : ℕ} → is_function k ≡ true → r₂ ≡ r₁ + counts (forest_from (tree v₁) (c - out) r₁) → Replants v₁ v₂ (flagged_from (twice (forest_from (tree v₁) (c - out) r₁)) (tree v₁) (c - out) r₁) → Flagging b w v₂ n i r₂ (more - 1)
       shut-done {v₂} {r₂} h e₂ R₂ =

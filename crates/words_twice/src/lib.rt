@@ -1,5 +1,6 @@
 // Request 3: the bindings of the identifiers that a function or the script itself declares more than once by `var`, where one initialiser is no
-// literal, flagged in the tree as read. The functions have the names of the definition.
+// literal, flagged in the tree as read. `binds`, `twice` and `flag_node` are the definition's; n, i: n trees from node i on, of which each loop
+// changes both; a, m: the trees that a function or the script declares by, as they come.
 #![tactic(auto)]
 
 ghost use Rattle.std.specs.Prelude.{◌≡◌, List, Bool, ℕ, ◌+◌, ◌<◌, get_or, set};

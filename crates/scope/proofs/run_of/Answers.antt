@@ -1,5 +1,3 @@
-use Prim.Native.Nat.{◌-◌}
-use native.Mathlib.Omega.{arith}
 use Rattle.scope.proofs.Given as given
 use mathlib.Core.Path.{refl}
 use Rattle.scope.proofs.run_of.Goals as goal
@@ -14,4 +12,4 @@ pub returns : goal.returns
 returns c =
     let w = c.args.w.now in
     let i = c.in-Some.i in
-    rw c.in-Some.is (given.runs-tree c.requires (c.if-not-in_tree.ensures.0 refl) (c.skip.result - i) (omega (arith, c.skip.ensures.0)) (omega (arith, c.skip.ensures.0, c.skip.ensures.2)))
+    rw c.in-Some.is (given.runs-tree c.requires (c.if-not-in_tree.ensures.0 refl) c.tree_len.result c.tree_len.ensures.0 c.tree_len.ensures.2)

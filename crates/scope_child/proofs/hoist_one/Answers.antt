@@ -21,13 +21,13 @@ returns-then-not-is_var c =
 pub set_run-requires : goal.set_run-requires
 set_run-requires c =
     let g = c.requires.0 in
-    (g, c.in-Some.ensures.below, none-offered c.args.w.now 0 (omega arith), omega (arith, g.recorded))
+    ((g, c.in-Some.ensures.own.below), none-offered c.args.w.now 0 (omega arith), omega (arith, g.recorded))
 
 pub rewrite-requires : goal.rewrite-requires
 rewrite-requires c =
     let l = c.set_run.ensures.0 in
     let n = listed-count c.in-Some.k _ c.requires.0 l in
-    (l.good, omega (arith, c.in-Some.ensures.below))
+    (l.good, omega (arith, c.in-Some.ensures.own.below))
 
 pub set_count-requires : goal.set_count-requires
 set_count-requires c =
@@ -35,7 +35,7 @@ set_count-requires c =
     let m = c.rewrite.ensures.0 in
     let n = listed-count c.in-Some.k _ c.requires.0 l in
     let k = listed-count c.in-Some.k _ l.good m in
-    (m.good, omega (arith, c.in-Some.ensures.below))
+    (m.good, omega (arith, c.in-Some.ensures.own.below))
 
 pub returns : goal.returns
 returns c =
@@ -50,7 +50,7 @@ returns c =
     let either : p ≡ (c.flag_at-used.result || r.prevented) = elim c.if-used.branch [ then-used v ↦ v.hoisted-is ∙ rw v.if-used.true refl | else-used v ↦ v.hoisted-is ∙ rw v.if-used.false refl ] in
     let mark = either ∙ ap (λ (b : Bool). b || r.prevented) (c.flag_at-used.ensures ∙ sym (top.unres-at w g c.requires.1 x c.requires.4)) in
     let k = c.in-Some.k in
-    let o = c.in-Some.ensures in
+    let o = c.in-Some.ensures.own in
     let one = rw (none-value w 0) at c.set_run.ensures.0 in
     let both = twice k (with_value none (bind_at w k)) (refill (up w j x r t refl var p mark)) o.below g one c.rewrite.ensures.0 in
     let three = twice k (refill (up w j x r t refl var p mark) (with_value none (bind_at w k))) (with_count (get_or w (8080 + j) 0)) o.below g both c.set_count.ensures.0 in
@@ -77,6 +77,6 @@ returns-in_default c =
     let either : p ≡ (c.flag_at-used.result || r.prevented) = elim c.if-used.branch [ then-used v ↦ v.hoisted-is ∙ rw v.if-used.true refl | else-used v ↦ v.hoisted-is ∙ rw v.if-used.false refl ] in
     let mark = either ∙ ap (λ (b : Bool). b || r.prevented) (c.flag_at-used.ensures ∙ sym (top.unres-at w c.requires.0 c.requires.1 x c.requires.4)) in
     let e = c.append_record.ensures in
-    let o = c.in_default.ensures in
+    let o = c.in_default.ensures.own in
     let s = gone-absent w j x r t refl var p mark o ∙ ap (λ (c : VarInfo). append c (stack w)) (sym (bare-gone w j x r t refl var p mark)) in
     (rw s e.0, (λ i a b. e.1.0 i (omega arith) b, λ i a b. e.1.1 i (omega arith) b), omega (arith, e.2), e.3, ends-absent w j x r t refl var p mark o)

@@ -6,7 +6,7 @@ use Rattle.scope_constants.proofs.own_const.Goals as goal
 pub first_at-requires : goal.first_at-requires
 first_at-requires c =
     let g = c.requires.0 in
-    (g.long, top-fits c.args.w.now g c.requires.1, g.ccount, omega arith, omega arith)
+    (g.long, rw c.first_constant-a.ensures (top-fits c.args.w.now g c.requires.1), g.ccount, omega arith, omega arith)
 
 pub returns : goal.returns
-returns c = own c.args.w.now c.requires.0 c.requires.1 c.args.x c.first_at.result c.first_at.ensures
+returns c = own c.args.w.now c.requires.0 c.requires.1 c.args.x c.first_at.result (rw c.first_constant-a.ensures at c.first_at.ensures)

@@ -8,7 +8,7 @@ use Rattle.scope_values.proofs.Listed as listed
 use Rattle.scope_constants.proofs.replace_const.Goals as goal
 
 pub room_for-requires : goal.room_for-requires
-room_for-requires c = consts.passes-asks c.args.w.now c.requires.0 c.args.k c.requires.1 c.args.r c.requires.2
+room_for-requires c = consts.room-asks c.args.w.now c.requires.0 c.args.k c.requires.1 c.args.r c.requires.2
 
 pub returns-in_err-room_for : goal.returns-in_err-room_for
 returns-in_err-room_for c =

@@ -6,7 +6,7 @@ use Rattle.words_scopes.specs.State.{stack}
 use Rattle.scope_declare.proofs.alias_for.Goals as goal
 
 pub returns-in_err-k : goal.returns-in_err-k
-returns-in_err-k c = rw c.from_residual.ensures (sym (init.alias-find c.args.y (stack c.args.w.now) ∙ ap init.kind_of_o c.in_err-k.ensures.0))
+returns-in_err-k c = rw c.from_residual.ensures (sym (init.alias-find c.args.y (stack c.args.w.now) ∙ ap init.kind_of_o c.in_err-k.ensures.found.0))
 
 pub returns : goal.returns
-returns c = ap some c.var_type.ensures ∙ sym (init.alias-find c.args.y (stack c.args.w.now) ∙ ap init.kind_of_o c.in_ok-k.ensures.0)
+returns c = ap some c.var_type.ensures ∙ sym (init.alias-find c.args.y (stack c.args.w.now) ∙ ap init.kind_of_o c.in_ok-k.ensures.found.0)

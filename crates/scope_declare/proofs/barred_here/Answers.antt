@@ -10,11 +10,6 @@ use Rattle.scope_find.specs.Look.{bars_here}
 use Rattle.scope_declare.specs.Inits.{place_here}
 use Rattle.scope_declare.proofs.barred_here.Goals as goal
 
-pub returns-in_default : goal.returns-in_default
-returns-in_default c =
-    let st = stack c.args.w.now in
-    sym (ap (λ (o : Option (ℕ × VarInfo)). barred o (place_here c.args.x st) (bars_here st)) c.in_default.ensures)
-
 pub returns : goal.returns
 returns c =
     let st = stack c.args.w.now in

@@ -38,7 +38,7 @@ set_run-requires c =
     let now = subst (λ (b : VarInfo). Becomes w u (append b (stack w))) (c.fresh-record.ensures c.args.x) e.0 in
     let bare = fresh c.args.x (type_of d.kind) (alias_of d.alias) d.prevented d.undefined none in
     let l = listed.room (recorded_nodes (stack w) - 0 + c.args.r.len) (live (stack w) + 1) c.in_ok-room_for.ensures in
-    (now.good, omega (arith, e.2), listed.same-offered w u now.tree c.args.r c.requires.2, omega (arith, l.0, declares.vals-after w c.requires.0 c.requires.1 bare u now e.2))
+    ((now.good, omega (arith, e.2)), listed.same-offered w u now.tree c.args.r c.requires.2, omega (arith, l.0, declares.vals-after w c.requires.0 c.requires.1 bare u now e.2))
 
 pub returns-then-r-gt0 : goal.returns-then-r-gt0
 returns-then-r-gt0 c =

@@ -26,7 +26,7 @@ returns-in-Seen c =
     let v = c.args.v in
     let r = nodes_of v c.args.len in
     let same = declares.same-declared w v c.args.len c.requires.2 {seen = true} (sym (ap is_seen c.in-Seen.is)) {r = r} refl c.args.x d.prevented d.undefined (type_of d.kind) (alias_of d.alias) (stack w) in
-    let there = declares.put-there-is w c.args.x true (run_value w r) d.prevented d.undefined (type_of d.kind) (alias_of d.alias) c.in-Some.k c.in-Some.ensures in
+    let there = declares.put-there-is w c.args.x true (run_value w r) d.prevented d.undefined (type_of d.kind) (alias_of d.alias) c.in-Some.k c.in-Some.ensures.own in
     let new = redeclare d.prevented d.undefined (bind_at w c.in-Some.k).value (bind_at w c.in-Some.k) in
     rw (sym same ∙ there) (listed.done-under (listed.listed-becomes (put_at w c.in-Some.k new) refl c.redeclare_seen.ensures))
 
@@ -38,7 +38,7 @@ returns-in-NoInit c =
     let r = nodes_of v c.args.len in
     let unseen : is_seen v ≡ false = elim c.in-NoInit.is [ inl a ↦ ap is_seen a | inr b ↦ ap is_seen b.1 ] in
     let same = declares.same-declared w v c.args.len c.requires.2 {seen = false} (sym unseen) {r = r} refl c.args.x d.prevented d.undefined (type_of d.kind) (alias_of d.alias) (stack w) in
-    let there = declares.put-there-is w c.args.x false (run_value w r) d.prevented d.undefined (type_of d.kind) (alias_of d.alias) c.in-Some.k c.in-Some.ensures in
+    let there = declares.put-there-is w c.args.x false (run_value w r) d.prevented d.undefined (type_of d.kind) (alias_of d.alias) c.in-Some.k c.in-Some.ensures.own in
     rw (sym same ∙ there) (rw c.nodes.ensures at c.redeclare_as.ensures)
 
 pub returns-in-Seen-v : goal.returns-in-Seen-v
@@ -48,7 +48,7 @@ returns-in-Seen-v c =
     let v = c.args.v in
     let r = nodes_of v c.args.len in
     let same = declares.same-declared w v c.args.len c.requires.2 {seen = true} (sym (ap is_seen c.in-Seen-v.is)) {r = r} refl c.args.x d.prevented d.undefined (type_of d.kind) (alias_of d.alias) (stack w) in
-    let absent = declares.put-absent-is w c.args.x true (run_value w r) d.prevented d.undefined (type_of d.kind) (alias_of d.alias) c.in-None.ensures in
+    let absent = declares.put-absent-is w c.args.x true (run_value w r) d.prevented d.undefined (type_of d.kind) (alias_of d.alias) c.in-None.ensures.own in
     rw (sym same ∙ absent) (rw (listed.none-value w 0) at c.declare_new.ensures)
 
 pub returns-in-NoInit-v : goal.returns-in-NoInit-v
@@ -59,5 +59,5 @@ returns-in-NoInit-v c =
     let r = nodes_of v c.args.len in
     let unseen : is_seen v ≡ false = elim c.in-NoInit-v.is [ inl a ↦ ap is_seen a | inr b ↦ ap is_seen b.1 ] in
     let same = declares.same-declared w v c.args.len c.requires.2 {seen = false} (sym unseen) {r = r} refl c.args.x d.prevented d.undefined (type_of d.kind) (alias_of d.alias) (stack w) in
-    let absent = declares.put-absent-is w c.args.x false (run_value w r) d.prevented d.undefined (type_of d.kind) (alias_of d.alias) c.in-None.ensures in
+    let absent = declares.put-absent-is w c.args.x false (run_value w r) d.prevented d.undefined (type_of d.kind) (alias_of d.alias) c.in-None.ensures.own in
     rw (sym same ∙ absent) (rw c.nodes-in-NoInit-v.ensures at c.declare_new-in-NoInit-v.ensures)

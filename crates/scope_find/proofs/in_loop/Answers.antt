@@ -1,35 +1,22 @@
--- Outwards: the invariant is that the answer is that of the scopes left. Assumes nothing.
-use Rattle.std.proofs.Common.{◌≡◌, ◌-◌, sym, ap, ◌∙◌, arith, ⊎_elim}
-use Rattle.def_pass.specs.Scope.{is_fn, is_loop, in_loop}
-use Rattle.words_scopes.specs.declared.kinds.ScopeKind.TheVariants.{Cond, Block}
+-- The first scope outwards that is a function or a loop. Assumes nothing.
+use Rattle.std.proofs.Common.{rules, ◌≡◌, get_or, ℕ, Some, None, ap, sym, ◌∙◌, arith}
+use Rattle.std.specs.Option.{option_map}
+use Rattle.std.specs.Iterator.Adapters.{rev_source}
+use Rattle.std.proofs.lemmas.Iterator.{YieldsList-from_map_by}
+use Rattle.std.proofs.lemmas.Iterator.Search.{find_from_yields_List}
+use Rattle.def_pass.specs.Scope.{in_loop}
+use Rattle.words_scopes.specs.declared.kinds.ScopeKind.TheVariants.{Cond, Loop, Block, Fn}
 use Rattle.words_scopes.specs.Kinds.{kind_of}
-use Rattle.scope_find.specs.Look.{scope_at, below}
+use Rattle.scope_find.proofs.Down.{downwards}
 use Rattle.scope_find.proofs.Out as out
 use Rattle.scope_find.proofs.in_loop.Goals as goal
 
-pub loop-k-init : goal.loop-k-init
-loop-k-init c = ap in_loop (out.below_all c.args.w.now)
-
-pub returns-in-Fn : goal.returns-in-Fn
-returns-in-Fn c =
-    let w = c.args.w.now in
-    let k = c.loop-k.k in
-    sym (c.loop-k.invariant ∙ ap in_loop (out.turn w k c.requires (omega arith) (omega arith)) ∙ out.loop-out (scope_at w (k - 1)) (below w (k - 1)) (ap is_fn (sym c.in-Fn.ensures)))
-
-pub returns-in-Loop : goal.returns-in-Loop
-returns-in-Loop c =
-    let w = c.args.w.now in
-    let k = c.loop-k.k in
-    sym (c.loop-k.invariant ∙ ap in_loop (out.turn w k c.requires (omega arith) (omega arith)) ∙ out.loop-here (scope_at w (k - 1)) (below w (k - 1)) (ap is_fn (sym c.in-Loop.ensures)) (ap is_loop (sym c.in-Loop.ensures)))
-
-pub loop-k-preserved : goal.loop-k-preserved
-loop-k-preserved c =
-    let w = c.args.w.now in
-    let k = c.loop-k.k in
-    c.loop-k.invariant ∙ ap in_loop (out.turn w k c.requires (omega arith) (omega arith)) ∙ ⊎_elim
-    (λ (e : c.scope_kind.result ≡ Cond). let q = sym c.scope_kind.ensures ∙ ap kind_of e in out.loop-on (scope_at w (k - 1)) (below w (k - 1)) (ap is_fn q) (ap is_loop q))
-    (λ (e : c.scope_kind.result ≡ Block). let q = sym c.scope_kind.ensures ∙ ap kind_of e in out.loop-on (scope_at w (k - 1)) (below w (k - 1)) (ap is_fn q) (ap is_loop q))
-    c.in-Cond.is
-
 pub returns : goal.returns
-returns c = sym (c.loop-k.invariant ∙ ap in_loop (out.below_end c.args.w.now c.loop-k.k (omega arith)))
+returns c =
+    let w = c.args.w.now in
+    let d : ℕ = get_or w 2 0 in
+    let first = find_from_yields_List out.stops _ _ _ c.find.ensures.ran
+    (YieldsList-from_map_by _ kind_of (out.kind-at w) (downwards d (ap rev_source c.map.ensures.source ∙ c.rev.ensures.source)) c.map.ensures.closure (λ x r q h. search rules))
+    (λ x b q h. elim x [ Cond ↦ search rules | Loop ↦ search rules | Block ↦ search rules | Fn n ↦ search rules ]) in
+    let found : c.is_some_and.result ≡ out.said (option_map kind_of c.find.result) = elim c.find.result [ None ↦ search rules | Some Cond ↦ search rules | Some Loop ↦ search rules | Some Block ↦ search rules | Some (Fn n) ↦ search rules ] in
+    found ∙ ap out.said first ∙ out.loop-first w c.requires d (omega arith) ∙ sym (ap in_loop (out.below_all w))

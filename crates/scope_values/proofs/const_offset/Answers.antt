@@ -1,14 +1,9 @@
 -- The nodes of the earlier constants. Assumes nothing.
-use Prim.Native.Nat.{◌+◌, ◌*◌}
-use native.Mathlib.Omega.{arith}
-use lib.ListN.{get_or}
+use Rattle.std.proofs.Common.{◌+◌, ◌*◌, arith, get_or}
 use Rattle.words.specs.Tab as sums
 use Rattle.words_scopes.specs.State.{clen_at}
 use Rattle.words_scopes.proofs.Words.{words-const}
 use Rattle.scope_values.proofs.const_offset.Goals as goal
-
-pub sum_at-requires : goal.sum_at-requires
-sum_at-requires c = (c.requires.0.long, omega arith, omega (arith, c.requires.0.ccount, c.requires.1), omega arith, omega arith)
 
 pub returns : goal.returns
 returns c =

@@ -11,7 +11,7 @@ pub returns-in_default : goal.returns-in_default
 returns-in_default c = listed.done-under (unfound c.args.w.now c.args.x (with_value (run_value c.args.w.now c.args.r)) c.requires.0 (sym c.in_default.ensures.place))
 
 pub room_for-requires : goal.room_for-requires
-room_for-requires c = listed.passes-asks c.args.w.now c.requires.0 c.in-Some.k c.in-Some.ensures.bound c.args.r c.requires.1
+room_for-requires c = listed.room-asks c.args.w.now c.requires.0 c.in-Some.k c.in-Some.ensures.bound c.args.r c.requires.1
 
 pub returns-in_err-room_for : goal.returns-in_err-room_for
 returns-in_err-room_for c =

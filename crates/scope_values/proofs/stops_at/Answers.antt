@@ -49,9 +49,6 @@ nodes_in-sum-requires c =
     let t = begins w g (c.loop-k.k - 1) c.loop-k.e c.loop-k.c (last w c.loop-k.k c.loop-k.e z v.3) (clast w c.loop-k.k c.loop-k.c z v.4) v.1 v.2 in
     (g, omega (arith, g.depth), t.0, v.1, t.1, v.2)
 
-pub overflow_add-sum : goal.overflow_add-sum
-overflow_add-sum c = omega (arith, c.loop-k.invariant.5, c.nodes_in-sum.ensures, c.requires.0.recorded, c.requires.1)
-
 pub loop-k-preserved : goal.loop-k-preserved
 loop-k-preserved c =
     let w = c.args.w.now in
@@ -68,7 +65,7 @@ loop-k-preserved c =
     let r = c.nodes_in-sum.result in
     let s = c.loop-k.sum in
     let i : ℕ = get_or w 2 0 - c.loop-k.k in
-    let p : i + 1 ≡ get_or w 2 0 - k = omega arith in (
+    let p : i + 1 ≡ get_or w 2 0 - k = omega arith in rw (c.first_binding-e.ensures, c.first_constant-c.ensures) (
       refl,
       omega arith,
       omega arith,

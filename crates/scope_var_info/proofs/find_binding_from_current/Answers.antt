@@ -7,5 +7,5 @@ pub returns : goal.returns
 returns c =
     let w = c.args.w.now in
     let r = placed c.find_binding_from_current.result in
-    let found = c.find_binding_from_current.ensures in
+    let found = c.find_binding_from_current.ensures.found in
     (found.0 ∙ numbers.number-place w c.requires r found.1, numbers.number-most w c.requires r found.1)

@@ -7,10 +7,12 @@ use Rattle.scope_var_info.proofs.put_held.Goals as goal
 pub returns-then-p-gt201 : goal.returns-then-p-gt201
 returns-then-p-gt201 c =
     let w = c.args.w.now in
-    let e = value_from w c.args.base c.args.r.at c.args.r.len in
-    numbers.puts-at w c.args.p c.args.i e (Err Depth) _ (c.in_tree.ensures.0 c.if-in_tree.true) (numbers.too-deep w c.args.p c.args.i e c.if-p-gt201.true)
+    let v = c.in-Some.v in
+    let e = value_from w v.base v.run.at v.run.len in
+    rw c.in-Some.is (numbers.puts-at w c.args.p c.args.i e (Err Depth) w (c.in_tree.ensures.0 c.if-not-in_tree.false) (numbers.too-deep w c.args.p c.args.i e c.if-p-gt201.true))
 
-pub returns-then-in_tree : goal.returns-then-in_tree
-returns-then-in_tree c =
+pub returns : goal.returns
+returns c =
     let w = c.args.w.now in
-    numbers.puts-at w c.args.p c.args.i (value_from w c.args.base c.args.r.at c.args.r.len) c.replace_at.result _ (c.in_tree.ensures.0 c.if-in_tree.true) c.replace_at.ensures
+    let v = c.in-Some.v in
+    rw c.in-Some.is (numbers.puts-at w c.args.p c.args.i (value_from w v.base v.run.at v.run.len) c.replace_at.result _ (c.in_tree.ensures.0 c.if-not-in_tree.false) c.replace_at.ensures)

@@ -2,5 +2,5 @@
 use Rattle.walk_declarator.proofs.Ends as ends
 use Rattle.walk_declarator.proofs.cut_init.Goals as goal
 
-pub skip-requires : goal.skip-requires
-skip-requires c = (c.requires.0, ends.child-at c.requires.0 c.requires.1)
+pub tree_len-old-requires : goal.tree_len-old-requires
+tree_len-old-requires c = (c.requires.0, ends.child-at c.requires.0 c.requires.1)

@@ -1,7 +1,7 @@
 -- The second child in the place of its parent. Assumes nothing.
-use Rattle.std.proofs.Common.{◌≡◌, ℕ, ◌+◌, ◌-◌, refl, ap, arith}
+use Rattle.std.proofs.Common.{ℕ, ◌+◌, refl, ap}
 use Rattle.refusal.proofs.Rows.{exit}
-use Rattle.def_tree.specs.Tree.{Tree, count}
+use Rattle.def_tree.specs.Tree.{Tree}
 use Rattle.words.specs.Layout.{tree}
 use Rattle.words_nodes.specs.Nodes.{tree_from}
 use Rattle.words_nodes.proofs.Splice.{outer-in, inner-in}
@@ -11,8 +11,8 @@ use Rattle.walk_ident.specs.Steps.{quiet, swap_f}
 use Rattle.walk_ident.proofs.Laws as laws
 use Rattle.walk_ident.proofs.lift_value.Goals as goal
 
-pub skip-requires : goal.skip-requires
-skip-requires c = (c.requires.0, inner-in c.requires.0 c.requires.1)
+pub tree_len-m-requires : goal.tree_len-m-requires
+tree_len-m-requires c = (c.requires.0, inner-in c.requires.0 c.requires.1)
 
 pub returns-in_err-unwrap : goal.returns-in_err-unwrap
 returns-in_err-unwrap c =
@@ -25,5 +25,4 @@ returns c =
     let w = c.args.w.now in
     let e : Tree = tree_from (tree w) c.args.j in
     let h = c.in_ok-unwrap.ensures in
-    let n : c.skip.result - c.args.j ≡ count e = omega (arith, c.skip.ensures.0) in
-    laws.goes_on w _ c.args.p c.args.i e c.requires.0 (outer-in c.requires.0 c.requires.1) quiet refl h (laws.turns-self h.1.planted) (ap (λ (k : ℕ). c.args.i + k) n)
+    laws.goes_on w _ c.args.p c.args.i e c.requires.0 (outer-in c.requires.0 c.requires.1) quiet refl h (laws.turns-self h.1.planted) (ap (λ (k : ℕ). c.args.i + k) c.tree_len-m.ensures.0)

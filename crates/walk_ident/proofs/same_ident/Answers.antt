@@ -7,4 +7,4 @@ use Rattle.walk_ident.proofs.Fates as fates
 use Rattle.walk_ident.proofs.same_ident.Goals as goal
 
 pub returns : goal.returns
-returns c = c.eq.ensures ∙ fates.same-is c.args.x (value_by c.args.w.now c.args.b) (value_o (numbered (stack c.args.w.now) (suc c.args.b))) c.requires.1 c.value_ident.result c.value_ident.ensures
+returns c = c.eq.ensures ∙ rw c.from.ensures (fates.same-is c.args.x (value_by c.args.w.now c.args.b) (value_o (numbered (stack c.args.w.now) (suc c.args.b))) c.requires.1 c.value_ident.result c.value_ident.ensures)

@@ -5,4 +5,4 @@ use Rattle.words.proofs.flag_at.Goals as goal
 
 pub returns : goal.returns
 unfolding flag_at
-returns c = yes-not_zero _
+returns c = rw (c.bit_of-i.ensures.0, c.bit_of-i.ensures.1) (yes-not_zero _)

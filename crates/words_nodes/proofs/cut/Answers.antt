@@ -1,22 +1,16 @@
 -- A second child taken out. Assumes nothing.
-use mathlib.Core.Path.{◌≡◌}
-use Prim.Native.Nat.{◌-◌}
 use native.Mathlib.Omega.{arith}
-use Rattle.def_tree.specs.Tree.{count}
-use Rattle.words.specs.Layout.{tree}
-use Rattle.words_nodes.specs.Nodes.{tree_from}
-use Rattle.words_nodes.proofs.Splice.{parent-word, cut-done, inner-in}
+use Rattle.words_nodes.proofs.Splice.{inner-in, parent-in, has-kids, fewer-packed, cut-done}
 use Rattle.words_nodes.proofs.cut.Goals as goal
 
-pub skip-requires : goal.skip-requires
-skip-requires c = (c.requires.0, inner-in c.requires.0 c.requires.1)
+pub tree_len-old-requires : goal.tree_len-old-requires
+tree_len-old-requires c = (c.requires.0, inner-in c.requires.0 c.requires.1)
 
-pub overflow_sub-w : goal.overflow_sub-w
-overflow_sub-w c =
-    let eo : c.skip.result - c.args.i ≡ count (tree_from (tree c.args.w.now) c.args.i) = omega (arith, c.skip.ensures.0) in
-    omega (arith, parent-word c.requires.0 c.requires.1 eo c.slide.ensures)
+pub overflow_sub-left : goal.overflow_sub-left
+overflow_sub-left c = omega (arith, has-kids c.requires.0 c.requires.1 c.tree_len-old.ensures.0 c.slide.ensures)
+
+pub put_node-requires : goal.put_node-requires
+put_node-requires c = (omega (arith, c.slide.ensures.apart.size), parent-in c.requires.0 c.requires.1, fewer-packed c.node_at-x.ensures (omega arith) (omega arith) (omega arith))
 
 pub returns : goal.returns
-returns c =
-    let eo : c.skip.result - c.args.i ≡ count (tree_from (tree c.args.w.now) c.args.i) = omega (arith, c.skip.ensures.0) in
-    cut-done c.requires.0 c.requires.1 eo c.slide.ensures
+returns c = cut-done c.requires.0 c.requires.1 c.tree_len-old.ensures.0 c.slide.ensures c.node_at-x.ensures c.put_node.ensures

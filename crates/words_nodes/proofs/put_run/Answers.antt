@@ -8,6 +8,7 @@ slide-requires c = (c.requires.0.good.long, c.requires.0.good.nodes, rw c.requir
 
 pub returns : goal.returns
 returns c =
+    let v = c.args.v in
     let l = room c.requires.0 c.requires.1 in
-    run-done c.requires.0 c.requires.1 c.args.base c.args.r.at c.args.r.len c.requires.6 c.requires.7 (omega (arith, c.requires.3, c.requires.2))
-    (rw c.requires.2 at (run-spliced c.slide.ensures (omega (arith, c.requires.2)) c.requires.3 c.args.base c.args.r.at c.requires.4 c.shift.ensures))
+    run-done c.requires.0 c.requires.1 v.base v.run.at v.run.len c.requires.5 c.requires.6 (omega (arith, c.requires.3, c.requires.2))
+    (rw c.requires.2 at (run-spliced c.slide.ensures (omega (arith, c.requires.2)) c.requires.3 v.base v.run.at v.behind c.shift.ensures))

@@ -34,14 +34,14 @@ returns-in_err-e c =
     let q : c.in_err-e.field-0.0 ≡ Depth = grind arith in
     rw (p.1, p.2, q) (row-8 c.args.p (get_or c.args.w.now 0 0) (tree_from (tree c.args.w.now) c.args.i) (tree_from (tree c.args.w.now) c.args.j) (omega (arith, c.requires.2)), refl)
 
-pub skip-requires : goal.skip-requires
-skip-requires c = (c.requires.0, outer-in c.requires.0 c.requires.1)
+pub tree_len-old-requires : goal.tree_len-old-requires
+tree_len-old-requires c = (c.requires.0, outer-in c.requires.0 c.requires.1)
 
 pub overflow_sub-e : goal.overflow_sub-e
 overflow_sub-e c = omega (arith, (measured c.args.w.now c.args.j c.args.p c.in_ok-e.e (rw c.in_ok-e.ensures.ok_part at c.within_height.ensures)).0)
 
 pub lift-requires : goal.lift-requires
-lift-requires c = (c.requires.0, c.requires.1, omega (arith, c.skip.ensures.0), omega (arith, (measured c.args.w.now c.args.j c.args.p c.in_ok-e.e (rw c.in_ok-e.ensures.ok_part at c.within_height.ensures)).0))
+lift-requires c = (c.requires.0, c.requires.1, c.tree_len-old.ensures.0, omega (arith, (measured c.args.w.now c.args.j c.args.p c.in_ok-e.e (rw c.in_ok-e.ensures.ok_part at c.within_height.ensures)).0))
 
 pub returns : goal.returns
 returns c =

@@ -7,4 +7,4 @@ pub returns-in_default : goal.returns-in_default
 returns-in_default c = laws.unfound c.args.w.now c.args.x _ c.requires (sym c.in_default.ensures.place)
 
 pub returns : goal.returns
-returns c = rw c.wrapping_add_u32.ensures.value (laws.counted c.args.w.now c.requires c.in-Some.k c.in-Some.ensures.bound c.args.x (sym c.in-Some.ensures.place))
+returns c = laws.counted c.args.w.now c.requires c.in-Some.k c.in-Some.ensures.bound c.args.x (sym c.in-Some.ensures.place)

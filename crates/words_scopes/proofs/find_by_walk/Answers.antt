@@ -19,7 +19,7 @@ begins w k e f = f.0
 pub first_at-requires : goal.first_at-requires
 first_at-requires c =
     let b = begins c.args.w.now (c.loop-k.k - 1) c.loop-k.e (scope_in c.args.w.now c.loop-k.k c.loop-k.e c.loop-k-test.true c.loop-k.invariant.fits) in
-    (c.requires.long, b, omega (arith, c.requires.count, c.loop-k.invariant.within), omega arith, omega arith)
+    (c.requires.long, rw c.first_binding-a.ensures b, omega (arith, c.requires.count, c.loop-k.invariant.within), omega arith, omega arith)
 
 pub returns-in-Some-clause-place : goal.returns-in-Some-clause-place
 returns-in-Some-clause-place c =
@@ -27,7 +27,7 @@ returns-in-Some-clause-place c =
     let k = c.loop-k.k in
     let e = c.loop-k.e in
     let q : k ≡ suc (k - 1) = omega (arith, c.loop-k-test.true) in
-    let h = c.in-Some.ensures in
+    let h = rw c.first_binding-a.ensures at c.in-Some.ensures in
     let there = step-hit w c.args.x (k - 1) e c.in-Some.r (scope_in w k e c.loop-k-test.true c.loop-k.invariant.fits) h.0 h.3 h.1 h.2 in
     let same = c.loop-k.invariant.same ∙ ap (λ (n : ℕ). place c.args.x (heads_at w n) (up_to w e)) q ∙ there in
     omega (arith, same)
@@ -39,12 +39,12 @@ loop-k-preserved c =
     let e = c.loop-k.e in
     let q : k ≡ suc (k - 1) = omega (arith, c.loop-k-test.true) in
     let f = scope_in w k e c.loop-k-test.true c.loop-k.invariant.fits in
-    let s = step-miss w c.args.x (k - 1) e e f (begins w (k - 1) e f) c.in_default.ensures (omega arith) in
-    record {
+    let s = step-miss w c.args.x (k - 1) e e f (begins w (k - 1) e f) (rw c.first_binding-a.ensures at c.in_default.ensures) (omega arith) in
+    rw c.first_binding-a.ensures (record {
       within = omega (arith, s.1, c.loop-k.invariant.within);
       fits = s.2;
       same = c.loop-k.invariant.same ∙ ap (λ (n : ℕ). place c.args.x (heads_at w n) (up_to w e)) q ∙ s.0;
-    }
+    })
 
 pub returns-clause-place : goal.returns-clause-place
 unfolding heads_at

@@ -36,13 +36,13 @@ pub to_mark-requires : goal.to_mark-requires
 to_mark-requires c =
     let v = c.loop-j.invariant in
     let k = come c.requires v.swept c.loop-j-test.true v.begins in
-    (k.good, k.this, v.here, k.begins)
+    ((k.good, k.this), v.here, k.begins)
 
 pub marks_of-bs-requires : goal.marks_of-bs-requires
 marks_of-bs-requires c =
     let v = c.loop-j.invariant in
     let k = come c.requires v.swept c.loop-j-test.true v.begins in
-    (k.good, k.this, k.begins)
+    ((k.good, k.this), k.begins)
 
 pub loop-b-init : goal.loop-b-init
 loop-b-init c =

@@ -9,12 +9,12 @@ use Rattle.words_scopes.proofs.records.Goals as goal
 pub named-requires : goal.named-requires
 named-requires c =
     let less : c.args.k + c.loop-i.i < get_or c.args.w.now 1 0 = omega (arith, c.min-e.ensures) in
-    (c.requires.0, less, c.loop-i.invariant.begins, omega (arith, laws.room _ c.requires.0 _ less, c.loop-i.invariant.begins))
+    ((c.requires.0.0, less), c.loop-i.invariant.begins, omega (arith, laws.room _ c.requires.0.0 _ less, c.loop-i.invariant.begins))
 
 pub overflow_add-o-in-loop-i-2 : goal.overflow_add-o-in-loop-i-2
 overflow_add-o-in-loop-i-2 c =
     let less : c.args.k + c.loop-i.i < get_or c.args.w.now 1 0 = omega (arith, c.min-e.ensures) in
-    omega (arith, laws.room _ c.requires.0 _ less, c.loop-i.invariant.begins)
+    omega (arith, laws.room _ c.requires.0.0 _ less, c.loop-i.invariant.begins)
 
 pub loop-i-preserved : goal.loop-i-preserved
 loop-i-preserved c =

@@ -8,7 +8,7 @@ word_of : (w : List ℕ) (p k d : ℕ) → p ≡ 4112 + k * 10 → get_or w (411
 word_of w p k d e = ap (λ (q : ℕ). get_or w (q + d) 0) (sym e)
 
 pub named-requires : goal.named-requires
-named-requires c = (c.requires.0, c.requires.1, c.requires.3, omega (arith, laws.room _ c.requires.0 _ c.requires.1, c.requires.3))
+named-requires c = (c.requires.0, c.requires.2, omega (arith, laws.room _ c.requires.0.0 _ c.requires.0.1, c.requires.2))
 
 -- it has no value
 pub returns-else-w-p-ne0 : goal.returns-else-w-p-ne0
@@ -16,6 +16,6 @@ returns-else-w-p-ne0 c =
     let w = c.args.w.now in
     let p = c.args.p in
     let k = c.args.k in
-    let e = c.requires.2 in
+    let e = c.requires.1 in
     ap (λ (n : ℕ). not (nat_eq n 0)) c.if-w-p-ne0.false
     ∙ laws.missing-value w k c.args.x (word_of w p k 4 e ∙ c.if-w-p-eq0.true) (λ z. c.if-w-p.false (ap (λ (q : ℕ). get_or w q 0) e ∙ z ∙ sym c.from.ensures)) None (laws.named_none w k (word_of w p k 8 e ∙ c.if-w-p-ne0.false))

@@ -7,7 +7,7 @@ use Rattle.words_twice.proofs.declares.Goals.{in-LITERAL, in_default, then-c-eq0
 use Rattle.words_twice.proofs.declares.Goals as goal
 
 pub arity_at-c-requires : goal.arity_at-c-requires
-arity_at-c-requires c = (c.requires.0.good.long, omega (arith, c.requires.0.good.nodes, c.requires.1))
+arity_at-c-requires c = looks.in-words c.requires.0 c.requires.1
 
 pub overflow_add-j : goal.overflow_add-j
 overflow_add-j c = omega (arith, c.requires.0.good.nodes, c.requires.1)
@@ -28,7 +28,7 @@ pub skip-requires : goal.skip-requires
 skip-requires c = (c.requires.0, looks.first-in c.requires.0 c.requires.1 c.args.x c.arity_at-c.ensures c.if-c-eq0.false)
 
 pub kind_at-requires : goal.kind_at-requires
-kind_at-requires c = (c.requires.0.good.long, rw c.skip.ensures.0 (omega (arith, c.requires.0.good.nodes, looks.second-in c.requires.0 c.requires.1 c.args.x c.arity_at-c.ensures c.if-c-eq0.false c.binds.ensures c.if-not-binds.false c.if-c-eq1.false)))
+kind_at-requires c = rw c.skip.ensures.0 (looks.in-words c.requires.0 (looks.second-in c.requires.0 c.requires.1 c.args.x c.arity_at-c.ensures c.if-c-eq0.false c.binds.ensures c.if-not-binds.false c.if-c-eq1.false))
 
 pub returns : goal.returns
 returns c =

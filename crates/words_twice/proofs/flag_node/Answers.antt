@@ -5,6 +5,7 @@ use Rattle.def_file.specs.Named.{kind_of}
 use Rattle.def_pass.specs.Twice.{twice}
 use Rattle.words.specs.Layout.{tree}
 use Rattle.words_nodes.specs.Nodes.{forest_from}
+use Rattle.words_twice.proofs.Looks as looks
 use Rattle.words_twice.proofs.Steps as steps
 use Rattle.words_twice.proofs.flag_node.Goals as goal
 
@@ -22,7 +23,8 @@ put_node-requires c =
     let x = c.node_at-x.ensures in
     let is = rw c.in-BindingIdent.is at x.0.1 in
     let room = steps.room c.requires.0 c.args.j c.requires.1 (twice (forest_from (tree c.args.w.now) c.args.m c.args.a)) c.requires.3 is in
-    (c.requires.0.good.long, omega (arith, c.requires.0.good.nodes, c.requires.1), (rw c.in-BindingIdent.is (omega arith), omega (arith, x.1, room), omega (arith, x.2)))
+    let l = looks.in-words c.requires.0 c.requires.1 in
+    (l.0, l.1, (rw c.in-BindingIdent.is (omega arith), omega (arith, x.1, room), omega (arith, x.2)))
 
 pub returns-then-twice : goal.returns-then-twice
 returns-then-twice c =

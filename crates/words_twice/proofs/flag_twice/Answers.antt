@@ -1,7 +1,6 @@
 -- The script's statements are the children of the one tree. Assumes nothing.
 use mathlib.Core.Path.{ap, ◌∙◌}
 use Prim.Native.Nat.{ℕ}
-use native.Mathlib.Omega.{arith}
 use Rattle.def_pass.specs.Twice.{twice}
 use Rattle.words.specs.Layout.{tree}
 use Rattle.words_nodes.specs.Nodes.{forest_from}
@@ -11,7 +10,7 @@ use Rattle.words_twice.proofs.Steps as steps
 use Rattle.words_twice.proofs.flag_twice.Goals as goal
 
 pub arity_at-n-requires : goal.arity_at-n-requires
-arity_at-n-requires c = (c.requires.0.good.long, omega (arith, c.requires.0.good.nodes, steps.some-node c.requires.0))
+arity_at-n-requires c = looks.in-words c.requires.0 (steps.some-node c.requires.0)
 
 pub flags-requires : goal.flags-requires
 flags-requires c = (c.requires.0, steps.root_stands c.requires.0, rw c.arity_at-n.ensures (looks.kids-stand c.requires.0 (steps.some-node c.requires.0)), c.requires.1)

@@ -15,7 +15,7 @@ pub loop-more-init : goal.loop-more-init
 loop-more-init c = record { all = counts.tallied-none (λ (ts : Forest). tally true (vars_f c.args.x ts)) (stand-open c.requires.1); costly = counts.tallied-none (λ (ts : Forest). tally false (vars_f c.args.x ts)) (stand-open c.requires.1) }
 
 pub kind_at-kind-requires : goal.kind_at-kind-requires
-kind_at-kind-requires c = (c.requires.0.good.long, omega (arith, c.requires.0.good.nodes, in_tree c.requires.0 c.loop-more.invariant.all.still (omega arith)))
+kind_at-kind-requires c = looks.in-words c.requires.0 (in_tree c.requires.0 c.loop-more.invariant.all.still (omega arith))
 
 pub skip-at-requires : goal.skip-at-requires
 skip-at-requires c = (c.requires.0, in_tree c.requires.0 c.loop-more.invariant.all.still (omega arith))
@@ -36,7 +36,7 @@ pub overflow_add-sum-else-is_function : goal.overflow_add-sum-else-is_function
 overflow_add-sum-else-is_function c = omega (arith, looks.tallies-few c.requires.0 c.args.x (looks.tallies-open c.requires.0 c.args.x c.loop-more.invariant (omega arith) (sym (c.is_function.ensures _ c.kind_at-kind.ensures.1) ∙ c.if-is_function.false) c.var_at-here.ensures refl))
 
 pub arity_at-requires : goal.arity_at-requires
-arity_at-requires c = (c.requires.0.good.long, omega (arith, c.requires.0.good.nodes, in_tree c.requires.0 c.loop-more.invariant.all.still (omega arith)))
+arity_at-requires c = looks.in-words c.requires.0 (in_tree c.requires.0 c.loop-more.invariant.all.still (omega arith))
 
 pub overflow_add-more : goal.overflow_add-more
 overflow_add-more c = omega (arith, few-open c.requires.0 c.loop-more.invariant.all.still (omega arith))

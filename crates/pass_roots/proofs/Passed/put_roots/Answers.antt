@@ -1,10 +1,8 @@
 -- All root bindings written. Assumes nothing.
-use Rattle.std.proofs.Common.{◌≡◌, ℕ, ◌+◌, ◌-◌, ◌*◌, ap, ◌∙◌, arith}
-use borrow.Rule.Slice.PartMut.{put_mid}
-use Rattle.file_write.proofs.Stores.{stretch}
+use Rattle.std.proofs.Common.{◌≡◌, ℕ, ◌*◌, ap, ◌∙◌, arith}
 use Rattle.std.proofs.lemmas.List.Edits.{sets}
 use Rattle.words.specs.Tab.{tab}
-use Rattle.pass_roots.specs.Listing.{root_at, words_of, root_list}
+use Rattle.pass_roots.specs.Listing.{root_at, root_list}
 use Rattle.pass_roots.proofs.Rooted as rooted
 use Rattle.pass_roots.proofs.Passed.put_roots.Goals as goal
 
@@ -16,7 +14,7 @@ loop-k-preserved c =
     let a = c.args in
     let k = c.loop-k.k in
     let b = c.read_root-root.result in
-    let put = ap (put_mid (5 * k) (5 * k + 5 - 5 * k) c.loop-k.roots) (c.copy_from_slice.ensures.after ∙ c.from.ensures) ∙ stretch c.loop-k.roots (words_of b) (5 * k) (5 * k + 5 - 5 * k) (omega arith) (omega arith) in
+    let put = c.put.ensures ∙ ap (sets c.loop-k.roots (5 * k)) c.from.ensures in
     rooted.list-more (λ j. root_at a.self.file.now a.self.words.now j) k a.roots.now b c.loop-k.invariant c.read_root-root.ensures put
 
 pub returns : goal.returns

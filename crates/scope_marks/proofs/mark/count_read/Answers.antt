@@ -29,12 +29,17 @@ module _ (c : Joined-reads-lt2) where
     | else-reads-lt2 v ↦ v.w-is ∙ sym (rw (le-ltb (get_or w (4112 + k * 10 + 3) 0) 2 v.if-reads-lt2.false) refl)
   ]
 
-pub returns-then-w-p-ne0 : goal.returns-then-w-p-ne0
-returns-then-w-p-ne0 c =
-    let j = (goal.at.returns-then-w-p-ne0 c).Joined-reads-lt2 in
-    rw (found j) (fields.read-marked c.args.w.now c.requires c.in-Some.k c.in-Some.ensures.bound c.if-reads-lt2.w (counted j) c.if-w-p-ne0.true c.args.x (sym c.in-Some.ensures.place))
+pub hoisted-requires : goal.hoisted-requires
+hoisted-requires c =
+    let j = (goal.at.hoisted-requires c).Joined-reads-lt2 in
+    fields.counted c.args.w.now c.requires c.in-Some.k c.in-Some.ensures.bound c.if-reads-lt2.w (counted j)
 
-pub returns-else-w-p-ne0 : goal.returns-else-w-p-ne0
-returns-else-w-p-ne0 c =
-    let j = (goal.at.returns-else-w-p-ne0 c).Joined-reads-lt2 in
-    rw (found j) (fields.read-plain c.args.w.now c.requires c.in-Some.k c.in-Some.ensures.bound c.if-reads-lt2.w (counted j) c.if-w-p-ne0.false c.args.x (sym c.in-Some.ensures.place))
+pub returns-then-hoisted : goal.returns-then-hoisted
+returns-then-hoisted c =
+    let j = (goal.at.returns-then-hoisted c).Joined-reads-lt2 in
+    rw (found j) (fields.read-marked c.args.w.now c.requires c.in-Some.k c.in-Some.ensures.bound c.if-reads-lt2.w (counted j) (sym c.hoisted.ensures ∙ c.if-hoisted.true) c.args.x (sym c.in-Some.ensures.place))
+
+pub returns-else-hoisted : goal.returns-else-hoisted
+returns-else-hoisted c =
+    let j = (goal.at.returns-else-hoisted c).Joined-reads-lt2 in
+    rw (found j) (fields.read-plain c.args.w.now c.requires c.in-Some.k c.in-Some.ensures.bound c.if-reads-lt2.w (counted j) (sym c.hoisted.ensures ∙ c.if-hoisted.false) c.args.x (sym c.in-Some.ensures.place))
