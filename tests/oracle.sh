@@ -34,9 +34,10 @@ bin=oracle/target/release
 
 one "tests of its own" own_tests
 
-count "stored vectors" "$bin/replay" tests/vectors/sample.txt tests/vectors/small.txt
+count "stored vectors" "$bin/replay" tests/vectors/sample.txt tests/vectors/small.txt tests/vectors/patterns.txt
 one "sample rewritten" rewritten sample
 one "small rewritten" rewritten small
+one "patterns rewritten" rewritten patterns
 count "limits" "$bin/limits"
 count "consistency" "$bin/consistency" "${SEED:-1}" 2000
 if command -v node >/dev/null 2>&1; then

@@ -6,6 +6,7 @@
 The driver is tests/port.c, linked with the library. Neither Rust nor the original's sources are needed. The last line is
 `N passed, M failed`.
 """
+import itertools
 import os
 import random
 import struct
@@ -90,7 +91,7 @@ def agrees(got, stored):
 def vectors():
     """File, run limit and answer of each stored vector."""
     here = os.path.dirname(os.path.abspath(__file__))
-    for name, count in (("sample", 631), ("small", 447), ("amended", 340)):
+    for name, count in (("sample", 631), ("small", 447), ("patterns", 562), ("amended", 428)):
         with open(os.path.join(here, "vectors", name + ".txt"), encoding="utf-8") as f:
             blocks = [b for b in f.read().split("\n\n") if b.strip()]
         if len(blocks) != count:
@@ -220,7 +221,7 @@ def paired(rng, file):
         kind, form, arity, text, bits = x
         if kind in (20, 21):
             return (kind, form, arity, *name(text, bits))
-        if kind in (29, 37):
+        if kind in (29, 37, 47):
             return (kind, form, arity, number(rng.choice((b"arguments", b"", b"m1", b"key"))), bits)
         if kind not in LITERALS:
             return x
@@ -283,6 +284,7 @@ def chains():
         "assign member": lambda x: tree(33, tree(37, x), name), "test": lambda x: tree(34, x, name, name), "arm": lambda x: tree(34, name, name, x),
         "callee": lambda x: tree(35, x), "argument": lambda x: tree(35, name, x), "new": lambda x: tree(36, name, x, form=1),
         "member": lambda x: tree(37, x), "computed": lambda x: tree(38, name, x), "parenthesis": lambda x: tree(41, x), "sequence": lambda x: tree(42, name, x),
+        "default": lambda x: tree(33, tree(46, tree(48, target, x)), name), "property's default": lambda x: tree(33, tree(45, tree(47, tree(48, target, x))), name),
     }
     scopes = {
         "none": (0, lambda x: x), "block": (30, lambda x: tree(2, x)), "if": (30, lambda x: tree(9, name, x)), "else": (30, lambda x: tree(9, name, tree(3), x)),
@@ -329,10 +331,27 @@ def deepest(count, around, layer):
     return pack(script(), [b"x"])
 
 
+def pattern_chains():
+    """Patterns inside themselves, as deep as may be, in each place that takes one."""
+    name, target = tree(21), tree(20)
+    layers = {"array": lambda x: tree(46, x), "object": lambda x: tree(45, tree(47, x)), "default": lambda x: tree(46, tree(48, x, name))}
+    places = {
+        "declared": lambda x: tree(5, tree(6, x, name)), "parameter": lambda x: tree(7, target, x, tree(2)), "of an expression": lambda x: tree(4, tree(39, x, tree(2))),
+        "of an arrow": lambda x: tree(4, tree(40, x, name, form=1)), "caught": lambda x: tree(16, tree(2), tree(17, x, tree(2)), form=1),
+        "head": lambda x: tree(14, x, name, tree(3)), "declaring head": lambda x: tree(13, tree(5, tree(6, x)), name, tree(3)), "assigned": lambda x: tree(4, tree(33, x, name)),
+    }
+    for outer, place in places.items():
+        for inner, layer in layers.items():
+            pattern = target
+            while height(tree(1, place(layer(pattern)))) <= 200:
+                pattern = layer(pattern)
+            yield "%s pattern, %s" % (outer, inner), pack(tree(1, place(pattern)), [b"x"])
+
+
 def stack(count, port):
     """The deepest scripts on the 256 KiB that the driver gives a call; an overflow would end it."""
     passed = 0
-    for name, file in chains():
+    for name, file in itertools.chain(chains(), pattern_chains()):
         count.check(refusal(file) == 0, "%s is readable: %d", name, refusal(file))
         refused, _, _, _, _, kept, state = port.call("inline", file, MOST_BYTES)
         count.check(refused in (0, 8, 9) and kept and state == "clear", "%s: %d, %s, %s", name, refused, kept, state)

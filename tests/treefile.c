@@ -1,4 +1,4 @@
-/* Calls the C entry of crates/file_copy. A line of standard input is `HEX ROOM WORDS`: a file's bytes (`-` for none), the length of the
+/* Calls the C entry of crates/file_copy_c. A line of standard input is `HEX ROOM WORDS`: a file's bytes (`-` for none), the length of the
    result buffer and the number of words. For each it prints `REFUSED LENGTH RESULT KEPT STATE`: the two numbers of the answer, the
    first LENGTH bytes of the result (`-` for none), whether the bytes behind them and the file are as they were, and the words: `same`,
    `clear` (the first 16,384 are 0, the others as they were) or `other`. */

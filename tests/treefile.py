@@ -1,5 +1,5 @@
 #!/usr/bin/env python3
-"""Tree files through the C entry of crates/file_copy and through the program show, against a reader written from document 01 alone.
+"""Tree files through the C entry of crates/file_copy_c and through the program show, against a reader written from document 01 and request 4 alone.
 
   tests/treefile.py DRIVER SHOW
 
@@ -13,7 +13,7 @@ import struct
 import subprocess
 import sys
 
-from treefile_reader import BITS, EXPRESSIONS, FORMS, STATEMENTS, TEXT, WORDS, refusal
+from treefile_reader import BITS, EXPRESSIONS, FORMS, NAMES, STATEMENTS, TEXT, WORDS, refusal
 
 WORDS_LEAST = 16384
 SEED = 20261116
@@ -77,6 +77,8 @@ def limits(cases):
         cases.add("texts %+d" % d, pack(tree(1), [b"%03d" % i for i in range(256 + d)]), 3 if d > 0 else 0)
         cases.add("text bytes %+d" % d, pack(tree(1), [b"x" * (4096 + d)]), 3 if d > 0 else 0)
         cases.add("depth %+d" % d, pack(nested(200 + d), [b"x"]), 6 if d > 0 else 0)
+        for kind in (45, 46, 48):
+            cases.add("depth %+d of %d" % (d, kind), pack(nested_pattern(kind, 200 + d), [b"x"]), 6 if d > 0 else 0)
         cases.add("identifiers %+d" % d, pack(statement(tree(27, *[tree(21, bits=i) for i in range(256 + d)])), [b"x"]), 7 if d > 0 else 0)
         cases.add("names %+d" % d, pack(statement(tree(27, *[tree(21, text=i % 2, bits=i // 2) for i in range(256 + d)])), [b"x", b"y"]), 7 if d > 0 else 0)
         cases.add("words %+d" % d, pack(tree(1), []), 1 if d < 0 else 0, words=WORDS_LEAST + d)
@@ -97,6 +99,19 @@ def nested(depth):
     for _ in range(depth - 3):
         inner = tree(41, inner)
     return statement(inner)
+
+
+def nested_pattern(kind, depth):
+    """Object patterns, array patterns or defaults around a binding, below a declarator, the deepest node at the given depth."""
+    inner, left = tree(20), depth - 4
+    while left:
+        if kind == 45 and left > 1:
+            inner, left = tree(45, tree(47, inner)), left - 2
+        elif kind == 48 and left > 1:
+            inner, left = tree(46, tree(48, inner, tree(26))), left - 2
+        else:
+            inner, left = tree(46, inner), left - 1
+    return tree(1, tree(5, tree(6, inner)))
 
 
 def texts(cases):
@@ -143,7 +158,7 @@ def least(kind, form=None):
 
 def least_children(kind, form):
     """The kinds of the fewest children."""
-    first = {"s": 3, "e": 26, "b": 20, "h": 20, "f": 26, "u": 21, "a": 20}
+    first = {"s": 3, "e": 26, "b": 20, "h": 20, "f": 26, "u": 21, "a": 20, "n": 20, "t": 20, "d": 20}
     return [first.get(w) or int(w) for w in FORMS[kind][form].split() if w[-1] not in "*?"]
 
 
@@ -159,9 +174,18 @@ def around(kind, node):
         6: lambda: tree(1, tree(5, node)),
         17: lambda: tree(1, tree(16, least(2), node, form=1)),
         19: lambda: tree(1, tree(18, least(26), node)),
-        20: lambda: tree(1, tree(5, tree(6, node))),
+        20: lambda: declared(node),
         29: lambda: statement(tree(28, node)),
+        45: lambda: declared(node),
+        46: lambda: declared(node),
+        47: lambda: declared(tree(45, node)),
+        48: lambda: tree(1, tree(7, least(20), node, least(2))),
     }[kind]()
+
+
+def declared(name):
+    """A script that declares by `var`."""
+    return tree(1, tree(5, tree(6, name)))
 
 
 def with_first(nodes, at, **fields):
@@ -192,7 +216,7 @@ def fields(cases):
             script = around(kind, node)
             want = None if form in FORMS[kind] else 6
             cases.add("kind %d, form put to %d" % (kind, form), pack(with_first(script, script.index(node[0]), form=form), [b"x"]), want)
-    for kind in [0, *range(45, 256)]:
+    for kind in [0, *range(49, 256)]:
         cases.add("no kind %d" % kind, pack([(1, 0, 1, 0, 0), (kind, 0, 0, 0, 0)], [b"x"]), 6)
 
 
@@ -202,20 +226,21 @@ def counts(cases, name, kind, form, script, at):
     for count in {arity - 1, arity + 1, arity + 256, 65535} - {-1}:
         cases.add(name + " count %d" % count, pack(with_first(script, at, arity=count), [b"x"]), 6)
     kinds = least_children(kind, form)
-    for changed in [kinds[:-1], *[kinds[:i] + [k] + kinds[i:] for i in range(len(kinds) + 1) for k in (3, 20, 26)]]:
+    for changed in [kinds[:-1], *[kinds[:i] + [k] + kinds[i:] for i in range(len(kinds) + 1) for k in (3, 20, 26, 45, 46, 47, 48)]]:
         node = tree(kind, *[least(k) for k in changed], form=form)
         cases.add(name + " children %s" % changed, pack(around(kind, node), [b"x"]))
 
 
 def places(cases):
-    """Each kind at each place of each kind and form, among the fewest children and one more."""
+    """Each kind at each place of each kind and form, among the fewest children and as one more between them."""
     for kind in FORMS:
-        for form in FORMS[kind] if kind not in (30, 32, 33) else (0, max(FORMS[kind])):
+        for form in FORMS[kind] if kind not in (30, 32) else (0, max(FORMS[kind])):
             kinds = least_children(kind, form)
             for i in range(len(kinds) + 1):
                 for other in FORMS:
-                    changed = [least(k) for k in kinds[:i]] + [least(other)] + [least(k) for k in kinds[i + 1:]]
-                    cases.add("kind %d form %d, child %d is %d" % (kind, form, i, other), pack(around(kind, tree(kind, *changed, form=form)), [b"x"]))
+                    for way, rest in (("is", kinds[i + 1:]), ("before it", kinds[i:])):
+                        changed = [least(k) for k in kinds[:i]] + [least(other)] + [least(k) for k in rest]
+                        cases.add("kind %d form %d, child %d %s %d" % (kind, form, i, way, other), pack(around(kind, tree(kind, *changed, form=form)), [b"x"]))
     for other in FORMS:
         cases.add("root %d" % other, pack(least(other), [b"x"]), 0 if other == 1 else 6)
     two = tree(5, least(6), least(6))
@@ -227,6 +252,104 @@ def places(cases):
     cases.add("a node missing", pack([(1, 0, 1, 0, 0)], []), 6)
 
 
+def patterns(cases):
+    """Request 4 by its words: where 45 to 48 stand, what stands below them, and the text of 47."""
+    a, e, block, texts = tree(20), tree(21), tree(2), [b"a", b"b", b""]
+    key = tree(47, a)
+    default = tree(48, a, e)
+    both = [tree(45, key), tree(46, a)]
+
+    def script(name, nodes, want):
+        cases.add("patterns: " + name, pack(tree(1, *nodes), texts), want)
+
+    # a place as a statement that has a target in it, and which of 20, 45 and 46, 47, 48 may stand there
+    places = [
+        ("declarator name", lambda x: tree(5, tree(6, x)), "nn--"),
+        ("declarator name with initialiser", lambda x: tree(5, tree(6, x, e), form=2), "nn--"),
+        ("parameter of a function", lambda x: tree(7, a, x, block), "nn-d"),
+        ("second parameter", lambda x: tree(7, a, a, x, block), "nn-d"),
+        ("parameter of a function expression", lambda x: tree(4, tree(39, x, block)), "nn-d"),
+        ("parameter of a named one", lambda x: tree(4, tree(39, a, x, block, form=1)), "nn-d"),
+        ("parameter of an arrow", lambda x: tree(4, tree(40, x, block)), "nn-d"),
+        ("parameter of an arrow to an expression", lambda x: tree(4, tree(40, a, x, e, form=1)), "nn-d"),
+        ("catch binding", lambda x: tree(16, block, tree(17, x, block), form=1), "nn--"),
+        ("head of for-in", lambda x: tree(13, x, e, tree(3)), "nn--"),
+        ("head of for-of", lambda x: tree(14, x, e, tree(3)), "nn--"),
+        ("declared in the head of for-in", lambda x: tree(13, tree(5, tree(6, x)), e, tree(3)), "nn--"),
+        ("declared in the head of for-of", lambda x: tree(14, tree(5, tree(6, x), form=1), e, tree(3)), "nn--"),
+        ("declared in the start of a for", lambda x: tree(12, tree(5, tree(6, x)), tree(3), form=1), "nn--"),
+        ("left of =", lambda x: tree(4, tree(33, x, e)), "nn--"),
+        ("in an object pattern", lambda x: tree(5, tree(6, tree(45, x))), "--p-"),
+        ("in an array pattern", lambda x: tree(5, tree(6, tree(46, x))), "nn-d"),
+        ("last in an array pattern", lambda x: tree(5, tree(6, tree(46, a, a, x))), "nn-d"),
+        ("in a pattern property", lambda x: tree(5, tree(6, tree(45, tree(47, x)))), "nn-d"),
+        ("left of a default", lambda x: tree(5, tree(6, tree(46, tree(48, x, e)))), "nn--"),
+        ("right of a default", lambda x: tree(5, tree(6, tree(46, tree(48, a, x)))), "----"),
+        ("name of a function", lambda x: tree(7, x, block), "n---"),
+        ("name of a function expression", lambda x: tree(4, tree(39, x, block, form=1)), "n---"),
+        ("body of a function", lambda x: tree(7, a, x), "----"),
+        ("statement", lambda x: x, "----"),
+        ("expression", lambda x: tree(4, x), "----"),
+        ("initialiser", lambda x: tree(5, tree(6, a, x)), "----"),
+        ("argument", lambda x: tree(4, tree(35, e, x)), "----"),
+        ("element", lambda x: tree(4, tree(27, x)), "----"),
+        ("property", lambda x: tree(4, tree(28, x)), "----"),
+        ("value of a property", lambda x: tree(4, tree(28, tree(29, x))), "----"),
+        ("under an update", lambda x: tree(4, tree(31, x)), "----"),
+        ("in a parenthesis", lambda x: tree(4, tree(41, x)), "----"),
+        ("start of a for", lambda x: tree(12, x, tree(3), form=1), "----"),
+        ("right of =", lambda x: tree(4, tree(33, a, x)), "----"),
+    ]
+    places += [("left of assignment %d" % f, lambda x, f=f: tree(4, tree(33, x, e, form=f)), "n---") for f in range(1, 16)]
+    for name, place, may in places:
+        for kind, there, trees in ((20, may[0] == "n", [a]), (45, may[1] == "n", both), (47, may[2] == "p", [key]), (48, may[3] == "d", [default])):
+            for x in trees:
+                script("%d as %s" % (x[0][0], name), [place(x)], 0 if there else 6)
+    for name, nodes, want in (
+            ("function f({today: today, before: before}) {}", [tree(7, a, tree(45, key, tree(47, tree(20, text=1), text=1)), block)], 0),
+            ("var {a: a};", [tree(5, tree(6, tree(45, key)))], 0),
+            ("var {};", [tree(5, tree(6, tree(45)))], 0),
+            ("[] = a;", [tree(4, tree(33, tree(46), e))], 0),
+            ("({a: [a = a], b: {a: a}} = a);", [tree(4, tree(33, tree(45, tree(47, tree(46, default)), tree(47, tree(45, key), text=1)), e))], 0),
+            ("([a] = a) => a;", [tree(4, tree(40, tree(48, tree(46, a), e), e, form=1))], 0),
+            ("({a: a} = a) => a;", [tree(4, tree(40, tree(48, tree(45, key), e), e, form=1))], 0),
+            ("var {a: a = a} = a;", [tree(5, tree(6, tree(45, tree(47, default)), e))], 0),
+            ("two properties of one key", [tree(5, tree(6, tree(45, key, key)))], 0),
+            ("twenty targets", [tree(5, tree(6, tree(46, *[a] * 20)))], 0),
+            ("for (var [a], a of a) ;", [tree(14, tree(5, tree(6, tree(46, a)), tree(6, a)), e, tree(3))], 6),
+            ("[a.b] = a;", [tree(4, tree(33, tree(46, tree(37, e, text=1)), e))], 6),
+            ("({a: a[a]} = a);", [tree(4, tree(33, tree(45, tree(47, tree(38, e, e))), e))], 6),
+            ("[a] = a with 21 in the pattern", [tree(4, tree(33, tree(46, e), e))], 6),
+            ("a hole", [tree(5, tree(6, tree(46, a, tree(3), a)))], 6),
+            ("an array for an array pattern", [tree(4, tree(33, tree(27, e), e))], 6),
+            ("an object for an object pattern", [tree(4, tree(33, tree(28, tree(29, e)), e))], 6),
+            ("a pattern below an array", [tree(4, tree(27, tree(46, a)))], 6),
+            ("a property in a pattern", [tree(5, tree(6, tree(45, tree(29, e))))], 6),
+            ("a default of a default", [tree(7, a, tree(48, default, e), block)], 6),
+            ("47 without a target", [tree(5, tree(6, tree(45, tree(47))))], 6),
+            ("47 with two targets", [tree(5, tree(6, tree(45, tree(47, a, a))))], 6),
+            ("48 without a value", [tree(7, a, tree(48, a), block)], 6),
+            ("48 with two values", [tree(7, a, tree(48, a, e, e), block)], 6),
+            ("48 with nothing", [tree(7, a, tree(48), block)], 6),
+            ("a pattern alone under a function expression", [tree(4, tree(39, tree(46, a)))], 6),
+            ("a pattern alone under an arrow", [tree(4, tree(40, tree(46, a)))], 6)):
+        script(name, nodes, want)
+    for text, want in ((0, 0), (1, 0), (2, 0), (3, 6), (2 ** 31, 6)):
+        script("text %d of 47" % text, [tree(5, tree(6, tree(45, tree(47, a, text=text))))], want)
+    for kind, node in ((45, tree(45)), (46, tree(46)), (48, default)):
+        changed = with_first(tree(7, a, node, block), 2, text=1)
+        script("text 1 of %d" % kind, [changed], 6)
+    for kind, node in ((45, tree(45)), (46, tree(46)), (47, tree(45, key)), (48, default)):
+        for field in ("form", "bits"):
+            changed = with_first(tree(7, a, node, block), 3 if kind == 47 else 2, **{field: 1})
+            script("%s 1 of %d" % (field, kind), [changed], 6)
+    # of 47 only the name below it is an identifier: row 7 counts no key
+    keys = tree(45, *[tree(47, tree(20, bits=i), text=i % 3) for i in range(256)])
+    cases.add("patterns: 256 identifiers", pack(declared(keys), texts), 0)
+    keys = tree(45, *[tree(47, tree(20, bits=i), text=i % 3) for i in range(257)])
+    cases.add("patterns: 257 identifiers", pack(declared(keys), texts), 7)
+
+
 def grown(rng, kind, depth, names):
     """A random readable node of a kind."""
     form = rng.choice(sorted(FORMS[kind]))
@@ -234,7 +357,8 @@ def grown(rng, kind, depth, names):
     for word in FORMS[kind][form].split():
         name, mark = (word[:-1], word[-1]) if word[-1] in "*?" else (word, "")
         if name == "h":
-            children.append(rng.choice([lambda: grown(rng, 20, 0, names), lambda: tree(5, grown(rng, 6, depth - 1, names))])())
+            name = lambda: grown(rng, rng.choice(NAMES if depth > 0 else [20]), depth - 1, names)
+            children.append(rng.choice([name, lambda: tree(5, grown(rng, 6, depth - 1, names))])())
             continue
         for _ in range({"": 1, "?": rng.randrange(2), "*": rng.randrange(4)}[mark]):
             kinds = WORDS[name] if name in WORDS else [int(name)]
@@ -278,7 +402,7 @@ def damage(rng, file):
         if way == 0 and data:
             data[at] ^= 1 << rng.randrange(8)
         elif way == 1 and data:
-            data[at] = rng.choice((0, 1, 2, 5, 20, 21, 44, 255))
+            data[at] = rng.choice((0, 1, 2, 5, 20, 21, 44, 45, 46, 47, 48, 49, 255))
         elif way == 2 and len(data) >= 32:
             struct.pack_into("<I", data, 4 * rng.randrange(8), rng.choice((0, 1, 31, 32, 33, 256, 257, 1024, 1025, 4096, 4097, 2 ** 32 - 1)))
         elif way == 3:
@@ -290,7 +414,7 @@ def damage(rng, file):
             data[a:a + 16], data[b:b + 16] = data[b:b + 16], data[a:a + 16]
         elif way == 6 and len(data) >= 48:
             at = 32 + 16 * rng.randrange((len(data) - 32) // 16)
-            data[at + rng.choice((0, 1, 2, 4))] = rng.randrange(48)
+            data[at + rng.choice((0, 1, 2, 4))] = rng.randrange(50)
         elif way == 7 and len(data) > 40:
             data[-1 - rng.randrange(12)] = rng.choice((0, 1, 2, 97))
     return bytes(data)
@@ -320,7 +444,7 @@ def expected(file, room, words):
 def through_driver(driver):
     """How many files were answered as expected, and how many were not; each row must be met."""
     cases = Cases()
-    for add in (examples, limits, texts, headers, fields, places, damaged):
+    for add in (examples, limits, texts, headers, fields, places, patterns, damaged):
         add(cases)
     lines = "".join("%s %d %d\n" % (f.hex() or "-", room, words) for _, f, room, words, _ in cases.all)
     out = subprocess.run([driver], input=lines, capture_output=True, text=True, check=True).stdout.splitlines()

@@ -1,5 +1,5 @@
 #!/usr/bin/env bash
-# Tree files through the C entry of crates/file_copy and through the program show: tests/treefile.py makes them and says what to expect.
+# Tree files through the C entry of crates/file_copy_c and through the program show: tests/treefile.py makes them and says what to expect.
 set -u
 cd "$(dirname "$0")/.." || exit 1
 . tests/counts.bash

@@ -1,4 +1,4 @@
-"""A reader of tree files written from document 01 alone: which of rows 2 to 7 refuses a file, or 0.
+"""A reader of tree files written from document 01 and request 4 alone: which of rows 2 to 7 refuses a file, or 0.
 
 The kinds are regular expressions over the kinds of the children, in document 01's own notation; nothing here follows the definitions of
 crates/def_file.
@@ -7,24 +7,26 @@ import re
 import struct
 
 # of each kind: by form the children. A form that is missing is out of range. A word is a kind, or s, e or b; h is the head of a
-# for-in or for-of, f the start of a for, u what an update changes, a what an assignment sets
+# for-in or for-of, f the start of a for, u what an update changes, a what an assignment sets, d the same of `=`; n is a name (20 or a
+# pattern), t a target
 ONE = {
-    1: "s*", 2: "s*", 3: "", 4: "e", 6: "b e?", 7: "b b* 2", 8: "e?", 9: "e s s?", 10: "e s", 11: "e s", 13: "h e s", 14: "h e s",
-    15: "e", 17: "b? 2", 18: "e 19*", 20: "", 21: "", 22: "", 24: "", 25: "", 26: "", 27: "e*", 28: "29*", 29: "e", 34: "e e e",
-    35: "e e*", 37: "e", 38: "e e", 41: "e", 42: "e e*", 43: "", 44: "",
+    1: "s*", 2: "s*", 3: "", 4: "e", 6: "n e?", 7: "b t* 2", 8: "e?", 9: "e s s?", 10: "e s", 11: "e s", 13: "h e s", 14: "h e s",
+    15: "e", 17: "n? 2", 18: "e 19*", 20: "", 21: "", 22: "", 24: "", 25: "", 26: "", 27: "e*", 28: "29*", 29: "e", 34: "e e e",
+    35: "e e*", 37: "e", 38: "e e", 41: "e", 42: "e e*", 43: "", 44: "", 45: "47*", 46: "t*", 47: "t", 48: "n e",
 }
-MANY = {5: (3, "6 6*"), 23: (2, ""), 30: (7, "e"), 31: (4, "u"), 32: (25, "e e"), 33: (16, "a e")}
+MANY = {5: (3, "6 6*"), 23: (2, ""), 30: (7, "e"), 31: (4, "u"), 32: (25, "e e")}
 BY_FORM = {
     12: {f: " ".join(["f"] * (f & 1) + ["e"] * (f >> 1 & 1) + ["e"] * (f >> 2 & 1) + ["s"]) for f in range(8)},
     16: {1: "2 17", 2: "2 2", 3: "2 17 2"},
     19: {0: "s*", 1: "e s*"},
+    33: {f: "a e" if f else "d e" for f in range(16)},
     36: {0: "e", 1: "e e*"},
-    39: {0: "b* 2", 1: "b b* 2"},
-    40: {0: "b* 2", 1: "b* e"},
+    39: {0: "t* 2", 1: "b t* 2"},
+    40: {0: "t* 2", 1: "t* e"},
 }
 STATEMENTS = [*range(2, 6), *range(7, 17), 18, 43, 44]
 EXPRESSIONS = [*range(21, 29), *range(30, 43)]
-TEXT = {20, 21, 25, 29, 37}
+TEXT = {20, 21, 25, 29, 37, 47}
 BITS = {20, 21, 24}
 # a declaration of one declarator, as a child
 SINGLE = 99
@@ -47,7 +49,11 @@ def group(kinds):
     return "[" + "".join(letter(k) for k in kinds) + (letter(SINGLE) if 5 in kinds else "") + "]"
 
 
-WORDS = {"s": STATEMENTS, "e": EXPRESSIONS, "b": [20], "f": [5, *EXPRESSIONS], "u": [21, 37, 38], "a": [20, 37, 38]}
+NAMES = [20, 45, 46]
+WORDS = {
+    "s": STATEMENTS, "e": EXPRESSIONS, "b": [20], "f": [5, *EXPRESSIONS], "u": [21, 37, 38], "a": [20, 37, 38], "n": NAMES,
+    "t": [*NAMES, 48], "d": [*NAMES, 37, 38],
+}
 
 
 def pattern(children):
@@ -55,7 +61,7 @@ def pattern(children):
     for word in children.split():
         name, mark = (word[:-1], word[-1]) if word[-1] in "*?" else (word, "")
         if name == "h":
-            parts.append("[" + letter(20) + letter(SINGLE) + "]")
+            parts.append(group([*NAMES, SINGLE]))
         else:
             parts.append(group(WORDS[name] if name in WORDS else [int(name)]) + mark)
     return re.compile("".join(parts))

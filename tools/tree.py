@@ -1,5 +1,5 @@
 #!/usr/bin/env python3
-"""Makes a tree file (document 01, "The tree file") of a readable one.
+"""Makes a tree file (docs/TREE.md) of a readable one.
 
   tools/tree.py samples/tide.txt samples/tide.tree
 
@@ -14,7 +14,7 @@ import sys
 
 KINDS = """script block empty expression declaration declarator function return if while do for for-in for-of throw try catch switch
 case binding identifier null boolean number string this array object property unary update binary assign conditional call new member
-computed function-expression arrow parenthesis sequence break continue""".split()
+computed function-expression arrow parenthesis sequence break continue object-pattern array-pattern pattern-property default""".split()
 
 FORMS = {
     "declaration": "var let const".split(),
@@ -26,7 +26,7 @@ FORMS = {
     # by a number: which children are there
     "for": [], "try": [], "case": [], "new": [], "function-expression": [], "arrow": [],
 }
-TEXTS = {"binding", "identifier", "string", "property", "member"}
+TEXTS = {"binding", "identifier", "string", "property", "member", "pattern-property"}
 CONTEXTS = {"binding", "identifier"}
 
 

@@ -1,7 +1,7 @@
 #!/usr/bin/env python3
 """Writes the vectors of text files as tables that the checker computes the definition on.
 
-  tools/vectors.py crates/laws_vectors/specs tests/vectors/small.txt tests/vectors/amended.txt:1200
+  tools/vectors.py crates/laws_vectors/specs tests/vectors/small.txt tests/vectors/amended.txt:1200 tests/vectors/patterns.txt:300
 
 Behind a colon: the most bytes that a file of it may have to be taken. A vector in a text file is a line `file HEX`, a line `runs N`, then what the program prints (document 01), up to an empty line:
 `refused N`, or a head line, a line for each node and a line for each root binding, with its count or, as the original prints it, without. The tables go to Part0.antt, Part1.antt, ..

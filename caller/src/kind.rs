@@ -14,9 +14,9 @@ pub enum Kind {
     ExpressionStatement,
     /// 5: `var`, `let` or `const`, of declarators.
     Declaration,
-    /// 6: A binding, and its initialiser if there is one.
+    /// 6: A name or a pattern, and its initialiser if there is one.
     Declarator,
-    /// 7: A function declaration: its name, its parameters, its block.
+    /// 7: A function declaration: its name, its parameters (names, patterns, or either with a default), its block.
     Function,
     /// 8: `return`, with or without an expression.
     Return,
@@ -28,15 +28,15 @@ pub enum Kind {
     DoWhile,
     /// 12: `for (;;)`; the form's bits 1, 2 and 4 tell whether start, test and update are there.
     For,
-    /// 13: `for (… in …)`.
+    /// 13: `for (… in …)`; a declaration, a name or a pattern comes first.
     ForIn,
-    /// 14: `for (… of …)`.
+    /// 14: `for (… of …)`, likewise.
     ForOf,
     /// 15: `throw`.
     Throw,
     /// 16: `try`; the form's bits 1 and 2 tell whether catch and finalizer are there.
     Try,
-    /// 17: `catch`, with or without its binding.
+    /// 17: `catch`, with or without a name or a pattern for what was caught.
     Catch,
     /// 18: `switch`.
     Switch,
@@ -68,7 +68,7 @@ pub enum Kind {
     Update,
     /// 32: A sign or word between two expressions.
     Binary,
-    /// 33: An assignment.
+    /// 33: An assignment, to a name or a member; by `=` to a pattern too.
     Assignment,
     /// 34: `… ? … : …`
     Conditional,
@@ -92,12 +92,21 @@ pub enum Kind {
     Break,
     /// 44: `continue`.
     Continue,
+    /// 45: `{ … }` where names are bound or assigned, of pattern properties.
+    ObjectPattern,
+    /// 46: `[ … ]` likewise, of names and patterns, each with a default or without.
+    ArrayPattern,
+    /// 47: A property of an object pattern: its name as text, and the name or pattern that takes it. `{today}` is written out, as
+    /// `{today: today}`.
+    PatternProperty,
+    /// 48: `… = …`, a name or a pattern with its default, as a parameter or inside a pattern.
+    Default,
     /// A number that this version of the crate has no name for. A file with such a node is refused.
     Unlisted(u8),
 }
 
 /// The kinds of the numbers from 1 on.
-const LISTED: [Kind; 44] = [
+const LISTED: [Kind; 48] = [
     Kind::Script,
     Kind::Block,
     Kind::Empty,
@@ -142,6 +151,10 @@ const LISTED: [Kind; 44] = [
     Kind::Sequence,
     Kind::Break,
     Kind::Continue,
+    Kind::ObjectPattern,
+    Kind::ArrayPattern,
+    Kind::PatternProperty,
+    Kind::Default,
 ];
 
 const DECLARATIONS: [&str; 3] = ["var", "let", "const"];
@@ -195,7 +208,7 @@ impl Kind {
     pub fn number(self) -> u8 {
         match self {
             Kind::Unlisted(number) => number,
-            listed => (1..=44)
+            listed => (1..=48)
                 .find(|number| Kind::from_number(*number) == listed)
                 .unwrap_or(0),
         }
@@ -204,7 +217,14 @@ impl Kind {
     /// Whether a node of this kind has a text: a name, a string, or a property's name.
     #[must_use]
     pub fn has_text(self) -> bool {
-        self.has_context() || matches!(self, Kind::String | Kind::Property | Kind::Member)
+        let properties = matches!(self, Kind::Property | Kind::Member | Kind::PatternProperty);
+        self.has_context() || self == Kind::String || properties
+    }
+
+    /// Whether a node of this kind takes a value apart.
+    #[must_use]
+    pub fn is_pattern(self) -> bool {
+        matches!(self, Kind::ObjectPattern | Kind::ArrayPattern)
     }
 
     /// Whether a node of this kind has a context: a name that stands for a variable.
@@ -238,7 +258,7 @@ mod tests {
             let kind = Kind::from_number(number);
             assert_eq!(kind.number(), number);
             let unlisted = matches!(kind, Kind::Unlisted(_));
-            assert_eq!(unlisted, !(1..=44).contains(&number));
+            assert_eq!(unlisted, !(1..=48).contains(&number));
         }
     }
 
@@ -252,6 +272,10 @@ mod tests {
             (Kind::Unary, 30),
             (Kind::Member, 37),
             (Kind::Continue, 44),
+            (Kind::ObjectPattern, 45),
+            (Kind::ArrayPattern, 46),
+            (Kind::PatternProperty, 47),
+            (Kind::Default, 48),
         ];
         for (kind, number) in some {
             assert_eq!(kind.number(), number);

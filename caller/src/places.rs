@@ -13,6 +13,11 @@ enum Place {
     Statement,
     Expression,
     Binding,
+    /// A declarator's name, a catch's binding, left of a default.
+    Name,
+    /// A parameter, or inside a pattern.
+    Target,
+    PatternProperty,
     Block,
     Declarator,
     Catch,
@@ -20,8 +25,10 @@ enum Place {
     Property,
     /// Under an update: a name or a member.
     Updated,
-    /// Left of an assignment.
+    /// Left of an assignment of a form other than `=`.
     Assigned,
+    /// Left of `=`.
+    Destructured,
     /// The start of `for (;;)`.
     Start,
     /// Before `in` or `of`.
@@ -36,6 +43,9 @@ impl Place {
             Place::Statement => "a statement",
             Place::Expression => "an expression",
             Place::Binding => "a binding (kind 20)",
+            Place::Name => "a binding (kind 20) or a pattern (45, 46)",
+            Place::Target => "a binding (kind 20), a pattern (45, 46) or a default (48)",
+            Place::PatternProperty => "a pattern's property (kind 47)",
             Place::Block => "a block (kind 2)",
             Place::Declarator => "a declarator (kind 6)",
             Place::Catch => "a catch (kind 17)",
@@ -43,8 +53,9 @@ impl Place {
             Place::Property => "a property (kind 29)",
             Place::Updated => "an identifier (kind 21) or a member (37, 38)",
             Place::Assigned => "a binding (kind 20) or a member (37, 38)",
+            Place::Destructured => "a binding (kind 20), a member (37, 38) or a pattern (45, 46)",
             Place::Start => "a declaration (kind 5) or an expression",
-            Place::Head => "a declaration (kind 5) of one declarator or a binding (kind 20)",
+            Place::Head => "a declaration (kind 5) of one declarator, a binding (kind 20) or a pattern (45, 46)",
         }
     }
 
@@ -54,6 +65,9 @@ impl Place {
             Place::Statement => matches!(node.kind, 2..=5 | 7..=16 | 18 | 43 | 44),
             Place::Expression => matches!(node.kind, 21..=28 | 30..=42),
             Place::Binding => node.kind == 20,
+            Place::Name => matches!(node.kind, 20 | 45 | 46),
+            Place::Target => matches!(node.kind, 20 | 45 | 46 | 48),
+            Place::PatternProperty => node.kind == 47,
             Place::Block => node.kind == 2,
             Place::Declarator => node.kind == 6,
             Place::Catch => node.kind == 17,
@@ -61,8 +75,9 @@ impl Place {
             Place::Property => node.kind == 29,
             Place::Updated => matches!(node.kind, 21 | 37 | 38),
             Place::Assigned => matches!(node.kind, 20 | 37 | 38),
+            Place::Destructured => matches!(node.kind, 20 | 37 | 38 | 45 | 46),
             Place::Start => node.kind == 5 || Place::Expression.takes(node),
-            Place::Head => node.kind == 20 || (node.kind == 5 && node.children == 1),
+            Place::Head => Place::Name.takes(node) || (node.kind == 5 && node.children == 1),
         }
     }
 }
@@ -126,16 +141,16 @@ fn forms(kind: u8) -> u8 {
 /// What may stand under a node of a kind that is listed.
 fn row(node: Fields) -> Row {
     use Place::{
-        Assigned, Binding, Block, Case, Catch, Declarator, Expression, Head, Property, Start,
-        Statement, Updated,
+        Assigned, Binding, Block, Case, Catch, Declarator, Destructured, Expression, Head, Name,
+        PatternProperty, Property, Start, Statement, Target, Updated,
     };
     match node.kind {
         1 | 2 => Row::then(&[], Statement, &[]),
         4 | 15 | 29 | 30 | 37 | 41 => Row::exactly(&[Expression]),
         5 => Row::then(&[Declarator], Declarator, &[]),
-        6 if node.children == 2 => Row::exactly(&[Binding, Expression]),
-        6 => Row::exactly(&[Binding]),
-        7 => Row::then(&[Binding], Binding, &[Block]),
+        6 if node.children == 2 => Row::exactly(&[Name, Expression]),
+        6 => Row::exactly(&[Name]),
+        7 => Row::then(&[Binding], Target, &[Block]),
         8 if node.children == 1 => Row::exactly(&[Expression]),
         9 if node.children == 3 => Row::exactly(&[Expression, Statement, Statement]),
         9..=11 => Row::exactly(&[Expression, Statement]),
@@ -148,7 +163,7 @@ fn row(node: Fields) -> Row {
             let rest = chosen(node.form, &[(1, Catch), (2, Block)]);
             Row::exactly(&[&[Block], &rest[..]].concat())
         }
-        17 if node.children == 2 => Row::exactly(&[Binding, Block]),
+        17 if node.children == 2 => Row::exactly(&[Name, Block]),
         17 => Row::exactly(&[Block]),
         18 => Row::then(&[Expression], Case, &[]),
         19 => Row::then(&chosen(node.form, &[(1, Expression)]), Statement, &[]),
@@ -156,13 +171,18 @@ fn row(node: Fields) -> Row {
         28 => Row::then(&[], Property, &[]),
         31 => Row::exactly(&[Updated]),
         32 | 38 => Row::exactly(&[Expression, Expression]),
+        33 if node.form == 0 => Row::exactly(&[Destructured, Expression]),
         33 => Row::exactly(&[Assigned, Expression]),
         34 => Row::exactly(&[Expression, Expression, Expression]),
         36 if node.form == 0 => Row::exactly(&[Expression]),
         35 | 36 | 42 => Row::then(&[Expression], Expression, &[]),
-        39 => Row::then(&chosen(node.form, &[(1, Binding)]), Binding, &[Block]),
-        40 if node.form == 1 => Row::then(&[], Binding, &[Expression]),
-        40 => Row::then(&[], Binding, &[Block]),
+        39 => Row::then(&chosen(node.form, &[(1, Binding)]), Target, &[Block]),
+        40 if node.form == 1 => Row::then(&[], Target, &[Expression]),
+        40 => Row::then(&[], Target, &[Block]),
+        45 => Row::then(&[], PatternProperty, &[]),
+        46 => Row::then(&[], Target, &[]),
+        47 => Row::exactly(&[Target]),
+        48 => Row::exactly(&[Name, Expression]),
         _ => Row::exactly(&[]),
     }
 }

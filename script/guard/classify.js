@@ -1,7 +1,7 @@
 // Which class of docs/DIFFERENCES.md fits a difference: told from the name whose value is another, and from how the script sets it.
 'use strict';
 
-const { K, BINARY, DECLARATION, UNARY, identityOf, isFunction, isStatement, preorder } = require('../src/kinds');
+const { K, BINARY, DECLARATION, UNARY, boundNames, identityOf, isFunction, isPattern, isStatement, partsOfFunction, preorder } = require('../src/kinds');
 
 const TITLES = {
   0: 'no class',
@@ -23,6 +23,7 @@ const TITLES = {
   16: '`arguments` in an arrow',
   17: 'a `let` of one case read in another',
   18: 'an error of the script is gone',
+  19: 'a pattern on the left of `=`',
 };
 
 const TOP_CONTEXT = 1n;
@@ -57,15 +58,19 @@ class Facts {
     this.sources.get(key).push({ name, how, value });
   }
 
+  // What a pattern gives to each of its names is no value of the script's text.
+  addAll(target, how, value) {
+    boundNames(target).forEach((name) => this.add(name, how, target.kind === K.binding ? value : null));
+  }
+
   note(node) {
     const [first, second] = node.children;
-    if (node.kind === K.declarator) this.add(first, DECLARATION[this.parents.get(node).form], second || null);
+    if (node.kind === K.declarator) this.addAll(first, DECLARATION[this.parents.get(node).form], second || null);
     if (node.kind === K.function) this.add(first, 'function', null);
-    if (node.kind === K.assign && first.kind === K.binding) this.add(first, 'assign', second);
+    if (node.kind === K.assign) this.addAll(first, isPattern(first) ? 'pattern' : 'assign', second);
     if (node.kind === K.update && first.kind === K.identifier) this.add(first, 'update', null);
     if (isFunction(node)) {
-      const params = node.children.slice(node.kind === K.function || (node.kind === K.functionExpression && node.form) ? 1 : 0, -1);
-      params.forEach((param) => this.add(param, 'parameter', null));
+      partsOfFunction(node).params.forEach((param) => this.addAll(param, 'parameter', null));
     }
   }
 
@@ -98,12 +103,13 @@ class Facts {
     return false;
   }
 
-  // Under `??` or `? :` on a side that may not be reached.
+  // Under `??` or `? :` on a side that may not be reached, or in a default.
   mayNotHappen(node) {
     let inner = node;
     for (const outer of this.around(node)) {
       if (isStatement(outer)) return false;
       if (outer.kind === K.conditional && outer.children[0] !== inner) return true;
+      if (outer.kind === K.default && outer.children[1] === inner) return true;
       if (outer.kind === K.binary && BINARY[outer.form] === '??' && outer.children[1] === inner) return true;
       inner = outer;
     }
@@ -123,7 +129,7 @@ function countedTexts(root) {
   return counts;
 }
 
-const declares = ({ how }) => how !== 'assign' && how !== 'update';
+const declares = ({ how }) => !['assign', 'update', 'pattern'].includes(how);
 const isAlias = ({ value }) => value !== null && value.kind === K.identifier;
 const isVoid = (node) => node.kind === K.unary && UNARY[node.form] === 'void';
 const usesArguments = (node) => [...preorder(node)].some(({ kind, text }) => kind === K.identifier && text === 'arguments');
@@ -180,6 +186,7 @@ function ofReplaced(node, after, sources, facts) {
   if (facts.inFinally(node) || sources.some(({ name }) => facts.inFinally(name))) return 8;
   if (isVoid(after)) return sources.some((source) => isAlias(source) && hasMoved(source.value, facts)) ? 11 : 2;
   if (sources.some((source) => source.how === 'const' && isAlias(source))) return 7;
+  if (sources.some(({ how }) => how === 'pattern')) return 19;
   const values = sources.filter(declares).length > 1 ? sources.filter((source) => declares(source) && source.how !== 'function') : [];
   if (values.length > 1 && SIMPLE.has(after.kind)) return 1;
   return ofSource(node, after, sources, facts);

@@ -14,7 +14,7 @@ class Coverage {
     for (const { how, node } of changes) {
       const told = how === 'replaced' && this.isTold(node);
       if (told) this.marks.add(node.place);
-      const place = told ? node.place : this.statementOf(node).place;
+      const place = told ? node.place : this.stepOf(node);
       if (!this.places.has(place)) this.places.set(place, node.at ? node.at.loc.start.line : 0);
     }
   }
@@ -22,16 +22,24 @@ class Coverage {
   // A callee keeps its `this`, and a statement of its own may be a directive; their values are not asked for.
   isTold(node) {
     const parent = this.parents.get(node);
+    if (this.isWholeDefault(node)) return true;
     if (parent.kind === K.parenthesis || parent.kind === K.expression || parent.kind === K.update) return false;
     if (parent.kind === K.unary && UNTOLD.has(UNARY[parent.form])) return false;
     return !(parent.kind === K.call && parent.children[0] === node);
   }
 
-  // The nearest statement that counts a step: one of a list, or a branch.
-  statementOf(node) {
+  // A default, in parentheses or not.
+  isWholeDefault(node) {
+    const parent = this.parents.get(node);
+    return parent.kind === K.default || (parent.kind === K.parenthesis && this.isWholeDefault(parent));
+  }
+
+  // The nearest statement that counts a step: one of a list, or a branch. The parameters of a declared function belong to none, and then
+  // the place counts as one that has not run.
+  stepOf(node) {
     let at = node;
-    while (!isStatement(at) || !this.isStep(at)) at = this.parents.get(at);
-    return at;
+    while (at && (!isStatement(at) || !this.isStep(at))) at = this.parents.get(at);
+    return at ? at.place : -node.place;
   }
 
   isStep(node) {

@@ -2,7 +2,7 @@
 'use strict';
 
 const vm = require('vm');
-const { K, ASSIGN, UNARY, identityOf, preorder } = require('../src/kinds');
+const { K, ASSIGN, UNARY, boundNames, identityOf, preorder } = require('../src/kinds');
 const { changesOf, numberPlaces, putBack } = require('../src/changes');
 const { textOfTree } = require('../src/result_text');
 const { classify } = require('./classify');
@@ -27,19 +27,21 @@ function hostNames(root, shapes) {
   };
   for (const node of preorder(root)) {
     if (node.kind === K.identifier) note(node, false);
-    if (node.kind === K.assign && node.children[0].kind === K.binding) note(node.children[0], ASSIGN[node.form] === '=');
+    if (node.kind === K.assign) boundNames(node.children[0]).forEach((name) => note(name, ASSIGN[node.form] === '='));
     if (node.kind === K.unary && UNARY[node.form] === 'typeof' && node.children[0].kind === K.identifier) note(node.children[0], true);
-    if ((node.kind === K.forIn || node.kind === K.forOf) && node.children[0].kind === K.binding) note(node.children[0], true);
+    if (node.kind === K.forIn || node.kind === K.forOf) boundNames(node.children[0]).forEach((name) => note(name, true));
   }
   return [...names.values()];
 }
+
+const declaredBy = (declarator) => boundNames(declarator.children[0]).map(({ text }) => ({ name: text, node: declarator }));
 
 // The declared names of the script's top.
 function topNames(root) {
   const names = [];
   for (const node of root.children) {
     if (node.kind === K.function) names.push({ name: node.children[0].text, node });
-    if (node.kind === K.declaration) names.push(...node.children.map((declarator) => ({ name: declarator.children[0].text, node: declarator })));
+    if (node.kind === K.declaration) names.push(...node.children.flatMap(declaredBy));
   }
   return names;
 }

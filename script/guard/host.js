@@ -201,6 +201,7 @@ function sampleFor(path, change) {
 function make(shape, path, change, owner = () => undefined) {
   const sample = sampleFor(path, change);
   if (sample) return sample.value;
+  if (shape.optional && hash('left out', path, change) % 3 === 0) return undefined;
   const named = change ? `${path}#${change}` : path;
   if (shape.type === 'function') return hostFunction(shape, named, owner);
   if (shape.type === 'object') return hostObject(shape, named);

@@ -1,9 +1,10 @@
 // A script's tree as text that counts its steps, tells which statement runs, and, to find a cause, which values names have.
 'use strict';
 
-const { K, UNARY, identityOf, isFunction, isStatement } = require('../src/kinds');
+const { K, UNARY, isFunction, isStatement, partsOfFunction } = require('../src/kinds');
 const { estreeOf } = require('../src/from_tree');
 const { print } = require('../src/print');
+const { targetKey } = require('./shapes');
 
 const LOOPS = new Set([K.while, K.do, K.for, K.forIn, K.forOf]);
 const LISTS = { [K.script]: 'body', [K.block]: 'body', [K.case]: 'consequent' };
@@ -22,11 +23,16 @@ const step = (node) => statement(hook('at', literal(node.place || 0)));
 
 const isDirective = (node) => node.kind === K.expression && node.children[0].kind === K.string;
 
+// A parameter as the script names it; one that is taken apart has no name.
+function nameOf(param, index) {
+  const target = param.kind === K.default ? param.children[0] : param;
+  return target.kind === K.binding ? target.was ?? target.text : `argument ${index + 1}`;
+}
+
 // Parameters, by the names that the script has for them, with the shapes that the host makes its arguments by.
 function parameters(node, shapes) {
-  const skipped = node.kind === K.function || (node.kind === K.functionExpression && node.form) ? 1 : 0;
-  const named = node.children.slice(skipped, -1).map((param) => ({ ...param, text: param.was ?? param.text }));
-  return list(named.map((param) => list([literal(param.text), literal(shapes.byIdentity[identityOf(param)])])));
+  const { params } = partsOfFunction(node);
+  return list(params.map((param, index) => list([literal(nameOf(param, index)), literal(shapes.byIdentity[targetKey(param)])])));
 }
 
 // A list of statements with a step before each; its functions are announced first, since they are there from the start.

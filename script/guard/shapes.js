@@ -1,7 +1,7 @@
 // What a script expects of the values it is given: guessed from their use, so that a made-up host can play along.
 'use strict';
 
-const { K, BINARY, ASSIGN, UNARY, identityOf, numberOfBits } = require('../src/kinds');
+const { K, BINARY, ASSIGN, UNARY, identityOf, isPattern, numberOfBits, partsOfFunction } = require('../src/kinds');
 
 const words = (text) => new Set(text.split(/\s+/));
 const ARRAY_METHODS = words(`push pop shift unshift map filter forEach reduce some every sort reverse splice join concat slice
@@ -24,6 +24,7 @@ class Shape {
     this.iterated = false;
     this.tested = false;
     this.numeric = false;
+    this.optional = false;
   }
 
   root() {
@@ -62,7 +63,7 @@ function unify(one, two) {
   const [a, b] = [one.root(), two.root()];
   if (a === b) return a;
   b.parent = a;
-  for (const flag of ['called', 'own', 'iterated', 'tested', 'numeric']) a[flag] ||= b[flag];
+  for (const flag of ['called', 'own', 'iterated', 'tested', 'numeric', 'optional']) a[flag] ||= b[flag];
   b.literals.forEach((literal) => a.literals.add(literal));
   for (const [name, shape] of b.members) join(a.root().members.get(name), shape, (part) => a.root().members.set(name, part));
   for (const field of ['returns', 'items']) if (b[field]) join(a.root()[field], b[field], (part) => { a.root()[field] = part; });
@@ -124,15 +125,37 @@ function callable(node, shapes, params, shape) {
   return shape.root();
 }
 
-function declaredFunction(node, shapes) {
-  const [name, ...params] = node.children.slice(0, -1);
-  return callable(node, shapes, params, shapes.of(name));
+function anyFunction(node, shapes) {
+  const { name, params } = partsOfFunction(node);
+  return callable(node, shapes, params, name ? shapes.of(name) : new Shape());
 }
 
-function functionExpression(node, shapes) {
-  const names = node.children.slice(0, -1);
-  const own = node.kind === K.functionExpression && node.form ? shapes.of(names.shift()) : new Shape();
-  return callable(node, shapes, names, own);
+// What tells a name or pattern apart from others, whatever its defaults have become.
+function targetKey(node) {
+  if (node.kind === K.binding) return identityOf({ ...node, text: node.was ?? node.text });
+  if (node.kind === K.default) return targetKey(node.children[0]);
+  const inner = node.children.map(targetKey);
+  if (node.kind === K.patternProperty) return `${JSON.stringify(node.text)} ${inner}`;
+  return node.kind === K.objectPattern ? `{${inner}}` : `[${inner}]`;
+}
+
+function objectPattern(node, shapes) {
+  const shape = shapes.named(targetKey(node));
+  node.children.forEach((child) => unify(shape.member(child.text), shapes.of(child.children[0])));
+  return shape.root();
+}
+
+function arrayPattern(node, shapes) {
+  const shape = shapes.named(targetKey(node)).mark('iterated');
+  node.children.forEach((child) => unify(shape.part('items'), shapes.of(child)));
+  return shape.root();
+}
+
+// What has a default may be left out.
+function withDefault(node, shapes) {
+  const [target, value] = node.children.map((child) => shapes.of(child));
+  compare(target, value);
+  return target.mark('optional');
 }
 
 function call(node, shapes) {
@@ -190,11 +213,11 @@ function returned(node, shapes) {
 
 function loopOf(node, shapes) {
   const [head, list, statement] = node.children;
-  const variable = head.kind === K.binding ? head : head.children[0].children[0];
+  const variable = head.kind === K.declaration ? head.children[0].children[0] : head;
   const shape = shapes.of(list).mark('iterated');
   unify(shape.part('items'), shapes.of(variable));
   shapes.of(statement);
-  return passOver(head, shapes);
+  return isPattern(head) ? shapes.of(head) : passOver(head, shapes);
 }
 
 function array(node, shapes) {
@@ -222,9 +245,12 @@ const RULES = {
   [K.string]: literal((node) => node.text),
   [K.boolean]: literal((node) => node.form === 1),
   [K.declarator]: (node, shapes) => (node.children[1] ? unify(shapes.of(node.children[0]), shapes.of(node.children[1])) : through(node, shapes)),
-  [K.function]: declaredFunction,
-  [K.functionExpression]: functionExpression,
-  [K.arrow]: functionExpression,
+  [K.function]: anyFunction,
+  [K.functionExpression]: anyFunction,
+  [K.arrow]: anyFunction,
+  [K.objectPattern]: objectPattern,
+  [K.arrayPattern]: arrayPattern,
+  [K.default]: withDefault,
   [K.return]: returned,
   [K.if]: tested,
   [K.while]: tested,
@@ -269,7 +295,7 @@ function plainShapes(shapes) {
     if (numbers.has(shape)) return numbers.get(shape);
     const index = list.length;
     numbers.set(shape, index);
-    const plain = { type: typeOf(shape), literals: [...shape.literals].filter((value) => typeof value !== 'boolean') };
+    const plain = { type: typeOf(shape), literals: [...shape.literals].filter((value) => typeof value !== 'boolean'), optional: shape.optional };
     list.push(plain);
     plain.members = Object.fromEntries([...shape.members].map(([name, part]) => [name, number(part)]));
     plain.returns = shape.returns ? number(shape.returns) : null;
@@ -282,4 +308,4 @@ function plainShapes(shapes) {
 
 const shapesOf = (root) => plainShapes(new Shapes(root));
 
-module.exports = { shapesOf };
+module.exports = { shapesOf, targetKey };

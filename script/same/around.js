@@ -15,7 +15,7 @@ class Around {
     const { order, values } = this.check;
     const sure = order.hasValueIn(v, inner);
     const value = sure && v.stable ? this.stable(v, inner, 0) : values.make(null, 'around', v.id);
-    return { value, maybe: isLexical(v) && !sure };
+    return { value, maybe: (isLexical(v) || v.kind === 'param' || v.kind === 'catch') && !sure };
   }
 
   // The value of a variable that never changes: that of its initialiser where that can be told, else one of its own.

@@ -2,7 +2,7 @@
 // symbols, function by function; docs/SAME_MEANING.md has the method and its argument.
 'use strict';
 
-const { K, UNARY, BINARY, ASSIGN, DECLARATION, identityOf, isFunction, preorder } = require('../src/kinds');
+const { K, UNARY, BINARY, ASSIGN, DECLARATION, identityOf, isFunction, isPattern, preorder } = require('../src/kinds');
 const { walk, changesOf } = require('../src/changes');
 const { Around } = require('./around');
 const { namesEval } = require('./exposure');
@@ -10,6 +10,7 @@ const { VALUES } = require('./expressions');
 const { LEVELS, levelOf } = require('./levels');
 const { Operators } = require('./operators');
 const { Order } = require('./order');
+const { hasMisplaced } = require('./patterns');
 const { lateWords, lineOf, notNextWords, otherValueWords } = require('./reasons');
 const { Regions } = require('./regions');
 const { keeper } = require('./rules');
@@ -20,7 +21,7 @@ const { Values } = require('./values');
 const { Variables } = require('./variables');
 
 // Kinds that are neither statement nor expression by themselves.
-const PARTS = new Set([K.script, K.declarator, K.catch, K.case, K.binding, K.property]);
+const PARTS = new Set([K.script, K.declarator, K.catch, K.case, K.binding, K.property, K.objectPattern, K.arrayPattern, K.patternProperty, K.default]);
 const FORMS = { [K.declaration]: DECLARATION, [K.unary]: UNARY, [K.binary]: BINARY, [K.assign]: ASSIGN };
 
 // A kind or form that is not in the tables is never shown.
@@ -29,6 +30,11 @@ const isKnown = ({ kind, form }) => (VALUES[kind] || STATEMENTS[kind] || PARTS.h
 // Where a function may be declared; an engine takes one right below an `if` for one in a block.
 const LISTS = new Set([K.script, K.block, K.case]);
 const hasLooseFunction = (node) => !LISTS.has(node.kind) && node.children.some(({ kind }) => kind === K.function);
+
+const isUnknown = (node) => !isKnown(node) || hasLooseFunction(node) || hasMisplaced(node);
+
+// A replaced name, or a declaration of one name that was emptied.
+const isOther = ({ how, node }) => how === 'other' || (how === 'emptied' && isPattern(node.children[0]));
 
 const LITERAL = { [K.null]: 'null', [K.boolean]: 'boolean', [K.number]: 'number', [K.string]: 'string' };
 
@@ -119,8 +125,8 @@ class Check {
 
   // What the check does not know is not shown.
   isCheckable() {
-    for (const { how, node } of this.changes) if (how === 'other') this.find(node, { reason: 'a change of a form that is not known' });
-    const unknown = [this.root, this.result].map((tree) => [...preorder(tree)].find((node) => !isKnown(node) || hasLooseFunction(node))).find(Boolean);
+    for (const change of this.changes.filter(isOther)) this.find(change.node, { reason: 'a change of a form that is not known' });
+    const unknown = [this.root, this.result].map((tree) => [...preorder(tree)].find(isUnknown)).find(Boolean);
     if (unknown) this.find(this.numbers.has(unknown) ? unknown : this.root, { reason: 'a construct that this check does not know' });
     const evaluated = this.keeps('eval') ? namesEval(this.root) : null;
     if (evaluated) this.find(evaluated, { reason: 'code made from text can see every variable here' });

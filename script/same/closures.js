@@ -1,7 +1,7 @@
 // Function expressions: each evaluation makes an object; where one was moved, it must be the same function over the same variables.
 'use strict';
 
-const { K, ASSIGN, NAMED, identityOf, isFunction, preorder } = require('../src/kinds');
+const { K, ASSIGN, NAMED, boundNames, identityOf, isFunction, preorder } = require('../src/kinds');
 const { strip } = require('./variables');
 
 const textOf = (node) => JSON.stringify([node.kind, node.form, node.text, String(node.bits), node.children.map(textOf)]);
@@ -17,8 +17,8 @@ function closure(run, node) {
 
 // The names that a node itself declares; an assigned name is none of them.
 function declares(node) {
-  if (node.kind === K.declarator) return [node.children[0]];
-  return isFunction(node) || node.kind === K.catch ? node.children.filter(({ kind }) => kind === K.binding) : [];
+  if (node.kind === K.declarator) return boundNames(node.children[0]);
+  return isFunction(node) || node.kind === K.catch ? node.children.flatMap(boundNames) : [];
 }
 
 // A moved function's free names mean what they meant, and none of them was emptied.
@@ -47,10 +47,12 @@ const NAMING = new Set(['=', '&&=', '||=', '??=']);
 function nameAt(run, node) {
   const parent = run.variables.parents.get(node);
   if (parent.kind === K.parenthesis) return nameAt(run, parent);
-  if (parent.kind === K.declarator) return parent.children[0].text;
   if (parent.kind === K.property) return parent.text;
-  const named = parent.kind === K.assign && parent.children[0].kind === K.binding && NAMING.has(ASSIGN[parent.form]);
-  return named ? parent.children[0].text : '';
+  if (parent.kind === K.declarator || parent.kind === K.default) return nameOf(parent.children[0]);
+  return parent.kind === K.assign && NAMING.has(ASSIGN[parent.form]) ? nameOf(parent.children[0]) : '';
 }
+
+// A pattern and a member give no name.
+const nameOf = (target) => (target.kind === K.binding ? target.text : '');
 
 module.exports = { closure };

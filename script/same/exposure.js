@@ -12,7 +12,7 @@ const isGlobalObject = (node) => node.kind === K.this || (node.kind === K.identi
 
 // Whether a node names what makes code from text.
 function makesCode(node) {
-  const named = [K.identifier, K.member, K.string].includes(node.kind) && TEXT_TO_CODE.has(node.text);
+  const named = [K.identifier, K.member, K.patternProperty, K.string].includes(node.kind) && TEXT_TO_CODE.has(node.text);
   return named && !(node.kind === K.identifier && node.bits !== 0n);
 }
 

@@ -1,9 +1,10 @@
 // The value of an expression on one side, with the events that its evaluation makes, in ECMA-262's order.
 'use strict';
 
-const { K, UNARY, BINARY, ASSIGN, identityOf } = require('../src/kinds');
+const { K, UNARY, BINARY, ASSIGN, identityOf, isPattern } = require('../src/kinds');
 const { COMPARISONS, LOGICAL } = require('./operators');
 const { closure } = require('./closures');
+const { give, takeApart } = require('./patterns');
 const { strip } = require('./variables');
 
 const CONSTANT_NAMES = new Set(['undefined', 'NaN', 'Infinity']);
@@ -126,13 +127,35 @@ function update(run, node) {
 
 function assign(run, node) {
   const op = ASSIGN[node.form].slice(0, -1);
+  if (isPattern(node.children[0])) return assignPattern(run, node);
   return node.children[0].kind === K.binding ? assignName(run, node, op) : assignMember(run, node, op);
 }
 
+// Whether the host's name exists is asked before the value is computed.
+function resolve(run, target) {
+  if (target.bits === 0n && !run.assumes.steady) run.emit(target, ['resolve', target.text]);
+}
+
+// A default comes in where its part is undefined, and may not be evaluated.
+const orDefault = (run, node, part) => branching(run, node, part, 'default');
+
+// What a pattern does with its names: assigns them, or gives variables their first value.
+const ASSIGNED = { resolve, orDefault, set: (run, name, value) => run.write(name, value, name) };
+const BOUND = { resolve: () => {}, orDefault, set: (run, name, value) => run.give(run.variables.of(name), value, name) };
+
+// The value first, then its parts; the whole is the value.
+function assignPattern(run, node) {
+  const value = valueOf(run, node.children[1]);
+  takeApart(run, node.children[0], value, ASSIGNED);
+  return value;
+}
+
+// A parameter, or what a catch caught: a name, pattern or either with a default, gets its value.
+const bind = (run, target, value) => give(run, target, () => value, BOUND);
+
 function assignName(run, node, op) {
   const [target, right] = node.children;
-  // Whether the host's name exists is asked before the value is computed.
-  if (target.bits === 0n && !run.assumes.steady) run.emit(target, ['resolve', target.text]);
+  resolve(run, target);
   const set = (value) => {
     run.write(target, value, node);
     return value;
@@ -210,7 +233,7 @@ function partOf(run, node, index, then) {
   return outcome;
 }
 
-// `a && b`, `?:`, `a &&= b`: without events a value, else one event that holds both parts' events.
+// `a && b`, `?:`, `a &&= b`, a default: without events a value, else one event that holds both parts' events.
 function branching(run, node, test, op, then = (value) => value) {
   const parts = op === '?' ? node.children.slice(1) : [node.children[1]];
   const outcomes = parts.map((part, index) => partOf(run, part, index, then));
@@ -256,4 +279,4 @@ const VALUES = {
   [K.computed]: (run, node) => run.emit(node, ['get', ...reference(run, node)]),
 };
 
-module.exports = { valueOf, VALUES };
+module.exports = { valueOf, bind, ASSIGNED, BOUND, VALUES };

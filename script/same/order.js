@@ -79,8 +79,17 @@ class Order {
     return answers.get(key);
   }
 
+  // Whether a function stands in the list of parameters, or in a catch's pattern, that binds a variable: it may run before that has its value.
+  isInPattern(inner, v) {
+    if (v.kind !== 'param' && v.kind !== 'catch') return false;
+    const called = this.outermost(inner, v.fn);
+    return v.defs.some(({ kind, node }) => kind === v.kind && !this.variables.isInside(called, node.children.at(-1)));
+  }
+
   findValueIn(v, inner) {
-    if (!this.variables.keeps('initialised') || FROM_THE_START.has(v.kind)) return true;
+    const { keeps } = this.variables;
+    if (this.isInPattern(inner, v) && keeps('one-by-one')) return false;
+    if (!keeps('initialised') || FROM_THE_START.has(v.kind)) return true;
     if (v.writes.length === 1 && v.writes[0].how === 'function') return v.defs.length === 1;
     const giver = this.giver(v);
     if (!giver) return false;

@@ -25,6 +25,10 @@ const WORDS = {
   unary: ([, op]) => `\`${op}\` on what may be an object`,
   binary: ([, op]) => `\`${op}\` on what may be an object`,
   key: () => 'a key that may be an object',
+  'take apart': () => 'taking a value apart',
+  iterate: () => 'taking a list apart',
+  next: () => 'taking a list apart',
+  close: () => 'the end of taking a list apart',
   numeric: () => 'an operator on what may be an object',
   either: () => 'a part that may not run',
   array: () => 'a new array',
@@ -40,22 +44,20 @@ function writtenBetween(check, value, from, to) {
   for (const node of preorder(check.root)) {
     const number = check.numberOf(node);
     if (number <= from || number >= to || !NAMED.has(node.kind) || !names.has(identityOf(node))) continue;
-    if (Variables.writeOf(node, check.variables.parents.get(node))) return node;
+    if (Variables.writeOf(node, check.variables.parents)) return node;
   }
   return null;
 }
 
-// A name of a value that another function writes.
+// A name of a value that another function writes, with the write.
 function writtenElsewhere(check, value) {
   for (const node of preorder(value)) {
     const v = NAMED.has(node.kind) ? check.variables.of(node) : null;
     const write = v && v.foreign ? v.writes.find(({ fn }) => fn !== v.fn) : null;
-    if (write) return write.node;
+    if (write) return { name: v.name, node: write.node };
   }
   return null;
 }
-
-const written = (node) => `\`${(node.kind === K.declarator || node.kind === K.function ? node.children[0] : node).text}\``;
 
 // The variable's own declarators with a value, and its last read.
 function spanOf(check, v) {
@@ -72,7 +74,7 @@ function betweenWords(check, v, use) {
   const between = writtenBetween(check, value, check.numberOf(giver), use ? check.numberOf(use) : last);
   if (between) return `\`${between.text}\` is written on line ${lineOf(between)} between this value and its use`;
   const elsewhere = writtenElsewhere(check, value);
-  return elsewhere ? `${written(elsewhere)} is written by another function (line ${lineOf(elsewhere)}), which may run between this value and its use` : null;
+  return elsewhere ? `\`${elsewhere.name}\` is written by another function (line ${lineOf(elsewhere.node)}), which may run between this value and its use` : null;
 }
 
 // The script has computed a value before something; the result has not.

@@ -1,16 +1,14 @@
 // Which variables a piece of a function's own code may write, and which of its declarations were emptied.
 'use strict';
 
-const { K, identityOf, isFunction } = require('../src/kinds');
+const { K, boundNames, identityOf, isFunction } = require('../src/kinds');
 
-const HEADS = new Set([K.forIn, K.forOf]);
+const WRITERS = new Set([K.declarator, K.assign, K.forIn, K.forOf]);
 
 function writtenBy(node) {
   const [first] = node.children;
-  if (node.kind === K.declarator) return [first];
-  if (node.kind === K.assign) return first.kind === K.binding ? [first] : [];
+  if (WRITERS.has(node.kind)) return boundNames(first);
   if (node.kind === K.update) return first.kind === K.identifier ? [first] : [];
-  if (HEADS.has(node.kind)) return first.kind === K.binding ? [first] : [];
   return node.children.filter((child) => child.kind === K.function).map((child) => child.children[0]);
 }
 

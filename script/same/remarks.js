@@ -2,7 +2,7 @@
 // text, writes to constants, statements that would be directives but for their parentheses.
 'use strict';
 
-const { K, DECLARATION, identityOf, isFunction, preorder } = require('../src/kinds');
+const { K, DECLARATION, NAMED, boundNames, identityOf, isFunction, preorder } = require('../src/kinds');
 const { walk } = require('../src/changes');
 const { makesCode } = require('./exposure');
 const { Variables } = require('./variables');
@@ -31,22 +31,16 @@ function codeFromText(root) {
 function constants(root) {
   const found = new Set();
   for (const node of preorder(root)) {
-    if (node.kind === K.declaration && DECLARATION[node.form] === 'const') node.children.forEach(({ children: [name] }) => found.add(identityOf(name)));
+    if (node.kind === K.declaration && DECLARATION[node.form] === 'const') node.children.flatMap(({ children: [name] }) => boundNames(name)).forEach((name) => found.add(identityOf(name)));
   }
   return found;
 }
 
 function constantWrites(root) {
   const names = constants(root);
-  const found = [];
-  for (const parent of preorder(root)) {
-    for (const node of parent.children) {
-      const isName = node.kind === K.binding || node.kind === K.identifier;
-      if (!isName || !names.has(identityOf(node)) || !Variables.writeOf(node, parent)) continue;
-      found.push({ node, text: `the constant \`${node.text}\` is written here; that fails when it runs` });
-    }
-  }
-  return found;
+  const parents = new Map([...preorder(root)].flatMap((parent) => parent.children.map((node) => [node, parent])));
+  const written = [...parents.keys()].filter((node) => NAMED.has(node.kind) && names.has(identityOf(node)) && Variables.writeOf(node, parents));
+  return written.map((node) => ({ node, text: `the constant \`${node.text}\` is written here; that fails when it runs` }));
 }
 
 const isText = (node) => node.kind === K.expression && node.children[0].kind === K.string;

@@ -21,7 +21,7 @@ const isNameless = (node) => isFunction(node) && !(node.kind === K.functionExpre
 function nameGiven(node) {
   const [first, second] = node.children;
   if (node.kind === K.function || (node.kind === K.functionExpression && node.form)) return first;
-  const gives = node.kind === K.declarator || node.kind === K.assign;
+  const gives = [K.declarator, K.assign, K.default].includes(node.kind);
   return gives && first.kind === K.binding && second && isNameless(strip(second)) ? first : null;
 }
 

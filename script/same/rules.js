@@ -4,7 +4,7 @@
 
 const RULES = `read once order all branch-events allocation operators key host-read method
 foreign captured-write try-write outside-write
-uninitialised begin
+uninitialised begin taken-apart one-by-one
 loop catch finally join
 arguments own-arguments stable loop-var initialised reached given-before emptied-around
 moved-function scope function-name renamed

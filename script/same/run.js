@@ -1,9 +1,11 @@
 // One function of script and result, run beside each other on symbols: the state, the events of both, and what is not the same.
 'use strict';
 
-const { K, NAMED, identityOf, preorder } = require('../src/kinds');
+const { K, NAMED, identityOf, partsOfFunction, preorder } = require('../src/kinds');
 const { Env, State, SIDES, join } = require('./state');
 const { isLexical } = require('./variables');
+
+const isFirst = ({ kind }) => kind === 'param' || kind === 'own name';
 
 class Run {
   constructor(check, fn, after) {
@@ -41,12 +43,30 @@ class Run {
     return [...named].filter((v) => v && v.fn !== this.fn && this.variables.isInside(this.fn, v.scope));
   }
 
-  // The function's own parameters and variables at its start.
+  // The function's own name and parameters at its start.
   begin() {
-    for (const v of this.variables.all()) {
-      if (v.fn !== this.fn || v.scope !== this.fn) continue;
+    const own = [...this.variables.all()].filter((v) => v.fn === this.fn && v.scope === this.fn);
+    const [first, rest] = [own.filter(isFirst), own.filter((v) => !isFirst(v))];
+    const simple = this.fn.kind === K.script || partsOfFunction(this.fn).params.every(({ kind }) => kind === K.binding);
+    const late = simple ? [] : first.filter(({ kind }) => kind === 'param');
+    first.filter((v) => !late.includes(v)).forEach((v) => this.both(v.id, this.valueAtStart(v)));
+    this.beginOneByOne(late);
+    this.rest = rest;
+  }
+
+  // The body's own variables, of which the parameters' defaults know nothing.
+  beginBody() {
+    for (const v of this.rest) {
       if (isLexical(v)) this.notBegun(v);
       else this.both(v.id, this.valueAtStart(v));
+    }
+  }
+
+  // Names of which each has a value only when its turn comes.
+  beginOneByOne(variables) {
+    for (const v of variables) {
+      if (this.keeps('one-by-one')) this.notBegun(v);
+      else this.both(v.id, this.values.make(null, 'parameter', v.id));
     }
   }
 

@@ -1,8 +1,9 @@
 // The statements of script and result in lock-step: each expression on both sides, and no event left over where control parts or meets.
 'use strict';
 
-const { K, DECLARATION, FOR, TRY, identityOf } = require('../src/kinds');
-const { valueOf } = require('./expressions');
+const { K, DECLARATION, FOR, TRY, boundNames, identityOf, isPattern, partsOfFunction } = require('../src/kinds');
+const { ASSIGNED, BOUND, bind, valueOf } = require('./expressions');
+const { takeApart } = require('./patterns');
 const { SIDES } = require('./state');
 
 // Both sides of an expression, the script's first; they have one value.
@@ -41,10 +42,19 @@ function declaration(run, node, after) {
   node.children.forEach((child, index) => declarator(run, child, after.children[index], DECLARATION[node.form]));
 }
 
+// A pattern of the script and the result's, which has its own defaults, take one value apart.
+function apart(run, patterns, value, how) {
+  SIDES.forEach((side, index) => run.on(side, () => takeApart(run, patterns[index], value, how)));
+}
+
 function declarator(run, node, after, kind) {
   const v = run.variables.of(node.children[0]);
   if (run.variables.emptied.has(node)) return emptied(run, node, v, kind);
   const init = node.children[1];
+  if (isPattern(node.children[0])) {
+    const value = init ? same(run, init, after.children[1]) : run.values.undefined();
+    return apart(run, [node.children[0], after.children[0]], value, BOUND);
+  }
   // A `var` without a value does nothing.
   if (!init && kind === 'var') return undefined;
   const value = init ? same(run, init, after.children[1]) : run.values.undefined();
@@ -138,7 +148,7 @@ function loopOver(run, node, after) {
   const exit = run.st.clone();
   const target = { breaks: [], continues: [] };
   run.targets.push(target);
-  nextItem(run, node, head);
+  nextItem(run, node, head, after.children[0]);
   round(run, [body, after.children[2]], target);
   run.targets.pop();
   // The way past the last item always comes, so what holds after the loop is a value of its own, whatever closing the iterator runs.
@@ -146,13 +156,15 @@ function loopOver(run, node, after) {
   run.closeScope(node);
 }
 
-function nextItem(run, node, head) {
+function nextItem(run, node, head, other) {
   const value = run.values.make(null, 'item', run.check.serial('i'));
   const isDeclared = head.kind === K.declaration;
   if (isDeclared && head.children[0].children.length > 1 && run.keeps('head-value')) run.check.find(head, { reason: 'a loop\'s variable with a value of its own' });
+  const [target, its] = [head, other].map((whole) => (isDeclared ? whole.children[0].children[0] : whole));
   onBoth(run, () => {
     run.emit(node, ['item']);
-    if (isDeclared) run.give(run.variables.of(head.children[0].children[0]), value, head);
+    if (isPattern(target)) takeApart(run, run.side === 'p' ? target : its, value, isDeclared ? BOUND : ASSIGNED);
+    else if (isDeclared) run.give(run.variables.of(target), value, head);
     else run.write(head, value, head);
   });
   run.settle('a round of a loop begins or ends');
@@ -211,7 +223,7 @@ function caught(run, start, body, [clause, other]) {
   const end = run.st;
   run.st = start.clone();
   run.forget([body], 'catch');
-  if (clause.children.length === 2) run.both(identityOf(clause.children[0]), run.values.make(null, 'caught', run.check.serial('c')));
+  if (clause.children.length === 2) catchBinding(run, clause.children[0], other.children[0]);
   run.openScope(clause);
   statements(run, clause.children.at(-1).children, other.children.at(-1).children);
   run.settle('a catch ends');
@@ -219,6 +231,13 @@ function caught(run, start, body, [clause, other]) {
   const handled = run.st;
   run.st = end;
   return handled;
+}
+
+function catchBinding(run, name, other) {
+  const value = run.values.make(null, 'caught', run.check.serial('c'));
+  if (!isPattern(name)) return run.both(identityOf(name), value);
+  run.beginOneByOne(boundNames(name).map((binding) => run.variables.of(binding)));
+  return apart(run, [name, other], value, BOUND);
 }
 
 // The finalizer runs after any part of block and handler, and before what jumps out of them goes on.
@@ -259,9 +278,22 @@ const STATEMENTS = {
   [K.continue]: (run) => jump(run, run.targets.findLast((target) => target.continues).continues),
 };
 
-// A whole function: its own variables, then its body.
+// Parameters that are taken apart or have defaults get their values one after the other.
+function parameters(run, node, after) {
+  const [list, others] = [node, after].map((whole) => partsOfFunction(whole).params);
+  if (list.every(({ kind }) => kind === K.binding)) return;
+  list.forEach((param, index) => {
+    const value = run.values.make(null, 'argument', index);
+    run.on('p', () => bind(run, param, value));
+    run.on('r', () => bind(run, others[index], value));
+  });
+}
+
+// A whole function: its parameters, its own variables, then its body.
 function wholeFunction(run, node, after) {
   run.begin();
+  if (node.kind !== K.script) parameters(run, node, after);
+  run.beginBody();
   const [body, other] = node.kind === K.script ? [node, after] : [node.children.at(-1), after.children.at(-1)];
   if (body.kind === K.block || body.kind === K.script) statements(run, body.children, other.children);
   else same(run, body, other);

@@ -1,11 +1,13 @@
 // What a script's text says of its variables: where each is declared, by which functions it is written and read, and what can reach it.
 'use strict';
 
-const { K, ASSIGN, DECLARATION, identityOf, isFunction, preorder } = require('../src/kinds');
+const { K, ASSIGN, DECLARATION, boundNames, identityOf, isFunction, isPattern, partsOfFunction, preorder } = require('../src/kinds');
 const { exposureOf } = require('./exposure');
 
 const LOOP_OVER = new Set([K.forIn, K.forOf]);
 const OWN_SCOPE = new Set([K.block, K.for, K.forIn, K.forOf]);
+
+const IN_PATTERN = new Set([K.objectPattern, K.arrayPattern, K.patternProperty, K.default]);
 
 const strip = (node) => (node.kind === K.parenthesis ? strip(node.children[0]) : node);
 const isLiteral = (node) => [K.null, K.boolean, K.number, K.string].includes(node.kind);
@@ -45,6 +47,9 @@ class Variables {
 
   all() { return this.byId.values(); }
 
+  // All names of a name or pattern.
+  addAll(target, kind, scope, fn, node) { boundNames(target).forEach((binding) => this.add(binding, kind, scope, fn, node)); }
+
   add(binding, kind, scope, fn, node) {
     const id = identityOf(binding);
     if (!this.byId.has(id)) this.byId.set(id, { id, name: binding.text, kind, scope, fn, defs: [], writes: [], reads: [], emptied: false, captured: false });
@@ -72,13 +77,12 @@ class Variables {
 
   declare(node, fn, scope) {
     const kind = DECLARATION[node.form];
-    for (const declarator of node.children) this.add(declarator.children[0], kind, kind === 'var' ? fn : scope, fn, declarator);
+    for (const declarator of node.children) this.addAll(declarator.children[0], kind, kind === 'var' ? fn : scope, fn, declarator);
   }
 
   // A declared function's name is of the scope around, a function expression's of its own.
   enterFunction(node, fn, scope) {
-    const named = node.kind === K.function || (node.kind === K.functionExpression && node.form);
-    const [name, rest] = named ? [node.children[0], node.children.slice(1)] : [null, node.children];
+    const { name, params, body } = partsOfFunction(node);
     if (node.kind === K.function) {
       this.add(name, 'function', scope, fn, node);
       this.enter(name, node, fn, scope);
@@ -86,9 +90,9 @@ class Variables {
       this.add(name, 'own name', node, node, node);
       this.enter(name, node, node, node);
     }
-    for (const param of rest.slice(0, -1)) this.add(param, 'param', node, node, node);
-    this.enterAll(rest.slice(0, -1), node, node, node);
-    this.enterBody(rest.at(-1), node, node, node);
+    for (const param of params) this.addAll(param, 'param', node, node, node);
+    this.enterAll(params, node, node, node);
+    this.enterBody(body, node, node, node);
   }
 
   // A function's or catch's block has no scope of its own.
@@ -101,7 +105,7 @@ class Variables {
 
   enterCatch(node, fn) {
     if (node.children.length === 2) {
-      this.add(node.children[0], 'catch', node, fn, node);
+      this.addAll(node.children[0], 'catch', node, fn, node);
       this.enter(node.children[0], node, fn, node);
     }
     this.enterBody(node.children.at(-1), node, fn, node);
@@ -133,22 +137,25 @@ class Variables {
   }
 
   noteDeclarator(node) {
-    const v = this.of(node.children[0]);
+    const [name] = node.children;
     const head = this.isHead(this.parents.get(node));
-    if (node.children.length > 1 || head) this.noteWrite(v, node, head ? 'head' : 'value');
-    if (this.emptied.has(node)) v.emptied = true;
+    const how = isPattern(name) ? 'part' : 'value';
+    for (const binding of boundNames(name)) if (node.children.length > 1 || head) this.noteWrite(this.of(binding), node, head ? 'head' : how);
+    if (this.emptied.has(node)) this.of(name).emptied = true;
   }
 
   // How a name is written where it stands: by assignment, update or a loop's head; null where it is only read or declared.
-  static writeOf(node, parent) {
+  static writeOf(node, parents) {
+    let [at, parent] = [node, parents.get(node)];
     if (node.kind === K.identifier) return parent.kind === K.update ? 'update' : null;
-    if (parent.kind === K.assign && parent.children[0] === node) return ASSIGN[parent.form] === '=' ? 'assign' : 'update';
+    while (IN_PATTERN.has(parent.kind)) [at, parent] = [parent, parents.get(parent)];
+    if (parent.kind === K.assign && parent.children[0] === at) return ASSIGN[parent.form] === '=' ? 'assign' : 'update';
     return LOOP_OVER.has(parent.kind) ? 'head' : null;
   }
 
   noteName(node) {
     if (node.text === 'arguments') this.withArguments.add(this.argumentsOf(node));
-    const how = Variables.writeOf(node, this.parents.get(node));
+    const how = Variables.writeOf(node, this.parents);
     const v = this.of(node);
     if (!v) {
       if (how) this.hostWritten.add(node.text);

@@ -21,13 +21,28 @@ function repeatsCatch(name) {
   return { at: name.loc.start, message: message([`a var that repeats the catch parameter ${name.name}`, 'another name for one of them']) };
 }
 
+const hasDefault = (param) => param && (param.type === 'AssignmentPattern' || partsOf(param).some(hasDefault));
+const partsOf = (node) => [...(node.properties || []).map(({ value }) => value), ...(node.elements || [])];
+
+// Where a parameter has a default, the body's own variables are apart from the parameters; one of the same name starts with the
+// parameter's value, and no kind says that.
+function repeatsParameter({ variables: declared, block }) {
+  if (!block.params || !block.params.some(hasDefault)) return [];
+  const twice = declared.filter(({ defs }) => defs.some(({ type }) => type === 'Parameter') && defs.some(({ type }) => type !== 'Parameter'));
+  return twice.map(({ defs }) => {
+    const { name } = defs.find(({ type }) => type !== 'Parameter');
+    return { at: name.loc.start, message: message([`${name.name}, declared again in a function with default values,`, 'another name for one of them']) };
+  });
+}
+
 // The parser's name nodes with the resolver's variables, null for names of the host.
 function variables(manager) {
   const found = new Map();
   const findings = [];
   const globals = manager.globalScope.set;
   for (const scope of manager.scopes) {
-    for (const variable of scope.variables) for (const { name } of variable.defs) found.set(name, variable);
+    for (const variable of scope.variables) for (const name of variable.identifiers) found.set(name, variable);
+    if (scope.type === 'function') findings.push(...repeatsParameter(scope));
   }
   for (const scope of manager.scopes) {
     for (const reference of scope.references) {

@@ -22,6 +22,7 @@ function parentsOf(root) {
 }
 
 const LISTS = new Set([K.script, K.block, K.case]);
+const SHORT = new Set([K.property, K.patternProperty]);
 
 // Whether the text before a statement goes on with it where it begins with a bracket: `a = b` and a line below `(c)`.
 function runsOn(statement, place, text) {
@@ -77,13 +78,19 @@ class Editor {
   }
 
   renamed(node, after) {
-    const { parent } = this.parents.get(node);
+    const parent = this.targetOf(node);
     return this.edit('renamed', node, after, node.at, this.isShort(parent) ? `${parent.text}: ${after.text}` : after.text);
   }
 
   // `{a}`, in which one word is both the property's name and the variable.
   isShort(parent) {
-    return parent.kind === K.property && parent.at.shorthand;
+    return SHORT.has(parent.kind) && parent.at.shorthand;
+  }
+
+  // The property of a pattern that a name, with a default or without, is the target of.
+  targetOf(node) {
+    const { parent, index } = this.parents.get(node);
+    return parent.kind === K.default && index === 0 ? this.parents.get(parent).parent : parent;
   }
 }
 

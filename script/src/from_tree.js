@@ -46,6 +46,14 @@ function property({ text, children }, convert) {
   return { type: 'Property', kind: 'init', computed: false, method: false, shorthand: false, key, value: convert(children[0]) };
 }
 
+// `{today}` for `{today: today}`, with a default or without.
+function patternProperty(node, convert) {
+  const [target] = node.children;
+  const name = target.kind === K.default ? target.children[0] : target;
+  const shorthand = name.kind === K.binding && name.text === node.text;
+  return { ...property(node, convert), shorthand };
+}
+
 function binary({ form, children }, convert) {
   const operator = BINARY[form];
   const type = LOGICAL.has(operator) ? 'LogicalExpression' : 'BinaryExpression';
@@ -144,6 +152,10 @@ const SHAPES = {
   [K.arrow]: (node, convert) => callable('ArrowFunctionExpression', node.children, convert, { id: null, expression: node.form === 1 }),
   [K.parenthesis]: (node, convert) => ({ type: 'ParenthesizedExpression', expression: convert(node.children[0]) }),
   [K.sequence]: (node, convert) => ({ type: 'SequenceExpression', expressions: node.children.map(convert) }),
+  [K.objectPattern]: (node, convert) => ({ type: 'ObjectPattern', properties: node.children.map(convert) }),
+  [K.arrayPattern]: (node, convert) => ({ type: 'ArrayPattern', elements: node.children.map(convert) }),
+  [K.patternProperty]: patternProperty,
+  [K.default]: (node, convert) => ({ type: 'AssignmentPattern', left: convert(node.children[0]), right: convert(node.children[1]) }),
   [K.break]: () => ({ type: 'BreakStatement', label: null }),
   [K.continue]: () => ({ type: 'ContinueStatement', label: null }),
 };

@@ -40,6 +40,7 @@ const list = (first) => (parent, index) => (index ? P.assign : first);
 // The loosest level that may stand at a place; other places take anything.
 const PLACE = {
   [K.declarator]: () => P.assign,
+  [K.default]: () => P.assign,
   [K.forOf]: () => P.assign,
   [K.array]: () => P.assign,
   [K.property]: () => P.assign,
@@ -66,10 +67,12 @@ function clashes(parent, node) {
   return LOGICAL.has(outer) && LOGICAL.has(inner) && (outer === '??') !== (inner === '??');
 }
 
+const BRACED = new Set([K.object, K.functionExpression, K.objectPattern]);
+
 // At the beginning of a statement, and of an arrow's body, `{` and `function` mean something else; a text could be a directive, or let the next one be one.
 function startsOtherwise(parent, node, level) {
   if (node.kind === K.string) return parent.kind === K.expression;
-  const braced = node.kind === K.object || node.kind === K.functionExpression;
+  const braced = BRACED.has((node.kind === K.assign ? node.children[0] : node).kind);
   return braced && (level > P.assign || [K.expression, K.arrow, K.sequence].includes(parent.kind));
 }
 

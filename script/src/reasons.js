@@ -1,7 +1,7 @@
 // What is known of each variable, and from it why the pass changed a place, in words.
 'use strict';
 
-const { K, DECLARATION, identityOf, isFunction, preorder } = require('./kinds');
+const { K, DECLARATION, boundNames, identityOf, isFunction, partsOfFunction, preorder } = require('./kinds');
 
 const HOST = 0n;
 
@@ -28,20 +28,22 @@ class Variables {
     return variable;
   }
 
-  noteFunction({ kind, form, children }) {
-    const named = kind === K.function || (kind === K.functionExpression && form);
-    if (named) this.declare(children[0], 'a function');
-    children.slice(named ? 1 : 0, -1).forEach((name) => this.declare(name, 'a parameter'));
+  declareAll(target, sort) { boundNames(target).forEach((name) => this.declare(name, sort)); }
+
+  noteFunction(node) {
+    const { name, params } = partsOfFunction(node);
+    if (name) this.declare(name, 'a function');
+    params.forEach((param) => this.declareAll(param, 'a parameter'));
   }
 
   note(node) {
     const { kind, form, children } = node;
     if (kind === K.identifier) this.of(node).reads += 1;
-    if (kind === K.declaration) children.forEach((declarator) => this.declare(declarator.children[0], DECLARATION[form]));
+    if (kind === K.declaration) children.forEach((declarator) => this.declareAll(declarator.children[0], DECLARATION[form]));
     if (isFunction(node)) this.noteFunction(node);
-    if (kind === K.catch && children.length > 1) this.declare(children[0], 'what a catch caught');
-    const sets = (kind === K.declarator && children.length > 1) || (kind === K.assign && children[0].kind === K.binding);
-    if (sets) this.of(children[0]).writes.push(lineOf(node));
+    if (kind === K.catch && children.length > 1) this.declareAll(children[0], 'what a catch caught');
+    const sets = (kind === K.declarator && children.length > 1) || kind === K.assign;
+    if (sets) boundNames(children[0]).forEach((name) => this.of(name).writes.push(lineOf(node)));
     if (kind === K.update && children[0].kind === K.identifier) this.of(children[0]).writes.push(lineOf(node));
   }
 }

@@ -45,7 +45,7 @@ function valuesIn(root) {
 
 // A constant or variable whose own value names it.
 function namesItself(root) {
-  const sets = [...preorder(root)].filter(({ kind, children }) => kind === K.declarator && children.length > 1);
+  const sets = [...preorder(root)].filter(({ kind, children }) => kind === K.declarator && children.length > 1 && children[0].kind === K.binding);
   return sets.find(({ children: [name, value] }) => [...preorder(value)].some((node) => node.kind === K.identifier && identityOf(node) === identityOf(name))) || null;
 }
 

@@ -11,15 +11,14 @@ const { trouble } = require('./trouble');
 
 const present = (...children) => children.filter(Boolean);
 
-// Marks a name that declares or is assigned; others are read.
-const bound = (name) => ({ type: 'Binding', name });
-const target = (node) => (node.type === 'Identifier' ? bound(node) : node);
-const head = (node) => (node.type === 'VariableDeclaration' ? node : bound(node));
+// Marks a name that declares or is assigned; others are read. A pattern's names are marked where it is taken apart.
+const bound = (node) => (node.type === 'Identifier' ? { type: 'Binding', at: node } : node);
 
 const flag = (value, bit = 1) => (value ? bit : 0);
 const binary = (node) => ({ kind: K.binary, form: BINARY.indexOf(node.operator), children: [node.left, node.right] });
 const callable = (node) => [...node.params.map(bound), node.body];
 const propertyText = ({ key }) => (key.type === 'Identifier' ? key.name : String(key.value));
+const inPattern = (property) => ({ type: 'PatternProperty', at: property });
 
 function literal({ value }) {
   if (value === null) return { kind: K.null };
@@ -34,7 +33,7 @@ function member(node) {
 }
 
 function loopOver(kind) {
-  return (node) => ({ kind, children: [head(node.left), node.right, node.body] });
+  return (node) => ({ kind, children: [bound(node.left), node.right, node.body] });
 }
 
 function forLoop(node) {
@@ -94,7 +93,7 @@ const SHAPES = {
   UpdateExpression: update,
   BinaryExpression: binary,
   LogicalExpression: binary,
-  AssignmentExpression: (node) => ({ kind: K.assign, form: ASSIGN.indexOf(node.operator), children: [target(node.left), node.right] }),
+  AssignmentExpression: (node) => ({ kind: K.assign, form: ASSIGN.indexOf(node.operator), children: [bound(node.left), node.right] }),
   ConditionalExpression: (node) => ({ kind: K.conditional, children: [node.test, node.consequent, node.alternate] }),
   CallExpression: (node) => ({ kind: K.call, children: [node.callee, ...node.arguments] }),
   NewExpression: newExpression,
@@ -103,12 +102,16 @@ const SHAPES = {
   ArrowFunctionExpression: (node) => ({ kind: K.arrow, form: flag(node.expression), children: callable(node) }),
   ParenthesizedExpression: (node) => ({ kind: K.parenthesis, children: [node.expression] }),
   SequenceExpression: (node) => ({ kind: K.sequence, children: node.expressions }),
+  Binding: ({ at }) => ({ kind: K.binding, text: at.name }),
+  ObjectPattern: (node) => ({ kind: K.objectPattern, children: node.properties.map(inPattern) }),
+  ArrayPattern: (node) => ({ kind: K.arrayPattern, children: node.elements.map(bound) }),
+  PatternProperty: ({ at }) => ({ kind: K.patternProperty, text: propertyText(at), children: [bound(at.value)] }),
+  AssignmentPattern: (node) => ({ kind: K.default, children: [bound(node.left), node.right] }),
 };
 
 function treeNode(node) {
-  if (node.type === 'Binding') return { kind: K.binding, form: 0, text: node.name.name, bits: 0n, children: [], at: node.name };
   const { kind, form = 0, text = null, bits = 0n, children = [] } = SHAPES[node.type](node);
-  return { kind, form, text, bits, children: children.map(treeNode), at: node };
+  return { kind, form, text, bits, children: children.map(treeNode), at: node.at || node };
 }
 
 // Nested so deep that it cannot even be parsed; the port refuses far less.

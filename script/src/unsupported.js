@@ -1,8 +1,7 @@
-// Constructs that the kinds of document 01 do not hold: their names and what to write instead.
+// Constructs that the kinds of the tree file do not hold: their names and what to write instead.
 'use strict';
 
 const CLASS = ['a class', 'functions and plain objects'];
-const PATTERN = ['destructuring', 'one variable for each part: `var a = o.a;`'];
 const TEMPLATE = ['a template', 'strings joined by `+`'];
 const SPREAD = ['spread', 'each value by itself, or a loop'];
 const HALF = /\p{Cs}/u;
@@ -11,10 +10,6 @@ const HALF = /\p{Cs}/u;
 const NEVER = {
   ClassDeclaration: CLASS,
   ClassExpression: CLASS,
-  ObjectPattern: PATTERN,
-  ArrayPattern: PATTERN,
-  AssignmentPattern: ['a default value of a parameter', '`if (p === undefined) p = ...;` in the function'],
-  RestElement: ['a rest parameter', '`arguments`'],
   SpreadElement: SPREAD,
   TemplateLiteral: TEMPLATE,
   TaggedTemplateExpression: ['a tagged template', 'a call with strings'],
@@ -45,7 +40,32 @@ function ofLiteral(node) {
   return null;
 }
 
-function ofProperty(node) {
+// What stands in a pattern: names, patterns and either with a default.
+const TARGETS = new Set(['Identifier', 'ObjectPattern', 'ArrayPattern', 'AssignmentPattern']);
+const AFTER = 'a variable there, and an assignment after it: `[a] = list; o.p = a;`';
+
+function ofPatternPart(node) {
+  if (TARGETS.has(node.type)) return null;
+  return node.type === 'ParenthesizedExpression' ? ['parentheses in a pattern', 'it without parentheses'] : ['a member in a pattern', AFTER];
+}
+
+function ofArrayPattern(node) {
+  if (node.elements.includes(null)) return ['a hole in a pattern', 'a variable at its place that is not used'];
+  return null;
+}
+
+function ofRest(node, parent) {
+  if (parent.type === 'ArrayPattern') return ['the rest of a list in a pattern', 'the list by a name, and `slice`: `let rest = list.slice(1);`'];
+  if (parent.type === 'ObjectPattern') return ['the rest of an object in a pattern', 'each property by itself'];
+  return ['a rest parameter', '`arguments`'];
+}
+
+function ofPatternProperty(node) {
+  return node.computed ? ['a computed name in a pattern', 'a variable of its own: `var a = o[name];`'] : ofPatternPart(node.value);
+}
+
+function ofProperty(node, parent) {
+  if (parent.type === 'ObjectPattern') return ofPatternProperty(node);
   if (node.kind !== 'init') return ['a getter or setter', 'a function: `level: function () { ... }`'];
   if (node.method) return ['a method', 'a property with a function: `open: function () { ... }`'];
   if (node.computed) return ['a computed property name', 'an assignment after the object: `o[name] = value;`'];
@@ -53,11 +73,13 @@ function ofProperty(node) {
   return null;
 }
 
-// Parentheses, patterns and members have no place left of a loop's `in` or `of`.
+const HEADS = new Set(['VariableDeclaration', 'Identifier', 'ObjectPattern', 'ArrayPattern']);
+
+// Parentheses and members have no place left of a loop's `in` or `of`.
 function ofLoopHead(node) {
   if (node.await) return ['for await', 'a plain loop'];
   const { left } = node;
-  if (left.type === 'VariableDeclaration' || left.type === 'Identifier' || NEVER[left.type]) return null;
+  if (HEADS.has(left.type)) return null;
   return [`${targetName(left)} as a loop's variable`, 'a variable, assigned on in the loop'];
 }
 
@@ -91,6 +113,9 @@ const PARTLY = {
   BreakStatement: ofLabel,
   ContinueStatement: ofLabel,
   ArrayExpression: (node) => (node.elements.includes(null) ? ['a hole in an array', '`undefined` at its place'] : null),
+  ArrayPattern: ofArrayPattern,
+  AssignmentPattern: (node) => ofPatternPart(node.left),
+  RestElement: ofRest,
 };
 
 const isNode = (value) => value !== null && typeof value === 'object' && typeof value.type === 'string';
@@ -101,18 +126,19 @@ function parts(node) {
   return found.sort((a, b) => a.start - b.start);
 }
 
-function unsupportedAt(node) {
+function unsupportedAt(node, parent) {
   if (NEVER[node.type]) return NEVER[node.type];
-  return PARTLY[node.type] ? PARTLY[node.type](node) : null;
+  const isElement = parent && parent.type === 'ArrayPattern' && node.type !== 'RestElement';
+  return (isElement && ofPatternPart(node)) || (PARTLY[node.type] ? PARTLY[node.type](node, parent) : null);
 }
 
 const message = ([construct, instead]) => `${construct} cannot be built; write ${instead}`;
 
 // Every unsupported construct, the outermost of each nest, in the text's order.
-function findUnsupported(node) {
-  const here = unsupportedAt(node);
+function findUnsupported(node, parent = null) {
+  const here = unsupportedAt(node, parent);
   if (here) return [{ at: node.loc.start, message: message(here) }];
-  return parts(node).flatMap(findUnsupported);
+  return parts(node).flatMap((part) => findUnsupported(part, node));
 }
 
 module.exports = { findUnsupported, message };

@@ -6,6 +6,8 @@ const { estreeOf } = require('./from_tree');
 const { finishedText, print } = require('./print');
 const { LINE_END } = require('./rows');
 
+const PROPERTIES = new Set([K.property, K.patternProperty]);
+
 const keyOf = (node) => `${node.kind} ${node.form} ${node.bits} ${JSON.stringify(node.text)}(${node.children.map(keyOf)})`;
 
 // The values that the script gives to each variable.
@@ -25,7 +27,7 @@ function quotedTexts(root, text) {
   const note = (value, { start, end }) => quoted.has(value) || quoted.set(value, text.slice(start, end));
   for (const { kind, at, text: value } of preorder(root)) {
     if (kind === K.string) note(value, at);
-    if (kind === K.property && typeof at.key.value === 'string') note(value, at.key);
+    if (PROPERTIES.has(kind) && typeof at.key.value === 'string') note(value, at.key);
   }
   return quoted;
 }
@@ -69,7 +71,7 @@ class Source {
   printed(node) {
     const around = (part, made) => {
       if (part.kind === K.string && this.quoted.has(part.text)) return finishedText(this.quoted.get(part.text));
-      if (part.kind === K.property && made.key.type === 'Literal' && this.quoted.has(part.text)) return { ...made, key: finishedText(this.quoted.get(part.text)) };
+      if (PROPERTIES.has(part.kind) && made.key.type === 'Literal' && this.quoted.has(part.text)) return { ...made, key: finishedText(this.quoted.get(part.text)) };
       return made;
     };
     return print(estreeOf(node, around)).trimEnd();

@@ -56,7 +56,32 @@ class AnyScript {
     return body;
   }
 
-  params() { return [...new Set(this.list(() => this.random.pick(['a', 'b', this.fresh()]), 2))].join(', '); }
+  // A name or pattern with a default or without, over names that `name` makes.
+  part(name, deep) {
+    const target = this.left > 0 && deep < 2 && this.random.chance(0.3) ? this.pattern(name, deep + 1) : name();
+    return this.random.chance(0.3) ? `${target} = ${this.operand()}` : target;
+  }
+
+  patternProperty(name, deep) {
+    if (this.random.chance(0.7)) return `${this.random.pick(PROPERTIES)}: ${this.part(name, deep)}`;
+    return this.random.pick(['', ` = ${this.operand()}`]).replace(/^/, name());
+  }
+
+  pattern(name, deep = 0) {
+    this.left -= 1;
+    return this.random.weighed([
+      [1, () => `[${this.list(() => this.part(name, deep), 3).join(', ')}]`],
+      [1, () => `{${this.list(() => this.patternProperty(name, deep), 3).join(', ')}}`],
+    ])();
+  }
+
+  nameOrPattern(name) { return this.left > 0 && this.random.chance(0.25) ? this.pattern(name) : name(); }
+
+  // Where there are patterns or defaults no name may come twice.
+  params() {
+    if (this.left > 0 && this.random.chance(0.3)) return this.list(() => this.part(() => this.fresh(), 0), 2).join(', ');
+    return [...new Set(this.list(() => this.random.pick(['a', 'b', this.fresh()]), 2))].join(', ');
+  }
 
   arrow() {
     return this.random.chance(0.5) ? `(${this.params()}) => ${this.functionBody()}` : `(${this.params()}) => ${this.operand()}`;
@@ -84,7 +109,7 @@ class AnyScript {
     const forms = [
       [4, () => this.small()], [2, () => this.unary()], [2, () => this.update()], [2, () => this.chain()],
       [4, () => `${this.operand()} ${this.random.pick(BINARY)} ${this.operand()}`],
-      [3, () => `${this.target()} ${this.random.pick(ASSIGN)} ${this.operand()}`],
+      [3, () => `${this.target()} ${this.random.pick(ASSIGN)} ${this.operand()}`], [1, () => `${this.pattern(() => this.name())} = ${this.operand()}`],
       [2, () => `${this.operand()} ? ${this.operand()} : ${this.operand()}`],
       [3, () => `${this.operand()}(${this.list(() => this.operand(), 2).join(', ')})`],
       [1, () => `new ${this.name()}(${this.list(() => this.operand(), 2).join(', ')})`],
@@ -105,7 +130,10 @@ class AnyScript {
   body() { return this.random.chance(0.6) ? this.block(2) : `${this.inParentheses()};`; }
 
   declaration() {
-    const declarator = (required) => `${this.fresh()}${required || this.random.chance(0.6) ? ` = ${this.operand()}` : ''}`;
+    const declarator = (required) => {
+      const target = this.nameOrPattern(() => this.fresh());
+      return `${target}${required || /^[[{]/.test(target) || this.random.chance(0.6) ? ` = ${this.operand()}` : ''}`;
+    };
     return this.random.weighed([
       [4, () => `var ${this.random.pick(['a', 'b', this.fresh()])}${this.random.chance(0.6) ? ` = ${this.operand()}` : ''}, ${declarator(false)};`],
       [2, () => `let ${declarator(false)};`],
@@ -126,7 +154,8 @@ class AnyScript {
   }
 
   loopOver() {
-    const head = this.random.pick([`var ${this.fresh()}`, `let ${this.fresh()}`, `const ${this.fresh()}`, this.name()]);
+    const word = this.random.pick(['var ', 'let ', 'const ', '']);
+    const head = word + this.nameOrPattern(() => (word ? this.fresh() : this.name()));
     return `for (${head} ${this.random.pick(['in', 'of'])} ${this.operand()}) ${this.body()}`;
   }
 
@@ -138,7 +167,7 @@ class AnyScript {
   }
 
   attempt() {
-    const handler = this.random.pick([`catch (${this.fresh()}) ${this.block(1)}`, `catch ${this.block(1)}`]);
+    const handler = this.random.pick([`catch (${this.nameOrPattern(() => this.fresh())}) ${this.block(1)}`, `catch ${this.block(1)}`]);
     const last = `finally ${this.block(1)}`;
     return `try ${this.block(2)} ${this.random.pick([handler, last, `${handler} ${last}`])}`;
   }

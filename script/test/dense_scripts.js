@@ -104,4 +104,4 @@ class DenseScript {
 
 const denseScript = (seed) => new DenseScript(seed).text();
 
-module.exports = { denseScript };
+module.exports = { DenseScript, denseScript };

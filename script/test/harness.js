@@ -13,7 +13,7 @@ function each(name, items, act) {
     } catch (error) {
       failed += 1;
       counts.failed += 1;
-      if (failed <= 3) console.log(`${name}: ${error.stack || error}`);
+      if (failed <= 40) console.log(`${name}: ${(error.stack || String(error)).slice(0, 400)}`);
     }
   }
   console.log(`${name}: ${items.length - failed} passed, ${failed} failed`);

@@ -3,7 +3,7 @@
 'use strict';
 
 const vm = require('vm');
-const { K, DECLARATION, NAMED, isFunction } = require('../src/kinds');
+const { K, DECLARATION, NAMED, boundNames, isFunction } = require('../src/kinds');
 const { estreeOf } = require('../src/from_tree');
 const { print } = require('../src/print');
 const { Random } = require('./random');
@@ -201,7 +201,7 @@ function provide() {
 function topNames(root) {
   const names = new Map();
   const visit = (node, top) => {
-    if (node.kind === K.declaration && (top || node.form === 0)) for (const { children: [name] } of node.children) names.set(name.text, DECLARATION[node.form]);
+    if (node.kind === K.declaration && (top || node.form === 0)) for (const name of node.children.flatMap(({ children }) => boundNames(children[0]))) names.set(name.text, DECLARATION[node.form]);
     if (node.kind === K.function) names.set(renamed(node.children[0]).text, 'function');
     if (!isFunction(node)) node.children.forEach((child) => visit(child, node.kind === K.script));
   };

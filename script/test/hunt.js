@@ -1,4 +1,4 @@
-// Looks for results that are shown and differ: hunt.js [COUNT [SEED [RUNS]]]. Generated scripts beside the pass's results, and beside wrong ones,
+// Looks for results that are shown and differ: hunt.js [COUNT [SEED [RUNS]]]. Generated scripts beside the pass's results, and beside wrong ones; with PATTERNS scripts with patterns;
 // against a host that does all that the least level allows at which the result is shown. The counts stand in docs/SCRIPT.md.
 // With RUN_UNSHOWN what is not shown is run, too, to see how much of it differs.
 'use strict';
@@ -10,6 +10,7 @@ const { ScriptTrouble } = require('../src/trouble');
 const { leastLevel } = require('../same/check');
 const { denseScript } = require('./dense_scripts');
 const { gateScript } = require('./gate_scripts');
+const { patternScript } = require('./pattern_scripts');
 const { difference } = require('./hostile');
 const { resultsOf } = require('./many_results');
 const { Random } = require('./random');
@@ -49,7 +50,8 @@ class Hunt {
   }
 
   chunk(first, count) {
-    const texts = Array.from({ length: count }, (_, index) => ((first + index) % 3 ? denseScript : gateScript)(this.seed * 10000000 + first + index));
+    const plain = (number) => (number % 3 ? denseScript : gateScript);
+    const texts = Array.from({ length: count }, (_, index) => (this.options.patterns ? patternScript : plain(first + index))(this.seed * 10000000 + first + index));
     const built = resultsOf(texts);
     this.scripts += count;
     this.refused += count - built.length;
@@ -84,7 +86,7 @@ function hunt(count, options, say = () => {}) {
 
 if (require.main === module) {
   const [count = 2000, seed = 1, runs = 12] = process.argv.slice(2).map(Number);
-  const options = { seed, runs, runsUnshown: Boolean(process.env.RUN_UNSHOWN) };
+  const options = { seed, runs, runsUnshown: Boolean(process.env.RUN_UNSHOWN), patterns: Boolean(process.env.PATTERNS) };
   const all = hunt(count, options, (text) => fs.writeSync(2, `${text}\n`));
   console.log(all.summary());
   for (const found of all.wrong.slice(0, 5)) console.log(JSON.stringify(found, null, 1));

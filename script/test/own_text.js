@@ -37,6 +37,17 @@ const TEXTS = [
   ['const a = "x";\nfunction f() { a; "use strict"; g(); }', 'const a = "x";\nfunction f() { ("x"); "use strict"; g(); }'],
   ['var x;\r\nx;\r\n', 'var x;\r\nvoid 0;\r\n'],
   ['\ufeffconst a = 1; f(a)', '\ufeffconst a = 1; f(1)'],
+  ['const n = 5; function f({today, before = n}) { var d = today; g(); return d; }', 'const n = 5; function f({today, before = 5}) { var d; g(); return today; }'],
+  ['const b = a; function f({a}) { return a > b; }', 'const b = a; function f({a: a$1}) { return a$1 > a; }'],
+  ['const b = a; function f({a = 1, "x-y": [c]}) { return a > b; }', 'const b = a; function f({a: a$1 = 1, "x-y": [c]}) { return a$1 > a; }'],
+  ['const b = a; function f([a]) { return ({a} = {a: b}); }', 'const b = a; function f([a$1]) { return ({a: a$1} = {a: a}); }'],
+  ['let v = {a} = o; v;', 'let v; ({a} = o);'],
+  ['let v = {a} = o; f(v);', 'let v; f({a} = o);'],
+  ['let v = {a} = o; f(() => v);', 'let v; f(() => ({a} = o));'],
+  ['let v = () => 1; [a = v] = o;', 'let v; [a = () => 1] = o;'],
+  ['let v = p ? 1 : 2; function f(a = /* why */ v) {}', 'let v; function f(a = /* why */ p ? 1 : 2) {}'],
+  ['const n = 5; for (const {a = n, b: [c = n]} of l) { f(a, c, n); }', 'const n = 5; for (const {a = 5, b: [c = 5]} of l) { f(a, c, 5); }'],
+  ['const n = 5; try { f(); } catch ({message, code = n}) { g(message, code); }', 'const n = 5; try { f(); } catch ({message, code = 5}) { g(message, code); }'],
   ['#!/usr/bin/env node\nconst a = 1; f(a)', '#!/usr/bin/env node\nconst a = 1; f(1)'],
 ];
 

@@ -42,11 +42,18 @@ function needed({ rule, level, root, result, line }) {
   assert.ok(shown, `not needed: ${line}: ${findings.map(({ reason }) => reason)}`);
 }
 
+function notShown(line) {
+  const [script, result] = line.split(' ==> ');
+  const root = treeOfText(script);
+  for (const { name } of LEVELS) assert.strictEqual(checkResult(root, resultTree(result, root), name).shown, false, `shown at ${name}: ${line}`);
+}
+
 // Each rule has a counterexample here and a paragraph in the document.
 function testRules() {
   const pairs = listed('rules.txt').map(pairOf);
   const document = read(path.join(ROOT, 'docs', 'SAME_MEANING.md'));
   each('each rule of the static check is needed', pairs, needed);
+  each('wrong results with patterns are not shown', listed('wrong_patterns.txt'), notShown);
   each('each rule has its counterexample and its argument', RULES, (rule) => {
     assert.ok(pairs.some((pair) => pair.rule === rule), `no counterexample: ${rule}`);
     assert.ok(document.includes(`**${rule}**`), `not in docs/SAME_MEANING.md: ${rule}`);
@@ -148,7 +155,7 @@ function testKeeping() {
 
 // A smaller round of the hunt whose figures stand in docs/SCRIPT.md.
 function testHunt() {
-  each('no shown result differs in any run', [[300, { seed: 1, runs: 8 }]], ([count, options]) => {
+  each('no shown result differs in any run', [[300, { seed: 1, runs: 8 }], [300, { seed: 1, runs: 8, patterns: true }]], ([count, options]) => {
     const all = hunt(count, options);
     console.log(all.summary());
     assert.deepStrictEqual(all.wrong, []);

@@ -127,6 +127,12 @@ function testGuardReaches() {
   each('the guard names changes that never ran', [0], () => {
     const { neverRan, differing } = run('function tick(level) {\n  const most = 5;\n  if (typeof level === "symbol") {\n    report(most);\n  }\n}');
     assert.deepStrictEqual([neverRan, differing], [[4], 0]);
+    const named = run('const most = 5;\nfunction tick(\n  level,\n  far = most() + 1) {\n  report(level);\n}');
+    assert.deepStrictEqual([named.neverRan, named.differing], [[4], 0]);
+  });
+  each('arguments are left out where there is a default', [0], () => {
+    const { neverRan, differing } = run('const most = 5;\nfunction tick({level, far = most}, list = [most], [from = most] = list) {\n  report(level, far, from);\n}');
+    assert.deepStrictEqual([neverRan, differing], [[], 0]);
   });
   each('the guard keeps its own built-ins', [SABOTAGE], (text) => {
     const { unjudged, differing, trials } = run(text);

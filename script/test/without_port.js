@@ -29,7 +29,7 @@ function everyFormComes(scripts) {
   const forms = new Set(scripts.flatMap((text) => [...preorder(treeOfText(text))].map(({ kind, form }) => `${kind} ${form}`)));
   const kinds = new Set([...forms].map((form) => form.split(' ')[0]));
   assert.strictEqual(kinds.size, Object.keys(K).length);
-  assert.strictEqual(forms.size, 108);
+  assert.strictEqual(forms.size, 112);
 }
 
 function testRoundTrips() {

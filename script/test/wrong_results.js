@@ -37,7 +37,7 @@ function wrongResult(root, random) {
   let changed = false;
   for (let left = 1 + random.below(2); left > 0; left--) {
     const declarations = [...preorder(result)].filter(({ kind }) => kind === K.declaration);
-    const pairs = declarations.flatMap((declaration) => declaration.children.filter(({ children }) => children.length > 1).map((declarator) => [declaration, declarator]));
+    const pairs = declarations.flatMap((declaration) => declaration.children.filter(({ children }) => children.length > 1 && children[0].kind === K.binding).map((declarator) => [declaration, declarator]));
     if (!pairs.length) break;
     change(result, ...random.pick(pairs), random);
     changed = true;

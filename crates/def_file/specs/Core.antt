@@ -1,15 +1,15 @@
 -- The core of a script, which names everything by numbers, and the way back to file nodes. Assumes nothing: these are definitions.
 -- A core has, of an identifier, its number in the order of first appearance; of a literal, its origin, which is its node's number; of a
--- property or member, the number of the node whose text it has. Of a name it has only whether it is `arguments`.
+-- property, member or pattern property, the number of the node whose text it has. Of a name it has only whether it is `arguments`.
 use Rattle.std.specs.Prelude.{Bool, ◌&&◌, ◌||◌, List, [], ◌∷◌, ℕ, suc, eqb, leb, get_or}
 use Rattle.def_tree.specs.Base.{pick, to_nat}
 use Rattle.def_tree.specs.Tree.{Core}
 use Rattle.def_file.specs.declared.Raw.{Raw}
 use Rattle.def_file.specs.Script.{Script, is_lit, has_id, idents, place_of, zero_node, node_at, is_arguments}
 
--- 29 property, 37 member: a text that no step looks at
+-- 29 property, 37 member, 47 pattern property: a text that no step looks at
 abbrev pub has_text : ℕ → Bool
-has_text k = eqb k 29 || eqb k 37
+has_text k = eqb k 29 || eqb k 37 || eqb k 47
 
 -- the core of node number n
 unfoldable pub core_node : Script → ℕ → Raw → Core

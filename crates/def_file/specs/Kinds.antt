@@ -1,10 +1,11 @@
--- The kinds 1 to 44 of document 01, "The tree file": of each its forms, how many children it has, and what may stand at each child's place.
+-- The kinds 1 to 44 of document 01, "The tree file", and 45 to 48 of request 4: of each its forms, how many children it has, and what may
+-- stand at each child's place.
 -- Assumes nothing: these are definitions.
 use Rattle.std.specs.Prelude.{Bool, ◌&&◌, ◌||◌, not, List, [], ◌∷◌, ℕ, ◌+◌, ◌/◌, ◌%◌, eqb, leb, get_or}
 use Rattle.def_tree.specs.Base.{pick}
 use Rattle.def_file.specs.declared.kinds.Class.{Class}
 use Rattle.def_file.specs.declared.kinds.Row.{Row}
-pub use Rattle.def_file.specs.declared.kinds.Class.TheVariants.{Root, Statement, Expression, Binding, Block, Declarator, Catch, Case, Property, Updated, Assigned, Start, Head}
+pub use Rattle.def_file.specs.declared.kinds.Class.TheVariants.{Root, Statement, Expression, Binding, Name, Target, Block, Declarator, Catch, Case, Property, PatternProperty, Updated, Assigned, Destructured, Start, Head}
 
 -- s and e of document 01
 abbrev pub is_stmt : ℕ → Bool
@@ -13,27 +14,39 @@ is_stmt k = (leb 2 k && leb k 5) || (leb 7 k && leb k 16) || eqb k 18 || eqb k 4
 abbrev pub is_expr : ℕ → Bool
 is_expr k = leb 21 k && leb k 42 && not (eqb k 29)
 
+-- request 4: where 20 may, 45 and 46 may stand as declarator name, catch binding, for head without declaration, left of `=`, and left in a 48
+abbrev pub is_binding_name : ℕ → Bool
+is_binding_name k = eqb k 20 || eqb k 45 || eqb k 46
+
+-- "A target is 20, 45, 46 or 48": a parameter, or what stands inside a pattern
+abbrev pub is_target : ℕ → Bool
+is_target k = is_binding_name k || eqb k 48
+
 -- may a node of kind k with n children stand at a place
 abbrev pub allows : Class → ℕ → ℕ → Bool
 allows Root k n = eqb k 1
 allows Statement k n = is_stmt k
 allows Expression k n = is_expr k
 allows Binding k n = eqb k 20
+allows Name k n = is_binding_name k
+allows Target k n = is_target k
 allows Block k n = eqb k 2
 allows Declarator k n = eqb k 6
 allows Catch k n = eqb k 17
 allows Case k n = eqb k 19
 allows Property k n = eqb k 29
+allows PatternProperty k n = eqb k 47
 allows Updated k n = eqb k 21 || eqb k 37 || eqb k 38
 allows Assigned k n = eqb k 20 || eqb k 37 || eqb k 38
+allows Destructured k n = is_binding_name k || eqb k 37 || eqb k 38
 allows Start k n = eqb k 5 || is_expr k
-allows Head k n = eqb k 20 || (eqb k 5 && eqb n 1)
+allows Head k n = is_binding_name k || (eqb k 5 && eqb n 1)
 
 -- any count: the field for it has two bytes
 abbrev pub any : ℕ
 any = 65535
 
--- forms 0 to `to`; n to m children: all of one class; the first of another; the last of another
+-- forms 0 to `to`; n to m children: all of one class; the first of another; the last of another; both
 abbrev pub every : ℕ → ℕ → ℕ → Class → Row
 every to n m c = record { from = 0; to = to; least = n; most = m; only = c; first = c; rest = c; last = c }
 
@@ -42,6 +55,9 @@ led to n m a c = record { from = 0; to = to; least = n; most = m; only = a; firs
 
 abbrev pub ended : ℕ → ℕ → ℕ → Class → Class → Row
 ended to n m c z = record { from = 0; to = to; least = n; most = m; only = z; first = c; rest = c; last = z }
+
+abbrev pub framed : ℕ → ℕ → ℕ → Class → Class → Class → Row
+framed to n m a c z = record { from = 0; to = to; least = n; most = m; only = z; first = a; rest = c; last = z }
 
 -- no such kind: no form will do
 abbrev pub no_row : Row
@@ -53,7 +69,7 @@ for_row f =
     let n = 1 + f % 2 + f / 2 % 2 + f / 4 % 2 in
     record { from = 0; to = 7; least = n; most = n; only = Statement; first = pick (eqb (f % 2) 1) Start Expression; rest = Expression; last = Statement }
 
--- 13 for-in and 14 for-of: (5 of one declarator, or b) e s
+-- 13 for-in and 14 for-of: (5 of one declarator, or 20, 45 or 46) e s
 abbrev pub head_row : Row
 head_row = record { from = 0; to = 0; least = 3; most = 3; only = Head; first = Head; rest = Expression; last = Statement }
 
@@ -67,16 +83,20 @@ try_row f =
 abbrev pub case_row : ℕ → Row
 case_row f = led 1 f any (pick (eqb f 1) Expression Statement) Statement
 
+-- 33 assign 20, 37 or 38, e; left of `=`, which is form 0, also 45 or 46
+abbrev pub assign_row : ℕ → Row
+assign_row f = led 15 2 2 (pick (eqb f 0) Destructured Assigned) Expression
+
 -- 36 new e e* (form 1: has a list)
 abbrev pub new_row : ℕ → Row
 new_row f = every 1 1 (pick (eqb f 1) any 1) Expression
 
--- 39 function expression (form 1: b) b* 2; 40 arrow b* then 2 (form 0) or e (form 1)
+-- 39 function expression (form 1: b), targets, 2; 40 arrow: targets, then 2 (form 0) or e (form 1)
 abbrev pub function_row : ℕ → Row
-function_row f = ended 1 (1 + f) any Binding Block
+function_row f = framed 1 (1 + f) any (pick (eqb f 1) Binding Target) Target Block
 
 abbrev pub arrow_row : ℕ → Row
-arrow_row f = ended 1 1 any Binding (pick (eqb f 1) Expression Block)
+arrow_row f = ended 1 1 any Target (pick (eqb f 1) Expression Block)
 
 -- by kind, from 0 on, and form
 abbrev pub rows : List (ℕ → Row)
@@ -87,10 +107,10 @@ rows =
     ∷ (λ f. every 0 0 any Statement)
     ∷ (λ f. every 0 0 0 Expression)
     ∷ (λ f. every 0 1 1 Expression)
-    -- 5 declaration 6 (one or more; form 0 var, 1 let, 2 const); 6 declarator b [e]; 7 function b b* 2
+    -- 5 declaration 6 (one or more; form 0 var, 1 let, 2 const); 6 declarator: 20, 45 or 46, then [e]; 7 function b, targets, 2
     ∷ (λ f. every 2 1 any Declarator)
-    ∷ (λ f. led 0 1 2 Binding Expression)
-    ∷ (λ f. ended 0 2 any Binding Block)
+    ∷ (λ f. led 0 1 2 Name Expression)
+    ∷ (λ f. framed 0 2 any Binding Target Block)
     -- 8 return [e]; 9 if e s [s]; 10 while e s; 11 do e s
     ∷ (λ f. every 0 0 1 Expression)
     ∷ (λ f. led 0 2 3 Expression Statement)
@@ -102,8 +122,8 @@ rows =
     ∷ (λ f. head_row)
     ∷ (λ f. every 0 1 1 Expression)
     ∷ try_row
-    -- 17 catch [b] 2; 18 switch e 19*; 19 case
-    ∷ (λ f. ended 0 1 2 Binding Block)
+    -- 17 catch [20, 45 or 46] 2; 18 switch e 19*; 19 case
+    ∷ (λ f. ended 0 1 2 Name Block)
     ∷ (λ f. led 0 1 any Expression Case)
     ∷ case_row
     -- 20 binding; 21 identifier; 22 null; 23 boolean (form 0, 1); 24 number; 25 string; 26 this
@@ -118,11 +138,11 @@ rows =
     ∷ (λ f. every 0 0 any Expression)
     ∷ (λ f. every 0 0 any Property)
     ∷ (λ f. every 0 1 1 Expression)
-    -- 30 unary e; 31 update of 21, 37 or 38; 32 binary e e; 33 assign 20, 37 or 38, e; 34 conditional e e e
+    -- 30 unary e; 31 update of 21, 37 or 38; 32 binary e e; 33 assign; 34 conditional e e e
     ∷ (λ f. every 6 1 1 Expression)
     ∷ (λ f. every 3 1 1 Updated)
     ∷ (λ f. every 24 2 2 Expression)
-    ∷ (λ f. led 15 2 2 Assigned Expression)
+    ∷ assign_row
     ∷ (λ f. every 0 3 3 Expression)
     -- 35 call e e*; 36 new; 37 member e; 38 member e e; 39 function expression; 40 arrow
     ∷ (λ f. every 0 1 any Expression)
@@ -136,6 +156,11 @@ rows =
     ∷ (λ f. every 0 1 any Expression)
     ∷ (λ f. every 0 0 0 Expression)
     ∷ (λ f. every 0 0 0 Expression)
+    -- 45 object pattern (47*); 46 array pattern (targets, any count); 47 pattern property (text, target); 48 default (20, 45 or 46, then e)
+    ∷ (λ f. every 0 0 any PatternProperty)
+    ∷ (λ f. every 0 0 any Target)
+    ∷ (λ f. every 0 1 1 Target)
+    ∷ (λ f. led 0 2 2 Name Expression)
     ∷ []
 
 -- what kind k asks of a node of form f
@@ -155,7 +180,7 @@ child_of r n i = pick (eqb n 1) r.only (pick (eqb i 0) r.first (pick (eqb (i + 1
 
 -- the kinds whose text number, and whose 8 bytes, are used; of all others they are 0
 abbrev pub uses_text : ℕ → Bool
-uses_text k = eqb k 20 || eqb k 21 || eqb k 25 || eqb k 29 || eqb k 37
+uses_text k = eqb k 20 || eqb k 21 || eqb k 25 || eqb k 29 || eqb k 37 || eqb k 47
 
 abbrev pub uses_bits : ℕ → Bool
 uses_bits k = eqb k 20 || eqb k 21 || eqb k 24

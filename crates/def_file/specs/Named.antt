@@ -1,7 +1,7 @@
 -- The kinds of nodes by name. Assumes nothing: these are definitions.
 use Rattle.std.specs.Prelude.{◌≡◌, ◌⊎◌, ◌<◌, ℕ, List, [], ◌∷◌, get_or}
 use Rattle.def_file.specs.declared.kind.Kind.{Kind}
-use Rattle.def_file.specs.declared.kind.Kind.TheVariants.{Script, Block, Empty, ExprStmt, VarDecl, VarDeclarator, FnDecl, Return, If, While, DoWhile, For, ForIn, ForOf, Throw, Try, CatchClause, Switch, SwitchCase, BindingIdent, Ident, Null, Bool, Number, Str, This, Array, Object, Prop, Unary, Update, Bin, Assign, Cond, Call, New, Member, Computed, FnExpr, Arrow, Paren, Seq, Break, Continue, Invalid}
+use Rattle.def_file.specs.declared.kind.Kind.TheVariants.{Script, Block, Empty, ExprStmt, VarDecl, VarDeclarator, FnDecl, Return, If, While, DoWhile, For, ForIn, ForOf, Throw, Try, CatchClause, Switch, SwitchCase, BindingIdent, Ident, Null, Bool, Number, Str, This, Array, Object, Prop, Unary, Update, Bin, Assign, Cond, Call, New, Member, Computed, FnExpr, Arrow, Paren, Seq, Break, Continue, ObjectPat, ArrayPat, PatProp, AssignPat, Invalid}
 
 -- n is the number of a kind
 abbrev pub Coded : Kind → ℕ → Type 0
@@ -49,11 +49,15 @@ Coded Paren n = n ≡ 41
 Coded Seq n = n ≡ 42
 Coded Break n = n ≡ 43
 Coded Continue n = n ≡ 44
-Coded (Invalid m) n = (n ≡ m) × ((n ≡ 0) ⊎ (44 < n))
+Coded ObjectPat n = n ≡ 45
+Coded ArrayPat n = n ≡ 46
+Coded PatProp n = n ≡ 47
+Coded AssignPat n = n ≡ 48
+Coded (Invalid m) n = (n ≡ m) × ((n ≡ 0) ⊎ (48 < n))
 
 -- the kinds, each at its number
 abbrev pub kinds : List Kind
-kinds = Invalid 0 ∷ Script ∷ Block ∷ Empty ∷ ExprStmt ∷ VarDecl ∷ VarDeclarator ∷ FnDecl ∷ Return ∷ If ∷ While ∷ DoWhile ∷ For ∷ ForIn ∷ ForOf ∷ Throw ∷ Try ∷ CatchClause ∷ Switch ∷ SwitchCase ∷ BindingIdent ∷ Ident ∷ Null ∷ Bool ∷ Number ∷ Str ∷ This ∷ Array ∷ Object ∷ Prop ∷ Unary ∷ Update ∷ Bin ∷ Assign ∷ Cond ∷ Call ∷ New ∷ Member ∷ Computed ∷ FnExpr ∷ Arrow ∷ Paren ∷ Seq ∷ Break ∷ Continue ∷ []
+kinds = Invalid 0 ∷ Script ∷ Block ∷ Empty ∷ ExprStmt ∷ VarDecl ∷ VarDeclarator ∷ FnDecl ∷ Return ∷ If ∷ While ∷ DoWhile ∷ For ∷ ForIn ∷ ForOf ∷ Throw ∷ Try ∷ CatchClause ∷ Switch ∷ SwitchCase ∷ BindingIdent ∷ Ident ∷ Null ∷ Bool ∷ Number ∷ Str ∷ This ∷ Array ∷ Object ∷ Prop ∷ Unary ∷ Update ∷ Bin ∷ Assign ∷ Cond ∷ Call ∷ New ∷ Member ∷ Computed ∷ FnExpr ∷ Arrow ∷ Paren ∷ Seq ∷ Break ∷ Continue ∷ ObjectPat ∷ ArrayPat ∷ PatProp ∷ AssignPat ∷ []
 
 -- the kind of a number
 abbrev pub kind_of : ℕ → Kind
@@ -109,6 +113,10 @@ number_of Paren = 41
 number_of Seq = 42
 number_of Break = 43
 number_of Continue = 44
+number_of ObjectPat = 45
+number_of ArrayPat = 46
+number_of PatProp = 47
+number_of AssignPat = 48
 number_of (Invalid n) = n
 
 abbrev pub IsNumberOf : Kind → ℕ → Type 0

@@ -2,9 +2,9 @@
 
 ghost use Rattle.std.specs.Prelude.{◌≡◌, ◌&&◌, ◌||◌, ℕ, eqb, leb};
 ghost use Rattle.def_file.specs.Named.{IsKindOf, IsNumberOf, Coded};
-ghost use Rattle.def_file.specs.Kinds.{is_stmt, is_expr, uses_text, uses_bits};
+ghost use Rattle.def_file.specs.Kinds.{is_stmt, is_expr, is_binding_name, is_target, uses_text, uses_bits};
 
-// What a node is: the kinds 1 to 44 of the tree file, and what any other number stands for.
+// What a node is: the kinds 1 to 48 of the tree file, and what any other number stands for.
 #[derive(Clone, Copy, Debug, PartialEq, Eq)]
 pub enum Kind {
     Script,
@@ -51,6 +51,10 @@ pub enum Kind {
     Seq,
     Break,
     Continue,
+    ObjectPat,
+    ArrayPat,
+    PatProp,
+    AssignPat,
     Invalid(u32),
 }
 
@@ -149,6 +153,40 @@ impl Kind {
         matches!(self, Kind::Member | Kind::Computed)
     }
 
+    // A pattern: of an object, of an array.
+    pub fn is_pattern(self) -> bool
+        ensures { (k : ℕ) → Coded self k → result ≡ (eqb k 45 || eqb k 46) }
+    {
+        matches!(self, Kind::ObjectPat | Kind::ArrayPat)
+    }
+
+    // A binding or a pattern: what a declarator or a catch names, and what a default stands beside.
+    pub fn is_binding_name(self) -> bool
+        ensures { (k : ℕ) → Coded self k → result ≡ is_binding_name k }
+    {
+        matches!(self, Kind::BindingIdent | Kind::ObjectPat | Kind::ArrayPat)
+    }
+
+    // A target of request 4: a parameter, or what stands inside a pattern.
+    pub fn is_target(self) -> bool
+        ensures { (k : ℕ) → Coded self k → result ≡ is_target k }
+    {
+        matches!(
+            self,
+            Kind::BindingIdent | Kind::ObjectPat | Kind::ArrayPat | Kind::AssignPat
+        )
+    }
+
+    // A pattern, or a part of one that is no binding.
+    pub fn in_pattern(self) -> bool
+        ensures { (k : ℕ) → Coded self k → result ≡ (leb 45 k && leb k 48) }
+    {
+        matches!(
+            self,
+            Kind::ObjectPat | Kind::ArrayPat | Kind::PatProp | Kind::AssignPat
+        )
+    }
+
     // A node that has a target: assignment, update, for-in, for-of.
     pub fn aims(self) -> bool
         ensures { (k : ℕ) → Coded self k → result ≡ (eqb k 33 || eqb k 31 || eqb k 13 || eqb k 14) }
@@ -165,7 +203,7 @@ impl Kind {
     {
         matches!(
             self,
-            Kind::BindingIdent | Kind::Ident | Kind::Str | Kind::Prop | Kind::Member
+            Kind::BindingIdent | Kind::Ident | Kind::Str | Kind::Prop | Kind::Member | Kind::PatProp
         )
     }
 
@@ -226,6 +264,10 @@ impl From<u32> for Kind {
             42 => Kind::Seq,
             43 => Kind::Break,
             44 => Kind::Continue,
+            45 => Kind::ObjectPat,
+            46 => Kind::ArrayPat,
+            47 => Kind::PatProp,
+            48 => Kind::AssignPat,
             _ => Kind::Invalid(n),
         }
     }
@@ -289,6 +331,10 @@ impl From<Kind> for u32 {
             Kind::Seq => 42,
             Kind::Break => 43,
             Kind::Continue => 44,
+            Kind::ObjectPat => 45,
+            Kind::ArrayPat => 46,
+            Kind::PatProp => 47,
+            Kind::AssignPat => 48,
             Kind::Invalid(n) => n,
         }
     }

@@ -1,8 +1,8 @@
-// The kinds 1 to 44 of document 01, "The tree file", with their forms, and what may stand below each.
+// The kinds 1 to 44 of document 01, "The tree file", and 45 to 48 of request 4, with their forms, and what may stand below each.
 // Forms by number: this table is what defines them.
 ghost use Rattle.def_file.specs.Named.{Coded};
 ghost use Rattle.std.specs.Prelude.{ℕ, ◌≡◌, ◌<◌};
-ghost use Rattle.def_file.specs.Kinds.{allows, every, led, ended, for_row, try_row, case_row, new_row, function_row, head_row, arrow_row, row_of, form_ok, count_ok, child_of};
+ghost use Rattle.def_file.specs.Kinds.{allows, every, led, ended, framed, for_row, try_row, case_row, assign_row, new_row, function_row, head_row, arrow_row, row_of, form_ok, count_ok, child_of};
 
 use crate::kind::Kind;
 
@@ -17,6 +17,10 @@ pub enum Class {
     Expression,
     // b: 20
     Binding,
+    // what a declarator or a catch names, and what a default stands beside: 20, or a pattern, 45 or 46
+    Name,
+    // a target: 20, 45, 46 or 48
+    Target,
     // 2
     Block,
     // 6
@@ -27,13 +31,17 @@ pub enum Class {
     Case,
     // 29
     Property,
+    // 47
+    PatternProperty,
     // what an update changes: 21, 37 or 38
     Updated,
     // what is assigned to: 20, 37 or 38
     Assigned,
+    // the same of `=`: also a pattern, 45 or 46
+    Destructured,
     // the start of a for: 5 or e
     Start,
-    // the head of a for-in or for-of: 5 of one declarator, or b
+    // the head of a for-in or for-of: 5 of one declarator, or 20, 45 or 46
     Head,
 }
 
@@ -47,15 +55,19 @@ impl Class {
             Class::Statement => kind.is_stmt(),
             Class::Expression => kind.is_expr(),
             Class::Binding => kind == Kind::BindingIdent,
+            Class::Name => kind.is_binding_name(),
+            Class::Target => kind.is_target(),
             Class::Block => kind == Kind::Block,
             Class::Declarator => kind == Kind::VarDeclarator,
             Class::Catch => kind == Kind::CatchClause,
             Class::Case => kind == Kind::SwitchCase,
             Class::Property => kind == Kind::Prop,
+            Class::PatternProperty => kind == Kind::PatProp,
             Class::Updated => matches!(kind, Kind::Ident | Kind::Member | Kind::Computed),
             Class::Assigned => matches!(kind, Kind::BindingIdent | Kind::Member | Kind::Computed),
+            Class::Destructured => kind.is_binding_name() || kind.is_member(),
             Class::Start => kind == Kind::VarDecl || kind.is_expr(),
-            Class::Head => kind == Kind::BindingIdent || kind == Kind::VarDecl && n == 1,
+            Class::Head => kind.is_binding_name() || kind == Kind::VarDecl && n == 1,
         }
     }
 }
@@ -168,6 +180,22 @@ fn ended(to: usize, least: usize, most: usize, c: Class, z: Class) -> Row
     }
 }
 
+// The same, the first and the last child of classes of their own.
+fn framed(to: usize, least: usize, most: usize, a: Class, c: Class, z: Class) -> Row
+    ensures { result ≡ framed to least most a c z }
+{
+    Row {
+        from: 0,
+        to,
+        least,
+        most,
+        only: z,
+        first: a,
+        rest: c,
+        last: z,
+    }
+}
+
 // 12: form bits 1, 2, 4: start (5 or e), test, update present; then s.
 fn for_row(f: usize) -> Row
     ensures { result ≡ for_row f }
@@ -190,7 +218,7 @@ fn for_row(f: usize) -> Row
     }
 }
 
-// 13 and 14: (5 of one declarator, or b) e s.
+// 13 and 14: (5 of one declarator, or 20, 45 or 46) e s.
 fn head_row() -> Row
     ensures { result ≡ head_row }
 {
@@ -236,6 +264,18 @@ fn case_row(f: usize) -> Row
     led(1, f, ANY, first, Class::Statement)
 }
 
+// 33: a pattern stands left of `=` alone, which is form 0.
+fn assign_row(f: usize) -> Row
+    ensures { result ≡ assign_row f }
+{
+    let first = if f == 0 {
+        Class::Destructured
+    } else {
+        Class::Assigned
+    };
+    led(15, 2, 2, first, Class::Expression)
+}
+
 // 36: form 1 has a list of arguments.
 fn new_row(f: usize) -> Row
     ensures { result ≡ new_row f }
@@ -244,12 +284,17 @@ fn new_row(f: usize) -> Row
     every(1, 1, most, Class::Expression)
 }
 
-// 39: form 1 has a name.
+// 39: form 1 has a name, which is no pattern.
 fn function_row(f: usize) -> Row
     requires { f < 256 }
     ensures { result ≡ function_row f }
 {
-    ended(1, 1 + f, ANY, Class::Binding, Class::Block)
+    let first = if f == 1 {
+        Class::Binding
+    } else {
+        Class::Target
+    };
+    framed(1, 1 + f, ANY, first, Class::Target, Class::Block)
 }
 
 // 40: form 0 ends in a block, form 1 in an expression.
@@ -261,7 +306,7 @@ fn arrow_row(f: usize) -> Row
     } else {
         Class::Block
     };
-    ended(1, 1, ANY, Class::Binding, last)
+    ended(1, 1, ANY, Class::Target, last)
 }
 
 // What a kind asks of a node of a form.
@@ -281,10 +326,10 @@ pub fn row_of(kind: Kind, form: u8) -> Row
         Kind::ExprStmt => every(0, 1, 1, Class::Expression),
         // declaration 6 (one or more; form 0 var, 1 let, 2 const)
         Kind::VarDecl => every(2, 1, ANY, Class::Declarator),
-        // declarator b [e]
-        Kind::VarDeclarator => led(0, 1, 2, Class::Binding, Class::Expression),
-        // function b b* 2
-        Kind::FnDecl => ended(0, 2, ANY, Class::Binding, Class::Block),
+        // declarator: 20, 45 or 46, then [e]
+        Kind::VarDeclarator => led(0, 1, 2, Class::Name, Class::Expression),
+        // function b, targets, 2
+        Kind::FnDecl => framed(0, 2, ANY, Class::Binding, Class::Target, Class::Block),
         // return [e]
         Kind::Return => every(0, 0, 1, Class::Expression),
         // if e s [s]
@@ -303,8 +348,8 @@ pub fn row_of(kind: Kind, form: u8) -> Row
         Kind::Throw => every(0, 1, 1, Class::Expression),
         // try
         Kind::Try => try_row(f),
-        // catch [b] 2
-        Kind::CatchClause => ended(0, 1, 2, Class::Binding, Class::Block),
+        // catch [20, 45 or 46] 2
+        Kind::CatchClause => ended(0, 1, 2, Class::Name, Class::Block),
         // switch e 19*
         Kind::Switch => led(0, 1, ANY, Class::Expression, Class::Case),
         // case
@@ -335,8 +380,8 @@ pub fn row_of(kind: Kind, form: u8) -> Row
         Kind::Update => every(3, 1, 1, Class::Updated),
         // binary e e (0 `&&`, 1 `||`, then 2 to 24)
         Kind::Bin => every(24, 2, 2, Class::Expression),
-        // assign (0 `=`, then 1 to 15) 20, 37 or 38, e
-        Kind::Assign => led(15, 2, 2, Class::Assigned, Class::Expression),
+        // assign (0 `=`, then 1 to 15)
+        Kind::Assign => assign_row(f),
         // conditional e e e
         Kind::Cond => every(0, 3, 3, Class::Expression),
         // call e e*
@@ -359,6 +404,14 @@ pub fn row_of(kind: Kind, form: u8) -> Row
         Kind::Break => every(0, 0, 0, Class::Expression),
         // continue
         Kind::Continue => every(0, 0, 0, Class::Expression),
+        // object pattern 47*
+        Kind::ObjectPat => every(0, 0, ANY, Class::PatternProperty),
+        // array pattern: targets, any count
+        Kind::ArrayPat => every(0, 0, ANY, Class::Target),
+        // pattern property, text, a target
+        Kind::PatProp => every(0, 1, 1, Class::Target),
+        // default: 20, 45 or 46, then e
+        Kind::AssignPat => led(0, 2, 2, Class::Name, Class::Expression),
         Kind::Invalid(_) => Row::NONE,
     }
 }

@@ -14,3 +14,4 @@ pub mod Refusals
 pub mod Traps
 pub mod Requests
 pub mod Counts
+pub mod Patterns

@@ -210,6 +210,11 @@ abbrev pub prevent_inline : ℕ → Stack → Stack
 prevent_inline i [] = []
 prevent_inline i (s ∷ st) = on_bindings (map (prevent_one i)) s ∷ prevent_inline i st
 
+-- prevent_inline of each
+abbrev pub prevent_each : List ℕ → Stack → Stack
+prevent_each [] st = st
+prevent_each (i ∷ is) st = prevent_each is (prevent_inline i st)
+
 abbrev pub prevent_param : VarInfo → VarInfo
 prevent_param b = pick (is_param b.kind) (prevent b) b
 

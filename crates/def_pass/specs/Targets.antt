@@ -1,15 +1,17 @@
 -- Request 8: the identifiers that an assignment (33), an update (31) or a head of for-in or for-of (13, 14; declaring or not) targets,
--- anywhere in the script as read. What is targeted is the first child: itself if it is a binding or identifier, the name of its declarator if it is a declaration.
-use Rattle.std.specs.Prelude.{Bool, true, false, ◌&&◌, ◌||◌, ℕ, eqb}
-use Rattle.def_pass.specs.Tree.{Tree, Forest, node, nil, cons}
+-- anywhere in the script as read. What is targeted is the first child: itself if it is an identifier, what it binds if it is a binding or a
+-- pattern (request 4), the name of its declarator if it is a declaration.
+use Rattle.std.specs.Prelude.{Bool, true, false, ◌&&◌, ◌||◌, [], ℕ, eqb}
+use Rattle.def_tree.specs.Base.{member}
+use Rattle.def_pass.specs.Tree.{Tree, Forest, node, nil, cons, bound_names}
 
 abbrev pub aims : ℕ → Bool
 aims k = eqb k 33 || eqb k 31 || eqb k 13 || eqb k 14
 
--- 20 binding, 21 identifier; 5 declaration, 6 declarator
+-- 21 identifier; 5 declaration, 6 declarator
 abbrev mutual
   pub aimed_at : ℕ → Tree → Bool
-  aimed_at i (node k f a ts) = elim (eqb k 5 || eqb k 6) [ true ↦ first_is i ts | false ↦ (eqb k 20 || eqb k 21) && eqb a i ]
+  aimed_at i (node k f a ts) = elim (eqb k 5 || eqb k 6) [ true ↦ first_is i ts | false ↦ (eqb k 21 && eqb a i) || member i (bound_names (node k f a ts) []) ]
 
   pub first_is : ℕ → Forest → Bool
   first_is i nil = false

@@ -1,7 +1,8 @@
 -- The core tree: what the walks see. A node has its kind and form (document 01), one number, and its children.
 -- The number is, of a binding or identifier (20, 21): the number of the identifier, and its form is 1 where its name is `arguments`, and 2 more where it is a binding that request 3 flags;
--- of a literal (all are kind 22, form 0): its origin; of a property or member (29, 37): the number of the input node whose text it has.
-use Rattle.std.specs.Prelude.{Bool, true, false, ◌&&◌, ◌||◌, List, ◌∷◌, ℕ, ◌+◌, max, eqb}
+-- of a literal (all are kind 22, form 0): its origin; of a property, a member or a pattern property (29, 37, 47): the number of the input
+-- node whose text it has.
+use Rattle.std.specs.Prelude.{Bool, true, false, ◌&&◌, ◌||◌, List, ◌∷◌, ℕ, ◌+◌, max, eqb, leb}
 use Rattle.std.proofs.Math.Option.{Option, none, some}
 pub use Rattle.def_tree.specs.Tree.{Tree, Forest, node, nil, cons, kind, form, num, kids, count, counts, tail_f}
 
@@ -51,7 +52,7 @@ head_t (cons t ts) = some t
 abbrev pub void_zero : Tree
 void_zero = node 30 0 0 (cons (node 22 0 0 nil) nil)
 
--- contains_this_expr: looks into arrows, not into functions
+-- contains_this_expr: looks into arrows and the defaults of their parameters, not into functions
 abbrev mutual
   pub has_this : Tree → Bool
   has_this (node k f a ts) = elim (eqb k 26) [ true ↦ true | false ↦ elim (eqb k 39 || eqb k 7) [ true ↦ false | false ↦ has_this_f ts ] ]
@@ -59,6 +60,23 @@ abbrev mutual
   pub has_this_f : Forest → Bool
   has_this_f nil = false
   has_this_f (cons t ts) = has_this t || has_this_f ts
+
+-- 45 object pattern, 46 array pattern
+abbrev pub is_pattern : Tree → Bool
+is_pattern t = eqb (kind t) 45 || eqb (kind t) 46
+
+-- what patterns are made of: also 47 pattern property, 48 default
+abbrev pub in_pattern : ℕ → Bool
+in_pattern k = leb 45 k && leb k 48
+
+-- BoundNames (find_pat_ids): the bindings that patterns alone lead to, in order; a default's expression binds none
+abbrev mutual
+  pub bound_names : Tree → List ℕ → List ℕ
+  bound_names (node k f a ts) rest = elim (eqb k 20) [ true ↦ a ∷ rest | false ↦ elim (in_pattern k) [ true ↦ bound_names_f ts rest | false ↦ rest ] ]
+
+  pub bound_names_f : Forest → List ℕ → List ℕ
+  bound_names_f nil rest = rest
+  bound_names_f (cons t ts) rest = bound_names t (bound_names_f ts rest)
 
 -- the nodes of kind 20 and 21, in order
 abbrev mutual

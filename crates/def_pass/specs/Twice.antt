@@ -1,10 +1,11 @@
 -- Request 3: the identifiers that a function or the script itself declares more than once by `var` (its parameters counted, nested functions
 -- not), where one initialiser is no literal. Each binding of such an identifier that stands there is flagged in the script as read, by 2 on its
--- form, and is so wherever the walks move or copy it.
+-- form, and is so wherever the walks move or copy it. Of a pattern (request 4) each bound name is declared; its initialiser is no literal, a
+-- default no initialiser.
 use Rattle.std.specs.Prelude.{Bool, true, false, ◌&&◌, ◌||◌, not, List, [], ◌∷◌, ◌++◌, ℕ, ◌+◌, ◌-◌, eqb, ltb, length}
 use Rattle.std.proofs.Math.Option.{Option, none, some}
 use Rattle.def_tree.specs.Base.{pick}
-use Rattle.def_pass.specs.Tree.{Tree, Forest, node, nil, cons, kind, num, kids, head_t, tail_f, is_lit}
+use Rattle.def_pass.specs.Tree.{Tree, Forest, node, nil, cons, kids, head_t, is_lit, is_pattern, bound_names}
 
 -- the form of a binding: is it flagged; is its name `arguments`; and the form without the flag
 abbrev pub is_twice : ℕ → Bool
@@ -23,20 +24,25 @@ is_function k = eqb k 7 || eqb k 39 || eqb k 40
 abbrev pub is_named : ℕ → ℕ → Bool
 is_named k f = eqb k 7 || (eqb k 39 && eqb f 1)
 
--- is it a binding of i
-abbrev pub binds : ℕ → Option Tree → Bool
-binds i none = false
-binds i (some t) = eqb (kind t) 20 && eqb (num t) i
+-- b for each of the names that is i
+abbrev pub among : ℕ → Bool → List ℕ → List Bool
+among i b [] = []
+among i b (j ∷ js) = elim (eqb j i) [ true ↦ b ∷ among i b js | false ↦ among i b js ]
 
-abbrev pub no_literal : Option Tree → Bool
-no_literal none = false
-no_literal (some e) = not (is_lit e)
+-- of a declarator's name and initialiser: is it no literal
+abbrev pub no_literal : Tree → Option Tree → Bool
+no_literal name none = false
+no_literal name (some e) = is_pattern name || not (is_lit e)
 
 -- the declarations of i, of each whether it has an initialiser that is no literal: by the declarators of one `var`; by every `var` of some
 -- nodes, nested functions not; as a parameter
+abbrev pub declarator : ℕ → Forest → List Bool
+declarator i nil = []
+declarator i (cons name es) = among i (no_literal name (head_t es)) (bound_names name [])
+
 abbrev pub declarators : ℕ → Forest → List Bool
 declarators i nil = []
-declarators i (cons t ts) = elim (binds i (head_t (kids t))) [ true ↦ no_literal (head_t (tail_f (kids t))) ∷ declarators i ts | false ↦ declarators i ts ]
+declarators i (cons t ts) = declarator i (kids t) ++ declarators i ts
 
 abbrev mutual
   pub vars : ℕ → Tree → List Bool
@@ -48,7 +54,7 @@ abbrev mutual
 
 abbrev pub params : ℕ → Forest → List Bool
 params i nil = []
-params i (cons t ts) = elim (binds i (some t)) [ true ↦ false ∷ params i ts | false ↦ params i ts ]
+params i (cons t ts) = among i false (bound_names t []) ++ params i ts
 
 abbrev pub any_of : List Bool → Bool
 any_of [] = false

@@ -4,10 +4,10 @@ use Rattle.std.specs.Prelude.{Bool, true, false, ◌&&◌, ◌||◌, not, List, 
 use Rattle.std.proofs.Math.Option.{Option, none, some}
 use Rattle.def_tree.specs.Combine.{Res, stop, done, M as MS, Nothing, ◌>>=◌, ◌>>◌, ret, refuse, iff, within, each, split, each_but, on_kids}
 use Rattle.def_tree.specs.Base.{pick}
-use Rattle.def_pass.specs.Tree.{Tree, Forest, node, nil, cons, kind, form, num, kids, is_ident, is_cheap, head_t, tail_f, count, height, void_zero, has_this, ident_list, ident_list_f}
+use Rattle.def_pass.specs.Tree.{Tree, Forest, node, nil, cons, kind, form, num, kids, is_ident, is_cheap, head_t, tail_f, count, height, void_zero, has_this, is_member, is_pattern, bound_names, ident_list, ident_list_f}
 use Rattle.def_pass.specs.Targets.{targets}
 use Rattle.def_pass.specs.Twice.{is_twice, is_args, unflagged, flagged}
-use Rattle.def_pass.specs.Scope.{VarType, param, v_var, v_let, v_const, is_var, is_const, ScopeKind, cond, loop, block, fn, Stack, VarInfo, new_scope, prevent_inline, is_inline_prevented, var_inline_prevented, prevented_o, find_binding, find_binding_from_current, find_constant, add_const, add_read, add_write, mark_this_sensitive, ident_of, store_inline_barrier, has_same_this, Init, no_init, recorded, seen, seen_init, declare, close, change, with_value, defined, wrap, count_one, ending, recorded_nodes, live}
+use Rattle.def_pass.specs.Scope.{VarType, param, v_var, v_let, v_const, is_var, is_const, ScopeKind, cond, loop, block, fn, Stack, VarInfo, new_scope, prevent_inline, prevent_each, is_inline_prevented, var_inline_prevented, prevented_o, find_binding, find_binding_from_current, find_constant, add_const, add_read, add_write, mark_this_sensitive, ident_of, store_inline_barrier, has_same_this, Init, no_init, recorded, seen, seen_init, declare, close, change, with_value, defined, wrap, count_one, ending, recorded_nodes, live}
 
 -- PatFoldingMode
 pub data PatMode : Type 0 where
@@ -373,12 +373,12 @@ unfoldable pub visit_mut_try_stmt : Walks → ℕ → Tree → M Tree
 unfolding write_tree
 visit_mut_try_stmt w p t = on_kids (split (λ b. write_tree true b >> ret b) (each (λ h. iff (is_catch h) (w.full (suc p) h) (ret h)))) t
 
--- 17 catch: visit_mut_catch_clause; find_pat_ids of its parameter is a binding's identifier
+-- 17 catch: visit_mut_catch_clause
 unfoldable pub catch_param : Walks → ℕ → Tree → M Tree
 catch_param w p b = do
   b' ← w.full p b
   s ← get
-  when (is_bind b && not s.inlining) (mark (prevent_inline (num b)))
+  when (not s.inlining) (mark (prevent_each (bound_names b' [])))
   ret b'
 
 unfoldable pub visit_mut_catch_clause : Walks → ℕ → Tree → M Tree
@@ -390,7 +390,8 @@ unfoldable pub visit_mut_switch_case : Walks → ℕ → Tree → M Tree
 unfolding in_scope visit_mut_stmts
 visit_mut_switch_case w p t = in_scope block (iff (eqb (form t) 1) (on_kids (split (w.full (suc p)) (visit_mut_stmts w (suc p))) t) (on_kids (visit_mut_stmts w (suc p)) t))
 
--- 20 binding: visit_mut_pat
+-- 20 binding: visit_mut_pat, which of a pattern (45 to 48) is its children's walk alone, `plain`. The mode is the state's: what a default
+-- assigns leaves `assigning` to the names behind it
 unfoldable pub pat_by : PatMode → Tree → M Nothing
 unfolding write declare_m
 pat_by as_param t = declare_m t (recorded (as_ident t)) false param
@@ -442,41 +443,49 @@ assign_first f nil = ret tt
 assign_first f (cons l rs) = iff (eqb f 0) (do
   write_tree false l
   write_forest false rs
-  when (not (eqb (kind l) 20)) (write_tree true l >> write_forest true rs)) (write_tree true l >> write_forest true rs)
+  when (is_member l) (write_tree true l >> write_forest true rs)) (write_tree true l >> write_forest true rs)
 
 unfoldable pub assign_last : Forest → M Nothing
 unfolding write
 assign_last nil = ret tt
 assign_last (cons l rs) = do
   s ← get
-  iff (prevented_o (head_t rs) s.stack) (when (eqb (kind l) 20) (mark (prevent_inline (num l)))) (when (eqb (kind l) 20) (do
+  iff (prevented_o (head_t rs) s.stack) (mark (prevent_each (bound_names l []))) (when (eqb (kind l) 20) (do
     write false l
     store_o l (head_t rs)))
 
-unfoldable pub assign_kids : Walks → ℕ → ℕ → Forest → M Forest
+-- AssignTarget::Pat: `=` to a pattern, whose left side is walked too, before the right
+abbrev pub pattern_o : Option Tree → Bool
+pattern_o none = false
+pattern_o (some t) = is_pattern t
+
+abbrev pub to_pattern : Tree → Bool
+to_pattern t = eqb (form t) 0 && pattern_o (head_t (kids t))
+
+unfoldable pub assign_kids : Walks → ℕ → ℕ → Bool → Forest → M Forest
 unfolding assign_first assign_last
-assign_kids w p f ts = do
+assign_kids w p f pat ts = do
   assign_first f ts
-  us ← split ret (each (w.full (suc p))) ts
+  us ← iff pat (each (w.full (suc p)) ts) (split ret (each (w.full (suc p))) ts)
   assign_last us
   ret us
 
 unfoldable pub visit_mut_assign_expr : Walks → ℕ → Tree → M Tree
 unfolding assign_kids
-visit_mut_assign_expr w p t = modify (set_pat_mode assigning) >> on_kids (assign_kids w p (form t)) t
+visit_mut_assign_expr w p t = modify (set_pat_mode assigning) >> on_kids (assign_kids w p (form t) (to_pattern t)) t
 
 -- which handler a kind has
 pub data Handler : Type 0 where
   h_plain h_script h_block h_decl h_declr h_fun h_if h_while h_for h_for_in h_try h_catch h_case h_pat h_unary h_update h_assign h_call h_new h_fun_expr h_arrow : Handler
 
--- by kind, 0 to 44
+-- by kind, 0 to 48
 abbrev pub handlers : List Handler
 handlers =
     h_plain ∷ h_script ∷ h_block ∷ h_plain ∷ h_plain ∷ h_decl ∷ h_declr ∷ h_fun ∷ h_plain ∷ h_if
     ∷ h_while ∷ h_while ∷ h_for ∷ h_for_in ∷ h_for_in ∷ h_plain ∷ h_try ∷ h_catch ∷ h_plain ∷ h_case
     ∷ h_pat ∷ h_plain ∷ h_plain ∷ h_plain ∷ h_plain ∷ h_plain ∷ h_plain ∷ h_plain ∷ h_plain ∷ h_plain
     ∷ h_unary ∷ h_update ∷ h_plain ∷ h_assign ∷ h_plain ∷ h_call ∷ h_new ∷ h_plain ∷ h_plain ∷ h_fun_expr
-    ∷ h_arrow ∷ h_plain ∷ h_plain ∷ h_plain ∷ h_plain ∷ []
+    ∷ h_arrow ∷ h_plain ∷ h_plain ∷ h_plain ∷ h_plain ∷ h_plain ∷ h_plain ∷ h_plain ∷ h_plain ∷ []
 
 unfoldable pub handle : Handler → Walks → ℕ → Tree → M Tree
 unfolding visit_mut_block_stmt script_walk visit_mut_var_decl visit_mut_var_declarator visit_mut_fn_decl visit_mut_fn_expr visit_mut_arrow_expr visit_mut_if_stmt visit_mut_while_stmt visit_mut_for_stmt visit_mut_for_in_stmt visit_mut_try_stmt visit_mut_catch_clause visit_mut_switch_case visit_mut_pat visit_mut_unary_expr visit_mut_update_expr visit_mut_call_expr visit_mut_assign_expr

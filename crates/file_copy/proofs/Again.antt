@@ -88,7 +88,7 @@ module _ (s : Script) (ok : nodes_ok s ≡ true) (k : ℕ) (l : k < length s.nod
         ap (λ (c : Core). (back s c).raw) (core-id s (k + 1) x nl h)
         ∙ rw (nl, h) (same-fields refl (sym (zs.form h)) refl (sym (eqb-true x.text y.text same.0)) (sym (eqb-true x.bits y.bits same.1)))
 
-    -- the text of a property or member is its node's own, and no other has one
+    -- the text of a property, member or pattern property is its node's own, and no other has one
     text-is : has_id x ≡ false → (q : Bool) → has_text x.kind ≡ q → pick q (node_at s (k + 1)).text 0 ≡ x.text
     text-is h true z = ap (λ (y : Raw). y.text) node_at_lem
     text-is h false z = sym (zs.text (no_text x.kind h nl z))

@@ -14,6 +14,7 @@ use Rattle.def_file.specs.declared.kinds.Class.TheVariants.{Root}
 use Rattle.def_file.specs.declared.kinds.Row.{Row}
 use Rattle.def_file.specs.Kinds.{allows, row_of, form_ok, count_ok, uses_text, uses_bits}
 use Rattle.def_file.specs.Script.{Script, has_id, zero_node}
+use Rattle.def_file.specs.Core.{has_text}
 use Rattle.def_file.specs.Read.{Place, fields_ok, node_ok, below, fills, nodes_ok}
 use Rattle.file_fields.proofs.Tests.{is_T, T-is, and_left, and_right}
 
@@ -109,16 +110,16 @@ three true b c p q = absurd (is_T false (sym p))
 three false true c p q = absurd (is_T false (sym p))
 three false false c p q = q
 
-five : (a b c d e : Bool) → (a || b) ≡ false → c ≡ false → (d || e) ≡ false → (a || b || c || d || e) ≡ false
-five true b c d e p q r = absurd (is_T false (sym p))
-five false true c d e p q r = absurd (is_T false (sym p))
-five false false true d e p q r = absurd (is_T false (sym q))
-five false false false d e p q r = r
+six : (a b c d e f : Bool) → (a || b) ≡ false → c ≡ false → (d || e || f) ≡ false → (a || b || c || d || e || f) ≡ false
+six true b c d e f p q r = absurd (is_T false (sym p))
+six false true c d e f p q r = absurd (is_T false (sym p))
+six false false true d e f p q r = absurd (is_T false (sym q))
+six false false false d e f p q r = r
 
--- neither name nor literal: no bits; and neither property nor member: no text
+-- neither name nor literal: no bits; and neither property, member nor pattern property: no text
 module _ (k : ℕ) (name : (eqb k 20 || eqb k 21) ≡ false) (literal : (leb 22 k && leb k 25) ≡ false) where
-  pub no_text : (eqb k 29 || eqb k 37) ≡ false → uses_text k ≡ false
-  no_text r = five (eqb k 20) (eqb k 21) (eqb k 25) (eqb k 29) (eqb k 37) name (not-lit k 25 refl literal) r
+  pub no_text : has_text k ≡ false → uses_text k ≡ false
+  no_text r = six (eqb k 20) (eqb k 21) (eqb k 25) (eqb k 29) (eqb k 37) (eqb k 47) name (not-lit k 25 refl literal) r
 
   pub no_bits : uses_bits k ≡ false
   no_bits = three (eqb k 20) (eqb k 21) (eqb k 24) name (not-lit k 24 refl literal)

@@ -6,7 +6,7 @@ use Prim.Native.Nat.{ℕ, zero, suc, ◌+◌, ◌-◌, ◌*◌, ◌≤◌, ◌<�
 use native.Mathlib.Numerals.{add-one}
 use native.Mathlib.Nat.{sub-zero}
 use native.Mathlib.Omega.{arith}
-use lib.Dec.{T, ltb, ltb→lt, eqb, eqb→eq, leb, leb→le, eqb-zero-suc, eqb-suc-suc}
+use lib.Dec.{T, ltb, ltb→lt, eqb, leb, leb→le, eqb-zero-suc, eqb-suc-suc}
 use Rattle.def_tree.specs.Base.{pick}
 use Rattle.def_file.specs.declared.kinds.Class.TheVariants as Kind
 use lib.ListN.{length, get_or, drop, drop_of_length-le}
@@ -169,7 +169,7 @@ pub child-at : {t : ℕ} {xs : List Raw} {n next : ℕ} {r : Result Child Refusa
     → Filled t xs (place c n) next r → Filled t xs (place (child_of (row_of x₀.kind x₀.form) x₀.arity i) n) next r
 child-at {t} {xs} {n} {next} {r} {x} {x₀} {row} {c} i p q e f = subst (λ (d : Class). Filled t xs (place d n) next r) (e ∙ ap (λ (s : Row). child_of s x.arity i) q ∙ ap (λ (y : Raw). child_of (row_of y.kind y.form) y.arity i) p) f
 
--- 6 declarator b [e]: it has one child or two, the first a binding and the second an expression
+-- 6 declarator: it has one child or two, the first a name (20, 45 or 46) and the second an expression
 declr-some : (x : Raw) → x.kind ≡ 6 → T (count_ok (row_of x.kind x.form) x.arity) → 0 < x.arity
 unfolding row_of
 declr-some x k h = leb→le 1 x.arity (and_left (leb 1 x.arity) (leb x.arity 2) (rw k at h))
@@ -181,16 +181,16 @@ declr-two x k h n =
     let hi = leb→le x.arity 2 (and_right (leb 1 x.arity) (leb x.arity 2) (rw k at h)) in
     omega (arith, lo, hi)
 
-first-binding : (f n : ℕ) → child_of (row_of 6 f) n 0 ≡ Kind.Binding
+first-name : (f n : ℕ) → child_of (row_of 6 f) n 0 ≡ Kind.Name
 unfolding row_of
-first-binding f n = go (eqb n 1)
+first-name f n = go (eqb n 1)
   where
-    go : (b : Bool) → pick b Kind.Binding Kind.Binding ≡ Kind.Binding
+    go : (b : Bool) → pick b Kind.Name Kind.Name ≡ Kind.Name
     go true = refl
     go false = refl
 
-declr-first : {t : ℕ} {xs : List Raw} {n next : ℕ} {r : Result Child Refusal} (x : Raw) → x.kind ≡ 6 → Filled t xs (place Kind.Binding n) next r → Filled t xs (place (child_of (row_of x.kind x.form) x.arity 0) n) next r
-declr-first {t} {xs} {n} {next} {r} x k f = subst (λ (d : Class). Filled t xs (place d n) next r) (sym (ap (λ (j : ℕ). child_of (row_of j x.form) x.arity 0) k ∙ first-binding x.form x.arity)) f
+declr-first : {t : ℕ} {xs : List Raw} {n next : ℕ} {r : Result Child Refusal} (x : Raw) → x.kind ≡ 6 → Filled t xs (place Kind.Name n) next r → Filled t xs (place (child_of (row_of x.kind x.form) x.arity 0) n) next r
+declr-first {t} {xs} {n} {next} {r} x k f = subst (λ (d : Class). Filled t xs (place d n) next r) (sym (ap (λ (j : ℕ). child_of (row_of j x.form) x.arity 0) k ∙ first-name x.form x.arity)) f
 
 declr-second : {t : ℕ} {xs : List Raw} {n next : ℕ} {r : Result Child Refusal} (x : Raw) → x.kind ≡ 6 → x.arity ≡ 2 → Filled t xs (place Kind.Expression n) next r → Filled t xs (place (child_of (row_of x.kind x.form) x.arity 1) n) next r
 unfolding row_of
@@ -207,16 +207,16 @@ module _ {bs : List ℕ} {n t at : ℕ} {p : Place} (F : Fitting bs n t at p) (k
   counted = ok-count t p y F.fits
 
   other : (j : ℕ) → Kinded p y (Child.Other j)
-  other j = (ok-allows t p y F.fits, λ e. omega (arith, k, e))
+  other j = (ok-allows t p y F.fits, rw k refl)
 
-  pub declr-unnamed : {m : Refusal} → Filled t ys (place Kind.Binding (p.left - 1)) (at + 1) (Err m) → Filled t ys p at (Err m)
+  pub declr-unnamed : {m : Refusal} → Filled t ys (place Kind.Name (p.left - 1)) (at + 1) (Err m) → Filled t ys p at (Err m)
   declr-unnamed f = fitting-refused F (fitting-none F) (declr-some y k counted) (declr-first y k f)
 
-  -- its first child is a binding
-  pub declr-no_other : {c : Child} {j : ℕ} → Filled t ys (place Kind.Binding (p.left - 1)) (at + 1) (Ok c) → c ≡ Child.Other j → ⊥
-  declr-no_other f e = let h = subst (Kinded (place Kind.Binding (p.left - 1)) (get_or ys (at + 1) zero_node)) e f.fits.1 in h.1 (eqb→eq (get_or ys (at + 1) zero_node).kind 20 h.0)
+  -- its first child is a name
+  pub declr-no_other : {c : Child} {j : ℕ} → Filled t ys (place Kind.Name (p.left - 1)) (at + 1) (Ok c) → c ≡ Child.Other j → ⊥
+  declr-no_other f e = let h = subst (Kinded (place Kind.Name (p.left - 1)) (get_or ys (at + 1) zero_node)) e f.fits.1 in subst T h.1 h.0
 
-  module _ {c : Child} {next : ℕ} (f : Filled t ys (place Kind.Binding (p.left - 1)) (at + 1) (Ok c)) (e : c ≡ Child.Binding next) where
+  module _ {c : Child} {next : ℕ} (f : Filled t ys (place Kind.Name (p.left - 1)) (at + 1) (Ok c)) (e : c ≡ Child.Binding next) where
     named : Upto t ys (p.left - 1) y at 1 next
     named = subst (λ (d : Child). Upto t ys (p.left - 1) y at 1 (behind d)) e (upto-more (fitting-none F) (declr-some y k counted) (declr-first y k f))
 

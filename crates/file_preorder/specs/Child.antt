@@ -3,7 +3,7 @@ use Rattle.std.specs.Prelude.{◌≡◌, Bool, true, false, List, ◌∷◌, ℕ
 use Rattle.def_file.specs.declared.kinds.Class.{Class}
 use Rattle.def_file.specs.declared.kinds.Class.TheVariants as Kind
 use Rattle.def_file.specs.declared.Raw.{Raw}
-use Rattle.def_file.specs.Kinds.{allows}
+use Rattle.def_file.specs.Kinds.{allows, is_binding_name}
 use Rattle.def_file.specs.Script.{zero_node}
 use Rattle.def_file.specs.Read.{Place, node_ok, fills, nodes_from}
 use Rattle.refusal.specs.declared.Refusal.{Refusal}
@@ -31,7 +31,7 @@ after t xs ps (Err r) = false
 -- the node x, at the place p, is of that kind
 abbrev pub Kinded : Place → Raw → Child → Type 0
 Kinded p x (Binding j) = Unit {0}
-Kinded p x (Other j) = T (allows p.class x.kind x.arity) × (x.kind ≡ 20 → ⊥)
+Kinded p x (Other j) = T (allows p.class x.kind x.arity) × (is_binding_name x.kind ≡ false)
 
 -- the index behind is at most n; the node x has that kind; a refusal is by document 01's row 6
 abbrev pub Fits : Place → Raw → ℕ → Result Child Refusal → Type 0

@@ -14,7 +14,8 @@ use def_file::kinds::{Class, row_of};
 use file_fields::fields::node_at;
 use refusal::Refusal;
 
-// What was read with all below it, a binding or another node, and the index behind it. No Option and no Result: something was read in both cases.
+// What was read with all below it, a binding (20, or a pattern of bindings, 45 or 46) or another node, and the index behind it. No Option and no
+// Result: something was read in both cases.
 #[derive(Clone, Copy, Debug, PartialEq, Eq)]
 pub enum Child {
     Binding(usize),
@@ -83,20 +84,21 @@ impl Nodes<'_> {
             let answer = self.node(next, class, left - 1)?;
             next = answer.behind();
         }
-        match kind {
-            Kind::BindingIdent => Ok(Child::Binding(next)),
-            _ => Ok(Child::Other(next)),
+        if kind.is_binding_name() {
+            Ok(Child::Binding(next))
+        } else {
+            Ok(Child::Other(next))
         }
     }
 
-    // 6 declarator b [e]: a first child that is no binding is refused.
+    // 6 declarator: 20, 45 or 46, then [e]; a first child that is no binding is refused.
     #[cycle(children_declarator_node)]
     fn declarator(self, at: usize, c: Class, left: usize) -> Result<Child, Refusal>
         requires { Fitting self.file.now self.count self.texts at (place c left) × ((get_or (nodes_of self.file.now self.count) at zero_node).kind ≡ 6) }
         ensures { Filled self.entry.texts (nodes_of self.entry.file.now self.entry.count) (place c left) at result }
     {
         let x = node_at(self.file, at);
-        let name = self.node(at + 1, Class::Binding, left - 1)?;
+        let name = self.node(at + 1, Class::Name, left - 1)?;
         let Child::Binding(next) = name else {
             return Err(Refusal::Nodes);
         };

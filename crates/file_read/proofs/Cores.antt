@@ -53,7 +53,7 @@ row-to : (k f : ℕ) → (row_of k f).to ≤ 24
 unfolding row_of all_to
 row-to k f = to_at rows k f tt
 
-row-none : (k f : ℕ) → 45 ≤ k → row_of k f ≡ no_row
+row-none : (k f : ℕ) → 49 ≤ k → row_of k f ≡ no_row
 unfolding row_of
 row-none k f h = ap (λ (r : ℕ → Row). r f) (get_or-eq_default rows (λ g. no_row) h)
 
@@ -64,7 +64,7 @@ pub record Sound (t : ℕ) (x : Raw) : Type 0 where
 
 sound : (t : ℕ) (p : Place) (x : Raw) → node_ok t p x ≡ true → Sound t x
 unfolding node_ok
-sound t p x q = record { kind = go (dec_le 45 x.kind); form = omega (arith, leb→le x.form r.to (and_right (leb r.from x.form) (leb x.form r.to) form), row-to x.kind x.form); text = λ u. of-text (uses_text x.kind) u fields }
+sound t p x q = record { kind = go (dec_le 49 x.kind); form = omega (arith, leb→le x.form r.to (and_right (leb r.from x.form) (leb x.form r.to) form), row-to x.kind x.form); text = λ u. of-text (uses_text x.kind) u fields }
   where
     r : Row
     r = row_of x.kind x.form
@@ -100,7 +100,7 @@ sound t p x q = record { kind = go (dec_le 45 x.kind); form = omega (arith, leb�
     none : (f : ℕ) → T (form_ok no_row f) → ⊥
     none f h = omega (arith, leb→le 1 f (and_left (leb 1 f) (leb f 0) h), leb→le f 0 (and_right (leb 1 f) (leb f 0) h))
 
-    go : Dec (45 ≤ x.kind) → x.kind < 64
+    go : Dec (49 ≤ x.kind) → x.kind < 64
     go (yes h) = absurd (none x.form (subst (λ (s : Row). T (form_ok s x.form)) (row-none x.kind x.form h) form))
     go (no h) = omega arith
 
@@ -269,7 +269,7 @@ lit-no-id x h =
 pub id-text : (x : Raw) → has_id x ≡ true → T (uses_text x.kind)
 id-text x h = go (eqb x.kind 20) (eqb x.kind 21) h
   where
-    go : (p q : Bool) → (p || q) ≡ true → T (p || q || eqb x.kind 25 || eqb x.kind 29 || eqb x.kind 37)
+    go : (p q : Bool) → (p || q) ≡ true → T (p || q || eqb x.kind 25 || eqb x.kind 29 || eqb x.kind 37 || eqb x.kind 47)
     go true q e = tt
     go false true e = tt
     go false false e = absurd (is_T false e)

@@ -54,7 +54,7 @@ impl Source<'_> {
     fn text_in(self, kind: Kind, m: usize) -> u32
         ensures { (k : ℕ) → Coded kind k → result ≡ text_in self.entry.file.now k m }
     {
-        if matches!(kind, Kind::Prop | Kind::Member) {
+        if matches!(kind, Kind::Prop | Kind::Member | Kind::PatProp) {
             return self.node_in(m).text;
         }
         0

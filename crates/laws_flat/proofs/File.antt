@@ -11,7 +11,7 @@ use lib.Dec.{T, eqb, ltb, leb, leb→le}
 use lib.ListN.{length, drop}
 use Rattle.def_tree.specs.Tree.{Tree, Forest, node, nil, cons, length_f, count, counts, Core, core, flat, flats, plant}
 use Rattle.def_tree.proofs.Whole.{Whole, length-drop_f, unplant}
-use Rattle.def_tree.specs.Base.{pick, to_nat}
+use Rattle.def_tree.specs.Base.{pick, to_nat, member}
 use Rattle.def_pass.specs.Tree.{head_t}
 use Rattle.def_pass.specs.Targets.{aims, aimed_at, first_is, targets, targets_f}
 use Rattle.def_pass.specs.Twice.{flagged}
@@ -27,6 +27,7 @@ use Rattle.def_pass.specs.Entry.{Entry, refused as refusedE, written, entry_read
 use Rattle.laws_flat.specs.WalkF.{runs_f, flat_outcome}
 use Rattle.laws_flat.specs.PassF.{some!, flagged_o, next_is, targets_l, start_f, answer_f, pass_f, pass_read_f, pass_file_f, entry_read_f, entry_f}
 use Rattle.laws_flat.proofs.Sim.{pass_same}
+use Rattle.laws_flat.proofs.Bounds.{bounds-tree}
 
 and_left : (p q : Bool) → T (p && q) → T p
 and_left true q t = tt
@@ -174,7 +175,7 @@ with_rest false b c = refl
 
 mutual
   next-aimed : (i : ℕ) (t : Tree) (xs : List Core) → next_is i (flat t xs) ≡ aimed_at i t
-  next-aimed i (node k f a ts) xs = ap {B = Bool} (λ (b : Bool). elim (eqb k 5 || eqb k 6) [ true ↦ b | false ↦ (eqb k 20 || eqb k 21) && eqb a i ]) (next-first i ts xs)
+  next-aimed i (node k f a ts) xs = ap₂ {C = Bool} (λ (b c : Bool). elim (eqb k 5 || eqb k 6) [ true ↦ b | false ↦ (eqb k 21 && eqb a i) || c ]) (next-first i ts xs) (ap (member i) (bounds-tree (node k f a ts) xs))
 
   next-first : (i : ℕ) (ts : Forest) (xs : List Core) → (some! (length_f ts) && next_is i (flats ts xs)) ≡ first_is i ts
   next-first i nil xs = refl

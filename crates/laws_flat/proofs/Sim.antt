@@ -9,16 +9,16 @@ use native.Mathlib.Nat.{zero-add}
 use lib.Dec.{eqb, ltb}
 use lib.ListN.{length, get_or}
 use Rattle.def_tree.specs.Base.{pick}
-use Rattle.def_pass.specs.Tree.{Tree, kind, form, num, kids, head_t, tail_f, void_zero, count}
+use Rattle.def_pass.specs.Tree.{Tree, kind, form, num, kids, head_t, tail_f, void_zero, count, bound_names}
 use Rattle.def_pass.specs.Twice.{flagged}
-use Rattle.def_pass.specs.Scope.{VarType, is_const, ScopeKind, cond, loop, block, fn, VarInfo, prevent_inline, is_inline_prevented, var_inline_prevented, find_binding, find_binding_from_current, find_constant, add_read, mark_this_sensitive, ident_of, change, with_value, defined}
+use Rattle.def_pass.specs.Scope.{VarType, is_const, ScopeKind, cond, loop, block, fn, VarInfo, prevent_each, is_inline_prevented, var_inline_prevented, find_binding, find_binding_from_current, find_constant, add_read, mark_this_sensitive, ident_of, change, with_value, defined}
 use Rattle.def_tree.specs.Tree.{Core, flat}
 use Rattle.def_tree.specs.Combine
 use Rattle.def_tree.specs.Combine.{Res, stop, done, ◌>>=◌, ◌>>◌, ret, iff, Flat, carry}
 use Rattle.def_tree.proofs.Place.{past, length-past}
 use Rattle.def_tree.proofs.Sims.{Sim, SimF, SimR, sim-skip, sim-skips, sim_put, sim-refuse, sim_then, sim-if, sim-ask, sim-node, sim-act, sim-act_n, sim-tap, sim-within, sim-each, sim-split, sim-each_but, sim-on_kids, sim-re_kids, sim_f-then, sim_f-if, sim_f-ask, sim_f-act, sim_f-tap, sim_f-within, sim_r-same, sim_r-then, sim_r-act, sim_r-ask, sim_r-if, sim_r-split, sim_r-cut_first}
 use Rattle.def_pass.specs.Walk
-use Rattle.def_pass.specs.Walk.{St, M, Walks, Handler, h_plain, h_script, h_block, h_decl, h_declr, h_fun, h_if, h_while, h_for, h_for_in, h_try, h_catch, h_case, h_pat, h_unary, h_update, h_assign, h_call, h_new, h_fun_expr, h_arrow, handlers, when, modify, mark, grow, replace, restore, opening, deeper, shallower, set_inlining, set_var_decl_kind, set_pat_mode, set_in_test, set_changed, declaring, assigning, as_param, as_catch, decl_kind_of, declare_name, write_name, write_tree, write_forest, but_last, store_inline_barrier_m, is_bind, pat_by, over_m, stays, takes, head_bind, assign_first, assign_last, same_ident}
+use Rattle.def_pass.specs.Walk.{St, M, Walks, Handler, h_plain, h_script, h_block, h_decl, h_declr, h_fun, h_if, h_while, h_for, h_for_in, h_try, h_catch, h_case, h_pat, h_unary, h_update, h_assign, h_call, h_new, h_fun_expr, h_arrow, handlers, when, modify, mark, grow, replace, restore, opening, deeper, shallower, set_inlining, set_var_decl_kind, set_pat_mode, set_in_test, set_changed, declaring, assigning, as_param, as_catch, decl_kind_of, declare_name, write_name, write_tree, write_forest, but_last, store_inline_barrier_m, is_bind, pat_by, over_m, stays, takes, head_bind, assign_first, assign_last, to_pattern, same_ident}
 use Rattle.laws_flat.specs.WalkF
 
 pub record Sims (w : Walks) (v : WalkF.WalksF) : Type 0 where
@@ -164,7 +164,7 @@ module _ {w : Walks} {v : WalkF.WalksF} (h : Sims w v) where
 
   pub sim-catch_param : (p : ℕ) → Sim (Walk.catch_param w p) (WalkF.catch_param_f v p)
   unfolding Walk.catch_param WalkF.catch_param_f
-  sim-catch_param p = sim-node (λ s c. c) (λ x. sim-tap (λ u s. when (eqb x.kind 20 && not s.inlining) (mark (prevent_inline x.num)) s) (h.full p))
+  sim-catch_param p = sim-tap (λ b s. when (not s.inlining) (mark (prevent_each (bound_names b []))) s) (h.full p)
 
   pub sim-catch : (p : ℕ) → Sim (Walk.visit_mut_catch_clause w p) (WalkF.visit_mut_catch_clause_f v p)
   unfolding Walk.visit_mut_catch_clause WalkF.visit_mut_catch_clause_f
@@ -192,13 +192,13 @@ module _ {w : Walks} {v : WalkF.WalksF} (h : Sims w v) where
       sim-tap (λ u. store_inline_barrier_m) (sim-on_kids (sim-split (sim-tap (λ c s. when (not s.inlining) (mark (mark_this_sensitive (ident_of (some c)))) s) (h.full (suc p)))
       (sim_f-act (λ ts. when b (write_forest false ts)) (λ a. sim-each (h.full (suc p))))))
 
-  pub sim-assign_kids : (p f : ℕ) → SimF (Walk.assign_kids w p f) (WalkF.assign_kids_f v p f)
+  pub sim-assign_kids : (p f : ℕ) (pat : Bool) → SimF (Walk.assign_kids w p f pat) (WalkF.assign_kids_f v p f pat)
   unfolding Walk.assign_kids WalkF.assign_kids_f
-  sim-assign_kids p f = sim_f-act (assign_first f) (λ a. sim_f-tap assign_last (sim-split sim-skip (sim-each (h.full (suc p)))))
+  sim-assign_kids p f pat = sim_f-act (assign_first f) (λ a. sim_f-tap assign_last (sim_f-if pat (sim-each (h.full (suc p))) (sim-split sim-skip (sim-each (h.full (suc p))))))
 
   pub sim-assign : (p : ℕ) → Sim (Walk.visit_mut_assign_expr w p) (WalkF.visit_mut_assign_expr_f v p)
   unfolding Walk.visit_mut_assign_expr WalkF.visit_mut_assign_expr_f
-  sim-assign p = sim-act (λ t. modify (set_pat_mode assigning)) (λ a. sim-node (λ s c. c.form) (λ f. sim-on_kids (sim-assign_kids p f)))
+  sim-assign p = sim-act (λ t. modify (set_pat_mode assigning)) (λ a. sim-node (λ s c. c.form) (λ f. sim-ask (λ s t. to_pattern t) (λ pat. sim-on_kids (sim-assign_kids p f pat))))
 
   pub sim-handle : (k : Handler) (p : ℕ) → Sim (Walk.handle k w p) (WalkF.handle_f k v p)
   unfolding Walk.handle WalkF.handle_f

@@ -4,11 +4,11 @@
 use Rattle.std.specs.Prelude.{Bool, true, false, ◌&&◌, not, List, [], ℕ, zero, suc, eqb, ltb, get_or}
 use Rattle.std.proofs.Math.Option.{Option, none, some}
 use Rattle.def_tree.specs.Base.{pick}
-use Rattle.def_pass.specs.Tree.{Tree, form, num, kids, head_t, tail_f, void_zero}
-use Rattle.def_pass.specs.Scope.{VarType, is_const, ScopeKind, cond, loop, block, fn, VarInfo, prevent_inline, is_inline_prevented, var_inline_prevented, find_binding, find_binding_from_current, find_constant, add_read, mark_this_sensitive, ident_of, change, with_value, defined}
+use Rattle.def_pass.specs.Tree.{Tree, form, num, kids, head_t, tail_f, void_zero, bound_names}
+use Rattle.def_pass.specs.Scope.{VarType, is_const, ScopeKind, cond, loop, block, fn, VarInfo, prevent_inline, prevent_each, is_inline_prevented, var_inline_prevented, find_binding, find_binding_from_current, find_constant, add_read, mark_this_sensitive, ident_of, change, with_value, defined}
 use Rattle.def_tree.specs.Tree.{Core, flat}
 use Rattle.def_tree.specs.Combine.{Res, stop, done, M as MS, Nothing, ◌>>=◌, ◌>>◌, ret, refuse, iff, Flat, node_at, tree_at, forest_at, Walk as One, Walks as Many, ReWalks, on_rest, act_n, act, act_f, within_f, skip, skips, put, many, split_f, each_but_f, on_kids_f, re_kids_f, same, split_r, cut_first}
-use Rattle.def_pass.specs.Walk.{Rooted, Outcome, refused, result, root_marks, set_is_first_run, St, tally, Handler, h_plain, h_script, h_block, h_decl, h_declr, h_fun, h_if, h_while, h_for, h_for_in, h_try, h_catch, h_case, h_pat, h_unary, h_update, h_assign, h_call, h_new, h_fun_expr, h_arrow, handlers, when, modify, mark, grow, replace, restore, opening, deeper, shallower, set_inlining, set_var_decl_kind, set_pat_mode, set_in_test, set_changed, declaring, assigning, as_param, as_catch, decl_kind_of, declare_name, write_name, write_tree, write_forest, but_last, store_inline_barrier_m, is_bind, pat_by, over_m, stays, takes, head_bind, assign_first, assign_last, same_ident, cheap_o}
+use Rattle.def_pass.specs.Walk.{Rooted, Outcome, refused, result, root_marks, set_is_first_run, St, tally, Handler, h_plain, h_script, h_block, h_decl, h_declr, h_fun, h_if, h_while, h_for, h_for_in, h_try, h_catch, h_case, h_pat, h_unary, h_update, h_assign, h_call, h_new, h_fun_expr, h_arrow, handlers, when, modify, mark, grow, replace, restore, opening, deeper, shallower, set_inlining, set_var_decl_kind, set_pat_mode, set_in_test, set_changed, declaring, assigning, as_param, as_catch, decl_kind_of, declare_name, write_name, write_tree, write_forest, but_last, store_inline_barrier_m, is_bind, pat_by, over_m, stays, takes, head_bind, assign_first, assign_last, to_pattern, same_ident, cheap_o}
 
 abbrev pub F : Type 0 → Type 0
 F A = MS (Flat St) A
@@ -110,10 +110,10 @@ unfoldable pub visit_mut_try_stmt_f : WalksF → ℕ → One St
 visit_mut_try_stmt_f v p i = on_kids_f (split_f (λ i₁. act (write_tree true) i₁ >> skip i₁) (many (λ i₁ st. iff (eqb (node_at st i₁).kind 17) (v.full (suc p) i₁) (skip i₁) st))) i
 
 unfoldable pub catch_param_f : WalksF → ℕ → One St
-catch_param_f v p i = λ st. (do
+catch_param_f v p i = do
   j ← v.full p i
-  on_rest (λ s. when (eqb (node_at st i).kind 20 && not s.inlining) (mark (prevent_inline (node_at st i).num)) s)
-  ret j) st
+  act (λ b s. when (not s.inlining) (mark (prevent_each (bound_names b []))) s) i
+  ret j
 
 unfoldable pub visit_mut_catch_clause_f : WalksF → ℕ → One St
 visit_mut_catch_clause_f v p i = in_scope_f block (on_rest (modify (set_pat_mode as_catch)) >> on_kids_f (each_but_f (catch_param_f v (suc p)) (v.full (suc p))) i)
@@ -139,15 +139,15 @@ visit_mut_call_expr_f call v p i = do
   on_rest store_inline_barrier_m
   ret j
 
-unfoldable pub assign_kids_f : WalksF → ℕ → ℕ → Many St
-assign_kids_f v p f n i = do
+unfoldable pub assign_kids_f : WalksF → ℕ → ℕ → Bool → Many St
+assign_kids_f v p f pat n i = do
   act_f (assign_first f) n i
-  j ← split_f skip (many (v.full (suc p))) n i
+  j ← iff pat (many (v.full (suc p)) n i) (split_f skip (many (v.full (suc p))) n i)
   act_f assign_last n i
   ret j
 
 unfoldable pub visit_mut_assign_expr_f : WalksF → ℕ → One St
-visit_mut_assign_expr_f v p i = on_rest (modify (set_pat_mode assigning)) >> (λ st. on_kids_f (assign_kids_f v p (node_at st i).form) i st)
+visit_mut_assign_expr_f v p i = on_rest (modify (set_pat_mode assigning)) >> (λ st. on_kids_f (assign_kids_f v p (node_at st i).form (to_pattern (tree_at st i))) i st)
 
 unfoldable pub handle_f : Handler → WalksF → ℕ → One St
 handle_f h_plain v p i = plain_f v p i

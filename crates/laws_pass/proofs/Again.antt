@@ -11,7 +11,7 @@ use Rattle.def_tree.specs.Base.{pick, to_nat}
 use Rattle.def_tree.specs.Tree.{Core, core, length_f, take_f, drop_f, plant, flat, flats}
 use Rattle.def_file.specs.declared.Raw.{Raw}
 use Rattle.def_file.specs.declared.kinds.Class.{Class}
-use Rattle.def_file.specs.declared.kinds.Class.TheVariants.{Root, Statement, Expression, Binding, Block, Declarator, Catch, Case, Property, Updated, Assigned, Start, Head}
+use Rattle.def_file.specs.declared.kinds.Class.TheVariants.{Root, Statement, Expression, Binding, Name, Target, Block, Declarator, Catch, Case, Property, PatternProperty, Updated, Assigned, Destructured, Start, Head}
 use Rattle.def_file.specs.Kinds.{allows, row_of, form_ok, count_ok, child_of, uses_text, uses_bits}
 use Rattle.def_file.specs.Script.{Script, is_lit, has_id, known, enter, enter_all, idents, is_arguments, place_of, zero_node, node_at}
 use Rattle.def_file.specs.Read.{Place, fields_ok, node_ok, below, fills, nodes_ok, Read, bad, script, checked, read}
@@ -87,7 +87,7 @@ texted t x u h = go (uses_text x.kind) (uses_bits x.kind || eqb x.bits 0) u h
 id-text : (k : ℕ) → T (eqb k 20 || eqb k 21) → T (uses_text k)
 id-text k h = go (eqb k 20) (eqb k 21) h
   where
-    go : (p q : Bool) → T (p || q) → T (p || q || eqb k 25 || eqb k 29 || eqb k 37)
+    go : (p q : Bool) → T (p || q) → T (p || q || eqb k 25 || eqb k 29 || eqb k 37 || eqb k 47)
     go true q h = tt
     go false true h = tt
     go false false h = absurd h
@@ -114,20 +114,24 @@ back4 Root m = (λ h. h, λ h. h, λ h. h, λ h. h)
 back4 Statement m = (λ h. h, λ h. h, λ h. h, λ h. h)
 back4 Expression m = (λ h. h, λ h. h, λ h. h, λ h. h)
 back4 Binding m = (λ h. h, λ h. h, λ h. h, λ h. h)
+back4 Name m = (λ h. h, λ h. h, λ h. h, λ h. h)
+back4 Target m = (λ h. h, λ h. h, λ h. h, λ h. h)
 back4 Block m = (λ h. h, λ h. h, λ h. h, λ h. h)
 back4 Declarator m = (λ h. h, λ h. h, λ h. h, λ h. h)
 back4 Catch m = (λ h. h, λ h. h, λ h. h, λ h. h)
 back4 Case m = (λ h. h, λ h. h, λ h. h, λ h. h)
 back4 Property m = (λ h. h, λ h. h, λ h. h, λ h. h)
+back4 PatternProperty m = (λ h. h, λ h. h, λ h. h, λ h. h)
 back4 Updated m = (λ h. h, λ h. h, λ h. h, λ h. h)
 back4 Assigned m = (λ h. h, λ h. h, λ h. h, λ h. h)
+back4 Destructured m = (λ h. h, λ h. h, λ h. h, λ h. h)
 back4 Start m = (λ h. h, λ h. h, λ h. h, λ h. h)
 back4 Head m = (λ h. h, λ h. h, λ h. h, λ h. h)
 
 lit-back : (k : ℕ) → T (leb 22 k && leb k 25) → (c : Class) (m : ℕ) → T (allows c 22 0) → T (allows c k m)
 lit-back k h = lit-kind k h (λ n. (c : Class) (m : ℕ) → T (allows c 22 0) → T (allows c n m)) (λ c m. (back4 c m).0) (λ c m. (back4 c m).1) (λ c m. (back4 c m).2) (λ c m. (back4 c m).3)
 
--- the text of a property or member is that of a node that has one
+-- the text of a property, a member or a pattern's property is that of a node that has one
 pub record Worded (s : Script) (k f a : ℕ) : Type 0 where
   pub word : T (has_text k) → T (uses_text (node_at s a).kind)
 
@@ -150,13 +154,13 @@ abbrev WordedC : Script → Core → Type 0
 WordedC s c = Worded s c.kind c.form c.num
 
 text-used : (k : ℕ) → T (has_text k) → T (uses_text k)
-text-used k h = go (eqb k 20) (eqb k 21) (eqb k 25) (eqb k 29) (eqb k 37) h
+text-used k h = go (eqb k 20) (eqb k 21) (eqb k 25) (eqb k 29) (eqb k 37) (eqb k 47) h
   where
-    go : (a b c d e : Bool) → T (d || e) → T (a || b || c || d || e)
-    go true b c d e h = tt
-    go false true c d e h = tt
-    go false false true d e h = tt
-    go false false false d e h = h
+    go : (a b c d e f : Bool) → T (d || e || f) → T (a || b || c || d || e || f)
+    go true b c d e f h = tt
+    go false true c d e f h = tt
+    go false false true d e f h = tt
+    go false false false d e f h = h
 
 core-worded : (s : Script) (n : ℕ) (x : Raw) → node_at s n ≡ x → WordedC s (core_node s n x)
 unfolding core_node
@@ -262,7 +266,7 @@ module _ (s : Script) where
         id-fields : T (eqb k 20 || eqb k 21) → T (fields_ok n id_raw)
         id-fields i = by (eqb k 20) (eqb k 21) i (ident-texted a (nm.ident i))
           where
-            by : (u v : Bool) → T (u || v) → Texted n (ident_at s a) → T (pick (u || v || eqb k 25 || eqb k 29 || eqb k 37) (ltb (ident_at s a).text n) (eqb (ident_at s a).text 0) && (u || v || eqb k 24 || eqb (ident_at s a).bits 0))
+            by : (u v : Bool) → T (u || v) → Texted n (ident_at s a) → T (pick (u || v || eqb k 25 || eqb k 29 || eqb k 37 || eqb k 47) (ltb (ident_at s a).text n) (eqb (ident_at s a).text 0) && (u || v || eqb k 24 || eqb (ident_at s a).bits 0))
             by true v i t = both (ltb (ident_at s a).text n) true t tt
             by false true i t = both (ltb (ident_at s a).text n) true t tt
             by false false i t = absurd i
@@ -276,14 +280,14 @@ module _ (s : Script) where
         plain-fields : (eqb k 20 || eqb k 21) ≡ false → (leb 22 k && leb k 25) ≡ false → T (fields_ok n plain_raw)
         plain-fields e d = by (has_text k) refl
           where
-            -- of the kinds with a text, 29 and 37 are left
+            -- of the kinds with a text, 29, 37 and 47 are left
             rest-text : uses_text k ≡ has_text k
-            rest-text = three (eqb k 20 || eqb k 21) e (eqb k 25) refl (eqb k 29) (eqb k 37)
+            rest-text = three (eqb k 20 || eqb k 21) e (eqb k 25) refl (eqb k 29) (eqb k 37) (eqb k 47)
               where
-                three : (u : Bool) → u ≡ false → (v : Bool) → eqb k 25 ≡ v → (x y : Bool) → (u || v || x || y) ≡ (x || y)
-                three true q v r x y = absurd (subst T q tt)
-                three false q true r x y = absurd (subst T (subst (λ (m : ℕ). (leb 22 m && leb m 25) ≡ false) (eqb→eq k 25 (is_T _ r)) d) tt)
-                three false q false r x y = refl
+                three : (u : Bool) → u ≡ false → (v : Bool) → eqb k 25 ≡ v → (x y z : Bool) → (u || v || x || y || z) ≡ (x || y || z)
+                three true q v r x y z = absurd (subst T q tt)
+                three false q true r x y z = absurd (subst T (subst (λ (m : ℕ). (leb 22 m && leb m 25) ≡ false) (eqb→eq k 25 (is_T _ r)) d) tt)
+                three false q false r x y z = refl
 
             by : (u : Bool) → has_text k ≡ u → T (pick (uses_text k) (ltb (pick (has_text k) (node_at s a).text 0) n) (eqb (pick (has_text k) (node_at s a).text 0) 0) && (uses_bits k || true))
             by u q = rw (rest-text, q) (two u q (uses_bits k))

@@ -6,13 +6,13 @@ use mathlib.Core.List.{List, [], ◌∷◌, ◌++◌}
 use Prim.Native.Nat.{ℕ, suc, ◌+◌, max}
 use lib.Dec.{T, eqb, ltb, eqb→eq}
 use lib.ListN.{length}
-use Rattle.def_tree.specs.Base.{pick}
-use Rattle.def_pass.specs.Tree.{Tree, Forest, node, nil, cons, kind, form, num, kids, count, counts, count_o, height, heights, has_this, has_this_f, ident_list, ident_list_f, head_t, tail_f}
+use Rattle.def_tree.specs.Base.{pick, member}
+use Rattle.def_pass.specs.Tree.{Tree, Forest, node, nil, cons, kind, form, num, kids, count, counts, count_o, height, heights, has_this, has_this_f, in_pattern, bound_names, bound_names_f, ident_list, ident_list_f, head_t, tail_f}
 use Rattle.def_pass.specs.Targets.{aims, aimed_at, first_is, targets, targets_f}
-use Rattle.def_pass.specs.Twice.{unflagged, is_function, is_named, binds, no_literal, declarators, vars, vars_f, params, any_of, twice, flag, flags, flag_named, flagged}
+use Rattle.def_pass.specs.Twice.{unflagged, is_function, is_named, among, no_literal, declarator, declarators, vars, vars_f, params, any_of, twice, flag, flags, flag_named, flagged}
 use Rattle.def_pass.specs.Walk.{as_ident, is_bind, but_last}
 use Rattle.def_pass.specs.Relabel.{has_origin, relabel, relabel_f}
-use Rattle.laws_pass.proofs.Tests.{is_T, or_left}
+use Rattle.laws_pass.proofs.Tests.{is_T, or_left, or_right}
 
 -- a choice between two relabelled things, by two tests that agree
 pub pick_same : {A B : Type 0} (F : A → B) (c d : Bool) (x y : A) (x' y' : B) → d ≡ c → x' ≡ F x → y' ≡ F y → pick d x' y' ≡ F (pick c x y)
@@ -129,11 +129,24 @@ module _ (r : ℕ → ℕ) where
     same-idents_f (cons t ts) rest = same-idents t (ident_list_f (relabel_f r ts) rest) ∙ ap (ident_list t) (same-idents_f ts rest)
 
   mutual
-    same-aimed : (i : ℕ) (t : Tree) → aimed_at i (relabel r t) ≡ aimed_at i t
-    same-aimed i (node k f a ts) = elim-same (λ (b : Bool). b) (eqb k 5 || eqb k 6) (eqb k 5 || eqb k 6) (first_is i ts) ((eqb k 20 || eqb k 21) && eqb a i) (first_is i (relabel_f r ts)) ((eqb k 20 || eqb k 21) && eqb (pick (has_origin k) (r a) a) i) refl (same_first i ts) (go (eqb k 20 || eqb k 21) refl)
+    pub same-bound : (t : Tree) (rest : List ℕ) → bound_names (relabel r t) rest ≡ bound_names t rest
+    same-bound (node k f a ts) rest = go (eqb k 20) refl (same-bound_f ts rest)
       where
-        go : (b : Bool) → (eqb k 20 || eqb k 21) ≡ b → (b && eqb (pick (has_origin k) (r a) a) i) ≡ (b && eqb a i)
-        go true e = ap (λ n. eqb n i) (same-num k a (is_T (eqb k 20 || eqb k 21) e))
+        go : (b : Bool) → eqb k 20 ≡ b → bound_names_f (relabel_f r ts) rest ≡ bound_names_f ts rest
+            → ◌≡◌ {A = List ℕ} (elim b [ true ↦ pick (has_origin k) (r a) a ∷ rest | false ↦ elim (in_pattern k) [ true ↦ bound_names_f (relabel_f r ts) rest | false ↦ rest ] ]) (elim b [ true ↦ a ∷ rest | false ↦ elim (in_pattern k) [ true ↦ bound_names_f ts rest | false ↦ rest ] ])
+        go true e h = ap (λ (n : ℕ). n ∷ rest) (same-num k a (or_left (eqb k 20) (eqb k 21) (is_T (eqb k 20) e)))
+        go false e h = ap {B = List ℕ} (λ (ns : List ℕ). elim (in_pattern k) [ true ↦ ns | false ↦ rest ]) h
+
+    same-bound_f : (ts : Forest) (rest : List ℕ) → bound_names_f (relabel_f r ts) rest ≡ bound_names_f ts rest
+    same-bound_f nil rest = refl
+    same-bound_f (cons t ts) rest = ap (bound_names (relabel r t)) (same-bound_f ts rest) ∙ same-bound t (bound_names_f ts rest)
+
+  mutual
+    same-aimed : (i : ℕ) (t : Tree) → aimed_at i (relabel r t) ≡ aimed_at i t
+    same-aimed i (node k f a ts) = elim-same (λ (b : Bool). b) (eqb k 5 || eqb k 6) (eqb k 5 || eqb k 6) (first_is i ts) ((eqb k 21 && eqb a i) || member i (bound_names (node k f a ts) [])) (first_is i (relabel_f r ts)) ((eqb k 21 && eqb (pick (has_origin k) (r a) a) i) || member i (bound_names (relabel r (node k f a ts)) [])) refl (same_first i ts) (ap₂ ◌||◌ (go (eqb k 21) refl) (ap (member i) (same-bound (node k f a ts) [])))
+      where
+        go : (b : Bool) → eqb k 21 ≡ b → (b && eqb (pick (has_origin k) (r a) a) i) ≡ (b && eqb a i)
+        go true e = ap (λ n. eqb n i) (same-num k a (or_right (eqb k 20) (eqb k 21) (is_T (eqb k 21) e)))
         go false e = refl
 
     same_first : (i : ℕ) (ts : Forest) → first_is i (relabel_f r ts) ≡ first_is i ts
@@ -149,22 +162,17 @@ module _ (r : ℕ → ℕ) where
     same-targets_f i (cons t ts) = ap₂ ◌||◌ (same-targets i t) (same-targets_f i ts)
 
   -- what is declared more than once, and the bindings flagged
-  same-binds : (i : ℕ) (v : Option Tree) → binds i (on_o v) ≡ binds i v
-  same-binds i none = refl
-  same-binds i (some (node k f a ts)) = go (eqb k 20) refl
-    where
-      go : (b : Bool) → eqb k 20 ≡ b → (b && eqb (pick (has_origin k) (r a) a) i) ≡ (b && eqb a i)
-      go true e = ap (λ n. eqb n i) (same-num k a (or_left (eqb k 20) (eqb k 21) (is_T (eqb k 20) e)))
-      go false e = refl
+  same-no_literal : (name : Tree) (es : Forest) → no_literal (relabel r name) (head_t (relabel_f r es)) ≡ no_literal name (head_t es)
+  same-no_literal name nil = refl
+  same-no_literal (node k f a ts) (cons (node l g b us) es) = refl
 
-  same-no_literal : (v : Option Tree) → no_literal (on_o v) ≡ no_literal v
-  same-no_literal none = refl
-  same-no_literal (some (node k f a ts)) = refl
+  same-declarator : (i : ℕ) (ts : Forest) → declarator i (relabel_f r ts) ≡ declarator i ts
+  same-declarator i nil = refl
+  same-declarator i (cons name es) = ap₂ (among i) (same-no_literal name es) (same-bound name [])
 
   same-declarators : (i : ℕ) (ts : Forest) → declarators i (relabel_f r ts) ≡ declarators i ts
   same-declarators i nil = refl
-  same-declarators i (cons (node k f a ts) us) = elim-same (λ (bs : List Bool). bs) (binds i (head_t ts)) (binds i (head_t (relabel_f r ts))) (no_literal (head_t (tail_f ts)) ∷ declarators i us) (declarators i us) (no_literal (head_t (tail_f (relabel_f r ts))) ∷ declarators i (relabel_f r us)) (declarators i (relabel_f r us))
-      (ap (binds i) (same_head ts) ∙ same-binds i (head_t ts)) (ap₂ {C = List Bool} (λ b bs. b ∷ bs) (ap no_literal (ap head_t (same-tail ts) ∙ same_head (tail_f ts)) ∙ same-no_literal (head_t (tail_f ts))) (same-declarators i us)) (same-declarators i us)
+  same-declarators i (cons (node k f a ts) us) = ap₂ (λ (x y : List Bool). x ++ y) (same-declarator i ts) (same-declarators i us)
 
   mutual
     same-vars : (i : ℕ) (t : Tree) → vars i (relabel r t) ≡ vars i t
@@ -176,7 +184,7 @@ module _ (r : ℕ → ℕ) where
 
   same_params : (i : ℕ) (ts : Forest) → params i (relabel_f r ts) ≡ params i ts
   same_params i nil = refl
-  same_params i (cons t ts) = ap₂ {C = List Bool} (λ (b : Bool) (x : List Bool). elim b [ true ↦ false ∷ x | false ↦ x ]) (same-binds i (some t)) (same_params i ts)
+  same_params i (cons t ts) = ap₂ (λ (x y : List Bool). x ++ y) (ap (among i false) (same-bound t [])) (same_params i ts)
 
   same-twice : (ts : Forest) → twice (relabel_f r ts) ≡ twice ts
   same-twice ts = fun_ext (λ i. ap₂ (λ (x y : List Bool). ltb 1 (length (x ++ y)) && any_of (x ++ y)) (same_params i ts) (same-vars_f i ts))

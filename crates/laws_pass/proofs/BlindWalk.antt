@@ -8,7 +8,7 @@ use lib.Dec.{T, eqb, ltb, leb}
 use lib.ListN.{length, get_or, length-map}
 use Rattle.def_tree.specs.Base.{pick}
 use Rattle.def_tree.specs.Combine.{Res, stop, done, Nothing, and_then, ◌>>=◌, ◌>>◌, ret, refuse, iff, within, each, split, each_but, on_kids}
-use Rattle.def_pass.specs.Tree.{Tree, Forest, node, nil, cons, kind, form, num, head_t, tail_f, is_ident, is_cheap, has_this, count, height, ident_list, ident_list_f, void_zero}
+use Rattle.def_pass.specs.Tree.{Tree, Forest, node, nil, cons, form, num, head_t, tail_f, is_ident, is_cheap, is_member, bound_names, has_this, count, height, ident_list, ident_list_f, void_zero}
 use Rattle.def_pass.specs.Relabel.{relabel, relabel_f, relabel_out, OriginBlind}
 use Rattle.def_pass.specs.Twice.{is_twice, is_args, flagged}
 use Rattle.def_pass.specs.Scope as Scope
@@ -16,7 +16,7 @@ use Rattle.def_pass.specs.Scope.{VarInfo, Stack, Init}
 use Rattle.def_pass.specs.Walk as Walk
 use Rattle.def_pass.specs.Walk.{St, M, Walks, get, when, modify, mark, grow, in_scope, visit_mut_stmts, plain}
 use Rattle.laws_pass.proofs.Tests.{is_T, and_left}
-use Rattle.laws_pass.proofs.Blind.{pick_same, elim-same, on_o, Bound, bound, ident-num, same_kind, same-form, same_head, same-tail, same-but_last, same_count, same-targets, same-flagged, same-height, same-this, same-idents, same-idents_f}
+use Rattle.laws_pass.proofs.Blind.{pick_same, elim-same, on_o, Bound, bound, ident-num, same_kind, same-form, same_head, same-tail, same-but_last, same_count, same-targets, same-flagged, same-height, same-this, same-bound, same-idents, same-idents_f}
 use Rattle.laws_pass.proofs.Void.{same-void}
 use Rattle.laws_pass.proofs.BlindScope.{on_b, on_ob, on_i, on, find-same, here-same, const-same, change-same, prevent-same, add_read-same, add_write-same, sensitive-same, barrier-same, add_const-same, ident_of-same, prevented-same, prevented_o-same, var_prevented-same, same_this-same, declare-same, close-same, ending-same, recorded-same, live_same}
 
@@ -236,6 +236,13 @@ module _ (r : ℕ → ℕ) where
 
   prevent_m-eq : (i j : ℕ) → j ≡ i → Eq keep (mark (Scope.prevent_inline i)) (mark (Scope.prevent_inline j))
   prevent_m-eq i j p = mark-eq (Scope.prevent_inline i) (Scope.prevent_inline j) (λ st. ap (λ (n : ℕ). Scope.prevent_inline n (on r st)) p ∙ prevent-same r i st)
+
+  each_same : (is : List ℕ) (st : Stack) → Scope.prevent_each is (on r st) ≡ on r (Scope.prevent_each is st)
+  each_same [] st = refl
+  each_same (i ∷ is) st = ap (Scope.prevent_each is) (prevent-same r i st) ∙ each_same is (Scope.prevent_inline i st)
+
+  prevent_each-eq : (t : Tree) → Eq keep (mark (Scope.prevent_each (bound_names t []))) (mark (Scope.prevent_each (bound_names (rel t) [])))
+  prevent_each-eq t = mark-eq (Scope.prevent_each (bound_names t [])) (Scope.prevent_each (bound_names (rel t) [])) (λ st. ap (λ (is : List ℕ). Scope.prevent_each is (on r st)) (same-bound r t []) ∙ each_same (bound_names t []) st)
 
   module _ (name : Tree) (B : Bound r name) where
     declared-eq : (v v' : Init) → v' ≡ on_i r v → (c : Bool) (k : Scope.VarType) → Eq keep (Walk.declare_m name v c k) (Walk.declare_m (rel name) v' c k)
@@ -462,8 +469,8 @@ module _ (r : ℕ → ℕ) where
 
     catch_param-eq : (p : ℕ) (b : Tree) → Eq rel (Walk.catch_param w p b) (Walk.catch_param w p (rel b))
     unfolding Walk.catch_param
-    catch_param-eq p (node k f a ts) = (let b = node k f a ts in bind _ (W.full p b) λ b'. bind (λ s. when (eqb k 20 && not s.inlining) (mark (Scope.prevent_inline (num (rel b)))) >> ret (rel b')) get-eq λ s.
-        after (when-by (eqb k 20 && not s.inlining) (λ t. prevent_m-eq a (num (rel b)) (bound r b (and_left (eqb k 20) (not s.inlining) t)).number)) (ret-eq b'))
+    catch_param-eq p b = bind _ (W.full p b) λ b'. bind (λ s. when (not s.inlining) (mark (Scope.prevent_each (bound_names (rel b') []))) >> ret (rel b')) get-eq λ s.
+        after (when-by (not s.inlining) (λ t. prevent_each-eq b')) (ret-eq b')
 
     catch-eq : (p : ℕ) (t : Tree) → Eq rel (Walk.visit_mut_catch_clause w p t) (Walk.visit_mut_catch_clause w p (rel t))
     unfolding Walk.visit_mut_catch_clause
@@ -527,26 +534,33 @@ module _ (r : ℕ → ℕ) where
     unfolding Walk.assign_first
     assign_first-eq f nil = ret-eq tt
     assign_first-eq f (cons l rs) = iff-by (eqb f 0)
-        (λ t. after (write_t-eq false l) (after (write_f-eq false rs (rels rs) refl) (when-eq (not (eqb (kind l) 20)) (not (eqb (kind (rel l)) 20)) (ap (λ (n : ℕ). not (eqb n 20)) (same_kind r l)) (after (write_t-eq true l) (write_f-eq true rs (rels rs) refl)))))
+        (λ t. after (write_t-eq false l) (after (write_f-eq false rs (rels rs) refl) (when-eq (is_member l) (is_member (rel l)) (ap (λ (n : ℕ). eqb n 37 || eqb n 38) (same_kind r l)) (after (write_t-eq true l) (write_f-eq true rs (rels rs) refl)))))
         (after (write_t-eq true l) (write_f-eq true rs (rels rs) refl))
 
     assign_last-eq : (ts : Forest) → Eq keep (Walk.assign_last ts) (Walk.assign_last (rels ts))
     unfolding Walk.assign_last
     assign_last-eq nil = ret-eq tt
-    assign_last-eq (cons (node k f a us) rs) = (let l = node k f a us in bind (λ s. iff (Scope.prevented_o (head_t (rels rs)) s.stack) (when (eqb k 20) (mark (Scope.prevent_inline (num (rel l))))) (when (eqb k 20) (do
+    assign_last-eq (cons (node k f a us) rs) = (let l = node k f a us in bind (λ s. iff (Scope.prevented_o (head_t (rels rs)) s.stack) (mark (Scope.prevent_each (bound_names (rel l) []))) (when (eqb k 20) (do
       Walk.write false (rel l)
       Walk.store_o (rel l) (head_t (rels rs))))) get-eq λ s.
         iff-eq (Scope.prevented_o (head_t rs) s.stack) (Scope.prevented_o (head_t (rels rs)) (on r s.stack)) (ap (λ (v : Option Tree). Scope.prevented_o v (on r s.stack)) (same_head r rs) ∙ prevented_o-same r (head_t rs) s.stack)
-        (when-by (eqb k 20) (λ b. prevent_m-eq a (num (rel l)) (bound r l b).number))
+        (prevent_each-eq l)
         (when-by (eqb k 20) (λ b. after (write-eq false l (rel l) (bound r l b).number refl) (subst (λ (v : Option Tree). Eq keep (Walk.store_o l (head_t rs)) (Walk.store_o (rel l) v)) (sym (same_head r rs)) (store-eq l (bound r l b) (head_t rs))))))
 
-    assign_kids-eq : (p f : ℕ) (ts : Forest) → Eq rels (Walk.assign_kids w p f ts) (Walk.assign_kids w p f (rels ts))
+    assign_kids-eq : (p f : ℕ) (pat : Bool) (ts : Forest) → Eq rels (Walk.assign_kids w p f pat ts) (Walk.assign_kids w p f pat (rels ts))
     unfolding Walk.assign_kids
-    assign_kids-eq p f ts = after (assign_first-eq f ts) (bind _ (rest_first-eq p ts) λ us. after (assign_last-eq us) (ret-eq us))
+    assign_kids-eq p f pat ts = after (assign_first-eq f ts) (bind _ (iff-by pat (λ t. each-eq _ (W.full (suc p)) ts) (rest_first-eq p ts)) λ us. after (assign_last-eq us) (ret-eq us))
 
     assign-eq : (p : ℕ) (t : Tree) → Eq rel (Walk.visit_mut_assign_expr w p t) (Walk.visit_mut_assign_expr w p (rel t))
     unfolding Walk.visit_mut_assign_expr
-    assign-eq p (node k f a ts) = after (mod-eq (Walk.set_pat_mode Walk.assigning) (λ s. refl)) (on_kids-eq (Walk.assign_kids w p f) (assign_kids-eq p f) (node k f a ts))
+    assign-eq p (node k f a ts) =
+        let t = node k f a ts in
+        let pat = Walk.to_pattern t in
+        after (mod-eq (Walk.set_pat_mode Walk.assigning) (λ s. refl)) (subst (λ (b : Bool). Eq rel (on_kids (Walk.assign_kids w p f pat) t) (on_kids (Walk.assign_kids w p f b) (rel t))) (sym (pattern-same ts)) (on_kids-eq (Walk.assign_kids w p f pat) (assign_kids-eq p f pat) t))
+      where
+        pattern-same : (ts : Forest) → (eqb f 0 && Walk.pattern_o (head_t (rels ts))) ≡ (eqb f 0 && Walk.pattern_o (head_t ts))
+        pattern-same nil = refl
+        pattern-same (cons t us) = ap (λ (n : ℕ). eqb f 0 && (eqb n 45 || eqb n 46)) (same_kind r t)
 
     handle-eq : (h : Walk.Handler) (p : ℕ) (t : Tree) → Eq rel (Walk.handle h w p t) (Walk.handle h w p (rel t))
     unfolding Walk.handle

@@ -155,6 +155,10 @@ held_stays i t st h =
     let n = Scope.mark_of_id o (Scope.prevent_inline i st) in
     or_mono (a || b || c || d) m n (id-stays i o st) h
 
+each-stays : (is : List ℕ) (t : Tree) (st : Stack) → Scope.is_inline_prevented t st ≡ true → Scope.is_inline_prevented t (Scope.prevent_each is st) ≡ true
+each-stays [] t st h = h
+each-stays (i ∷ is) t st h = each-stays is t (Scope.prevent_inline i st) (held_stays i t st h)
+
 -- what is left behind an assignment: its value is prevented, or the target's own binding is not undefined
 abbrev Held : Tree → Tree → Stack → Type 0
 Held l r st = (Scope.is_inline_prevented r st ≡ true) ⊎ Here (num l) st
@@ -200,9 +204,8 @@ post-last l nil s = post-none (eqb (kind l) 20) l (Walk.assign_last (cons l nil)
 post-last l (cons r rs) s = go (Scope.is_inline_prevented r s.stack) refl (eqb (kind l) 20)
   where
     go : (c : Bool) → Scope.is_inline_prevented r s.stack ≡ c → (k : Bool)
-        → Post k l (some r) (iff c (Walk.when k (Walk.mark (Scope.prevent_inline (num l)))) (Walk.when k (Walk.write false l >> Walk.store_o l (some r))) s)
-    go true e true = λ h. inl (held_stays (num l) r s.stack e)
-    go true e false = λ h. absurd h
+        → Post k l (some r) (iff c (Walk.mark (Scope.prevent_each (Tree'.bound_names l []))) (Walk.when k (Walk.write false l >> Walk.store_o l (some r))) s)
+    go true e k = λ h. inl (each-stays (Tree'.bound_names l []) r s.stack e)
     go false e true = grown l r (Scope.add_write (num l) (is_args (form l)) false) s (Walk.store_value l r) (post-store l r (Walk.set_stack (Scope.add_write (num l) (is_args (form l)) false s.stack) s)) (here-write (num l) (is_args (form l)) false s.stack)
     go false e false = λ h. absurd h
 
@@ -255,7 +258,9 @@ module _ (p k f a : ℕ) where
 
 pub never : NeverTaken
 unfolding Walk.visit_mut_assign_expr Walk.assign_kids
-never w p (node k f a ts) s = out (Walk.assign_kids w p f ts (Walk.set_pat_mode Walk.assigning s)) (ends-then p k f a (Walk.assign_first f ts (Walk.set_pat_mode Walk.assigning s)) _ (λ u s₁. ends-then p k f a (split ret (each (w.full (suc p))) ts s₁) _ (λ us s₂. ends_last p k f a us s₂)))
+never w p (node k f a ts) s =
+    let pat = Walk.to_pattern (node k f a ts) in
+    out (Walk.assign_kids w p f pat ts (Walk.set_pat_mode Walk.assigning s)) (ends-then p k f a (Walk.assign_first f ts (Walk.set_pat_mode Walk.assigning s)) _ (λ u s₁. ends-then p k f a (iff pat (each (w.full (suc p)) ts) (split ret (each (w.full (suc p))) ts) s₁) _ (λ us s₂. ends_last p k f a us s₂)))
   where
     out : (x : Res St Forest) → EndsF p k f a x → Ends p (and_then x (λ us. ret (node k f a us)))
     out (stop n) h = tt

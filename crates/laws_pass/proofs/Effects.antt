@@ -3,6 +3,7 @@
 use mathlib.Core.Path.{◌≡◌, refl, sym, ap, subst}
 use mathlib.Core.Bool.{Bool, true, false, ◌&&◌, not, ◌||◌}
 use mathlib.Core.Option.{Option, none, some}
+use mathlib.Core.Logic.{◌⊎◌, inl, inr}
 use mathlib.Core.List.{List, [], ◌∷◌}
 use Prim.Native.Nat.{ℕ, zero, suc, ◌+◌, ◌-◌}
 use native.Mathlib.Omega.{arith}
@@ -10,7 +11,7 @@ use lib.Dec.{T, eqb, ltb, leb, eqb→eq}
 use lib.ListN.{length, get_or}
 use Rattle.def_tree.specs.Base.{pick}
 use Rattle.def_tree.specs.Combine.{Res, stop, done, Nothing, and_then, ◌>>=◌, ◌>>◌, ret, refuse, iff, each, split, each_but, on_kids}
-use Rattle.def_pass.specs.Tree.{Tree, Forest, node, nil, cons, kind, form, num, kids, head_t, tail_f, is_ident, is_cheap, has_this, count, counts, height, ident_list, ident_list_f, void_zero}
+use Rattle.def_pass.specs.Tree.{Tree, Forest, node, nil, cons, kind, form, num, kids, head_t, tail_f, is_ident, is_cheap, is_member, bound_names, has_this, count, counts, height, ident_list, ident_list_f, void_zero}
 use Rattle.def_pass.specs.Twice.{is_twice, is_args, flagged}
 use Rattle.def_pass.specs.Scope as Scope
 use Rattle.def_pass.specs.Walk as Walk
@@ -46,7 +47,7 @@ inside k s = Walk.set_var_decl_kind Scope.v_var (Walk.set_stack (Scope.new_scope
 abbrev pub Aside : St → St → Type 0
 Aside s s' = (s'.stack ≡ s.stack) × (s'.nodes ≡ s.nodes) × (s'.targeted ≡ s.targeted) × (s'.ended ≡ s.ended) × (s'.replaced ≡ s.replaced)
 
--- what is updated stays, and an assignment's target
+-- what is updated stays, and an assignment's target, if it is no pattern
 abbrev pub fixed : ℕ → Bool
 fixed k = eqb k 31 || eqb k 33
 
@@ -103,6 +104,10 @@ fits k = subst (Fits (get_or Walk.handlers k Walk.h_plain)) (omega arith) (fits-
 turned : (m k : ℕ) → T (eqb m m) → T (eqb m k) → T (eqb k m)
 turned m k r h = subst (λ (n : ℕ). T (eqb n m)) (eqb→eq m k h) r
 
+-- an assignment's target is as it was, or a pattern, which is walked
+abbrev pub Left : Forest → Forest → Type 0
+Left ts us = (head_t us ≡ head_t ts) ⊎ T (Walk.pattern_o (head_t ts))
+
 -- the last tree is no update and no assignment
 abbrev pub LastOther : Forest → Type 0
 LastOther nil = Unit {0}
@@ -156,9 +161,9 @@ module _ (L : Law) where
     -- refusals
     pub eight : L.Stop 8
     pub nine : L.Stop 9
-    -- a node's children, and the node around what became of them: no update, and of an assignment the target is as it was
+    -- a node's children, and the node around what became of them: no update, and of an assignment the target is as it was or a pattern
     pub kids : (p k f a : ℕ) (ts : Forest) → L.Good p (node k f a ts) → GF (suc p) ts
-    pub around : (p k f a : ℕ) (ts us : Forest) → L.Good p (node k f a ts) → GF (suc p) us → QF ts us → (L.Tells → (T (eqb k 31) → ⊥) × (T (eqb k 33) → head_t us ≡ head_t ts)) → L.Good p (node k f a us) × L.Rel (node k f a ts) (node k f a us)
+    pub around : (p k f a : ℕ) (ts us : Forest) → L.Good p (node k f a ts) → GF (suc p) us → QF ts us → (L.Tells → (T (eqb k 31) → ⊥) × (T (eqb k 33) → Left ts us)) → L.Good p (node k f a us) × L.Rel (node k f a ts) (node k f a us)
     pub body : (p k f a : ℕ) (ts : Forest) → L.Tells → T (eqb k 7 || eqb k 39) → L.Good p (node k f a ts) → LastOther ts
     -- an initialiser may be recorded; and it may be taken out
     pub init : (p k f a : ℕ) (n : Tree) (es : Forest) → T (eqb k 6) → L.Good p (node k f a (cons n es)) → VF es
@@ -418,7 +423,7 @@ module _ (L : Law) where
     abbrev Other : Tree → Type 0
     Other t = L.Tells → T (fixed (kind t)) → ⊥
 
-    told : (k : ℕ) (ts us : Forest) → (L.Tells → T (fixed k) → ⊥) → L.Tells → (T (eqb k 31) → ⊥) × (T (eqb k 33) → head_t us ≡ head_t ts)
+    told : (k : ℕ) (ts us : Forest) → (L.Tells → T (fixed k) → ⊥) → L.Tells → (T (eqb k 31) → ⊥) × (T (eqb k 33) → Left ts us)
     told k ts us n l = (λ e. n l (or_left (eqb k 31) (eqb k 33) e), λ e. absurd (n l (or_right (eqb k 31) (eqb k 33) e)))
 
     promote : {m : M Forest} (p k f a : ℕ) (ts : Forest) → (L.Tells → T (fixed k) → ⊥) → L.Good p (node k f a ts) → WF (suc p) ts m → WN p k f a ts m
@@ -502,6 +507,17 @@ module _ (L : Law) where
 
     prevent-ok : {n : ℕ} (i : ℕ) → Pres (at n) n Any (mark (Scope.prevent_inline i))
     prevent-ok i = mark-ok (Scope.prevent_inline i) (E.prevent i)
+
+    each_on : (is : List ℕ) → On (Scope.prevent_each is)
+    each_on [] n s o = (o, E.s-refl n s)
+    each_on (i ∷ is) n s o =
+        let s₁ = Walk.set_stack (Scope.prevent_inline i s.stack) s in
+        let h = E.prevent i n s o in
+        let k = each_on is n s₁ h.0 in
+        (k.0, E.s-trans n n n s s₁ (Walk.set_stack (Scope.prevent_each is s₁.stack) s₁) h.1 k.1)
+
+    prevent_each-ok : {n : ℕ} (is : List ℕ) → Pres (at n) n Any (mark (Scope.prevent_each is))
+    prevent_each-ok is = mark-ok (Scope.prevent_each is) (each_on is)
 
     declare_m-ok : {n : ℕ} (name : Tree) (v : Scope.Init) (c : Bool) (k : Scope.VarType) → IdT name → VI v → Pres (at n) n Any (Walk.declare_m name v c k)
     unfolding Walk.declare_m
@@ -660,10 +676,10 @@ module _ (L : Law) where
         over-ok name g (cons b nil) o = declr_analysis-ok name g none tt
         over-ok name g (cons b (cons e es)) o = declr_analysis-ok name g (some e) (E.init p k f a b (cons e es) six o).0
 
-        declr_to-ok : (name : Option Tree) → IdO name → (inl : Bool) (v : Scope.VarType) (ts : Forest) → L.Good p (node k f a ts) → WN p k f a ts (Walk.declr_to w p name inl v ts)
+        declr_to-ok : (name : Option Tree) → IdO name → (now : Bool) (v : Scope.VarType) (ts : Forest) → L.Good p (node k f a ts) → WN p k f a ts (Walk.declr_to w p name now v ts)
         unfolding Walk.declr_to
-        declr_to-ok none g inl v ts o = name_last-ok ts o
-        declr_to-ok (some name) g inl v ts o = iff-ok inl
+        declr_to-ok none g now v ts o = name_last-ok ts o
+        declr_to-ok (some name) g now v ts o = iff-ok now
             (iff-ok (Scope.is_const v) (name_last-ok ts o) (rest_ok v name g ts o))
             (bind (over-ok name g ts o) λ over u. iff-ok over (ret-ok ts (o, E.q-refl (node k f a ts))) (name_last-ok ts o))
 
@@ -771,7 +787,7 @@ module _ (L : Law) where
 
       catch_param-ok : (p : ℕ) (b : Tree) → L.Good p b → WT p b (Walk.catch_param w p b)
       unfolding Walk.catch_param
-      catch_param-ok p b o = bind (W.full p b o) λ u q. by_state-ok (λ s. when (Walk.is_bind b && not s.inlining) (mark (Scope.prevent_inline (num b))) >> ret u) λ s h. after (when-ok (Walk.is_bind b && not s.inlining) (prevent-ok (num b))) (ret-ok u q)
+      catch_param-ok p b o = bind (W.full p b o) λ u q. by_state-ok (λ s. when (not s.inlining) (mark (Scope.prevent_each (bound_names u []))) >> ret u) λ s h. after (when-ok (not s.inlining) (prevent_each-ok (bound_names u []))) (ret-ok u q)
 
       catch-ok : (p : ℕ) (t : Tree) → Other t → L.Good p t → WO p t (Walk.visit_mut_catch_clause w p t)
       unfolding Walk.visit_mut_catch_clause
@@ -817,22 +833,28 @@ module _ (L : Law) where
       unfolding Walk.assign_first
       assign_first-ok {m} p f nil o = ret-ok {v = at m} tt tt
       assign_first-ok p f (cons l rs) o = iff-ok (eqb f 0)
-          (after (write_t-ok p false l o.0) (after (write_f-ok p false rs o.1) (when-ok (not (eqb (kind l) 20)) (after (write_t-ok p true l o.0) (write_f-ok p true rs o.1)))))
+          (after (write_t-ok p false l o.0) (after (write_f-ok p false rs o.1) (when-ok (is_member l) (after (write_t-ok p true l o.0) (write_f-ok p true rs o.1)))))
           (after (write_t-ok p true l o.0) (write_f-ok p true rs o.1))
 
       assign_last-ok : {m : ℕ} (p : ℕ) (ts : Forest) → GF p ts → Pres (at m) m Any (Walk.assign_last ts)
       unfolding Walk.assign_last
       assign_last-ok {m} p nil o = ret-ok {v = at m} tt tt
       assign_last-ok p (cons l rs) o = by_state-ok _ λ s h.
-          iff-ok (Scope.prevented_o (head_t rs) s.stack) (when-ok (eqb (kind l) 20) (prevent-ok (num l)))
+          iff-ok (Scope.prevented_o (head_t rs) s.stack) (prevent_each-ok (bound_names l []))
           (when-by (eqb (kind l) 20) λ b. after (write-ok false l (id-bind p l o.0 b)) (store_ok p l (head_t rs) (head_ok p rs o.1)))
+
+      -- both sides, or the right one
+      sides-ok : (p f : ℕ) (ts : Forest) → GF (suc p) ts → Pres counts (counts ts) (λ us. ToF (suc p) ts us × Left ts us) (iff (eqb f 0 && Walk.pattern_o (head_t ts)) (each (w.full (suc p)) ts) (split ret (each (w.full (suc p))) ts))
+      sides-ok p f ts gs = iff-by (eqb f 0 && Walk.pattern_o (head_t ts)) (λ c. weaken (λ us q. (q, inr (and_right (eqb f 0) (Walk.pattern_o (head_t ts)) c))) (each-ok (suc p) (w.full (suc p)) (W.full (suc p)) ts gs))
+          (weaken (λ us q. (q.0, inl q.1)) (headed-ok (suc p) (each (w.full (suc p))) (each-ok (suc p) (w.full (suc p)) (W.full (suc p))) ts gs))
 
       assign-ok : (p : ℕ) (t : Tree) → T (eqb 33 (kind t)) → L.Good p t → WO p t (Walk.visit_mut_assign_expr w p t)
       unfolding Walk.visit_mut_assign_expr Walk.assign_kids
       assign-ok p (node k f a ts) m o =
           let gs = E.kids p k f a ts o in
-          after (mod-ok (Walk.set_pat_mode Walk.assigning) (λ s. (refl, refl, refl, refl, refl))) (node_n-ok p k f a (Walk.assign_kids w p f) ts (after (assign_first-ok (suc p) f ts gs)
-          (bind (headed-ok (suc p) (each (w.full (suc p))) (each-ok (suc p) (w.full (suc p)) (W.full (suc p))) ts gs) λ us q. after (assign_last-ok (suc p) us q.0.0) (ret-ok us (E.around p k f a ts us o q.0.0 q.0.1 (λ l. (λ e. subst (λ (n : ℕ). T (eqb n 31)) (sym (eqb→eq 33 k m)) e, λ e. q.1)))))))
+          let pat = Walk.to_pattern (node k f a ts) in
+          after (mod-ok (Walk.set_pat_mode Walk.assigning) (λ s. (refl, refl, refl, refl, refl))) (node_n-ok p k f a (Walk.assign_kids w p f pat) ts (after (assign_first-ok (suc p) f ts gs)
+          (bind (sides-ok p f ts gs) λ us q. after (assign_last-ok (suc p) us q.0.0) (ret-ok us (E.around p k f a ts us o q.0.0 q.0.1 (λ l. (λ e. subst (λ (n : ℕ). T (eqb n 31)) (sym (eqb→eq 33 k m)) e, λ e. q.1)))))))
 
       -- by kind
       handle-ok : (h : Walk.Handler) (p : ℕ) (t : Tree) → (L.Tells → T (fixed (kind t)) → T (fixed (role h))) → Fits h (kind t) → L.Good p t → WO p t (Walk.handle h w p t)

@@ -13,7 +13,7 @@ use Rattle.def_tree.specs.Base.{pick, to_nat}
 use Rattle.def_tree.specs.Tree.{Core, length_f, take_f, drop_f, plant}
 use Rattle.def_file.specs.declared.Raw.{Raw}
 use Rattle.def_file.specs.declared.kinds.Class.{Class}
-use Rattle.def_file.specs.declared.kinds.Class.TheVariants.{Root, Statement, Expression, Binding, Block, Declarator, Catch, Case, Property, Updated, Assigned, Start, Head}
+use Rattle.def_file.specs.declared.kinds.Class.TheVariants.{Root, Statement, Expression, Binding, Name, Target, Block, Declarator, Catch, Case, Property, PatternProperty, Updated, Assigned, Destructured, Start, Head}
 use Rattle.def_file.specs.declared.kinds.Row.{Row}
 use Rattle.def_file.specs.Kinds.{allows, row_of, form_ok, count_ok}
 use Rattle.def_file.specs.Script.{Script, is_lit, has_id, is_arguments, place_of, idents}
@@ -23,9 +23,9 @@ use Rattle.def_file.specs.Core.{core_node, core_from, core_nodes}
 use Rattle.def_pass.specs.Script.{core_tree, pass_tree, pass, answer}
 use Rattle.def_pass.specs.Walk as Walk
 use Rattle.laws_pass.specs.Readable.{form_of, row_at, Fits, FitsF, Readable, ReadableOut}
-use Rattle.laws_pass.specs.Assigns.{Assign, plain_o, listed, own_assign, assigns, assigns_f, Outside, OutsideF, KeptOut}
+use Rattle.laws_pass.specs.Assigns.{Assign, target_o, Expressions, listed, own_assign, assigns, assigns_f, Outside, OutsideF, KeptOut}
 use Rattle.laws_pass.specs.FromFile.{NoInit, NoInitF, Stands, StandsIn, TreesIn, TreesOf, FileTrees}
-use Rattle.laws_pass.proofs.Readable.{body_ok, result-readable}
+use Rattle.laws_pass.proofs.Readable.{init-value, body_ok, result-readable}
 use Rattle.laws_pass.proofs.Assigns.{assigns-kept, at-kind, none_left, none_right}
 use Rattle.laws_pass.proofs.Tests.{is_T, is_true, and_left, and_right, both}
 
@@ -80,13 +80,17 @@ four Root m = (λ h. h, λ h. h, λ h. h, λ h. h)
 four Statement m = (λ h. h, λ h. h, λ h. h, λ h. h)
 four Expression m = (λ h. h, λ h. h, λ h. h, λ h. h)
 four Binding m = (λ h. h, λ h. h, λ h. h, λ h. h)
+four Name m = (λ h. h, λ h. h, λ h. h, λ h. h)
+four Target m = (λ h. h, λ h. h, λ h. h, λ h. h)
 four Block m = (λ h. h, λ h. h, λ h. h, λ h. h)
 four Declarator m = (λ h. h, λ h. h, λ h. h, λ h. h)
 four Catch m = (λ h. h, λ h. h, λ h. h, λ h. h)
 four Case m = (λ h. h, λ h. h, λ h. h, λ h. h)
 four Property m = (λ h. h, λ h. h, λ h. h, λ h. h)
+four PatternProperty m = (λ h. h, λ h. h, λ h. h, λ h. h)
 four Updated m = (λ h. h, λ h. h, λ h. h, λ h. h)
 four Assigned m = (λ h. h, λ h. h, λ h. h, λ h. h)
+four Destructured m = (λ h. h, λ h. h, λ h. h, λ h. h)
 four Start m = (λ h. h, λ h. h, λ h. h, λ h. h)
 four Head m = (λ h. h, λ h. h, λ h. h, λ h. h)
 
@@ -271,18 +275,23 @@ module _ (asked : ℕ → Bool) where
   empty nil e = refl
   empty (cons t ts) e = absurd (omega (arith, e))
 
+  -- an initialiser is an expression
+  values : (k f a : ℕ) (ts : Forest) → Fits (node k f a ts) → T (eqb k 6) → Expressions (tail_f ts)
+  values k f a nil o x = tt
+  values k f a (cons n es) o x = init-value f a n es (subst (λ (m : ℕ). Fits (node m f a (cons n es))) (eqb→eq k 6 x) o)
+
   mutual
     outside : (t : Tree) → Fits t → NoInit asked t → Outside asked t
-    outside (node k f a ts) o h = (record { inits = h.0; leaves = λ x. empty ts (leafy k f x (length_f ts) o.0); ends = λ x. body_ok k f a ts x o }, outsides (row_at k f) (length_f ts) zero ts o.1 h.1)
+    outside (node k f a ts) o h = (record { inits = h.0; values = values k f a ts o; leaves = λ x. empty ts (leafy k f x (length_f ts) o.0); ends = λ x. body_ok k f a ts x o }, outsides (row_at k f) (length_f ts) zero ts o.1 h.1)
 
     outsides : (r : Row) (n i : ℕ) (ts : Forest) → FitsF r n i ts → NoInitF asked ts → OutsideF asked ts
     outsides r n i nil o h = tt
     outsides r n i (cons t ts) o h = (outside t o.1 h.0, outsides r n (suc i) ts o.2 h.1)
 
 -- one `=` of an origin
-nothing : (xs : List Assign) → length xs ≡ 0 → xs ≡ []
-nothing [] e = refl
-nothing (x ∷ xs) e = absurd (omega (arith, e))
+empties : (xs : List Assign) → length xs ≡ 0 → xs ≡ []
+empties [] e = refl
+empties (x ∷ xs) e = absurd (omega (arith, e))
 
 module _ (asked : ℕ → Bool) where
   mutual
@@ -308,7 +317,7 @@ module _ (o : ℕ) (l : Option Tree) where
   abbrev asked : ℕ → Bool
   asked = λ a. eqb a o
 
-  own-one : (k f a : ℕ) (ts : Forest) → T (eqb k 33 && eqb f 0) → a ≡ o → head_t ts ≡ l → own_assign asked k f a (head_t ts) ≡ (o, plain_o l) ∷ []
+  own-one : (k f a : ℕ) (ts : Forest) → T (eqb k 33 && eqb f 0) → a ≡ o → head_t ts ≡ l → own_assign asked k f a (head_t ts) ≡ (o, target_o l) ∷ []
   own-one k f a ts h e d = rw (is_true (eqb k 33 && eqb f 0 && eqb a o) (both (eqb k 33 && eqb f 0) (eqb a o) h (subst (λ (m : ℕ). T (eqb a m)) e (eqb_refl a))), e, d) refl
 
   mutual
@@ -323,11 +332,11 @@ module _ (o : ℕ) (l : Option Tree) where
     some_in false (cons t ts) (inr h) = (let e = some_in false ts h in omega (arith, e, sizes asked t ts))
 
   record One (t : Tree) : Type 0 where
-    is : assigns asked t ≡ (o, plain_o l) ∷ []
+    is : assigns asked t ≡ (o, target_o l) ∷ []
     inits : NoInit asked t
 
   record OneIn (d : Bool) (ts : Forest) : Type 0 where
-    is : assigns_f asked ts ≡ (o, plain_o l) ∷ []
+    is : assigns_f asked ts ≡ (o, target_o l) ∷ []
     inits : NoInitF asked ts
     tail : T d → assigns_f asked (tail_f ts) ≡ []
 
@@ -336,11 +345,11 @@ module _ (o : ℕ) (l : Option Tree) where
     one (node k f a ts) (inl h) n =
         let e = own-one k f a ts h.0 h.1 h.2 in
         let e₁ = ap length e in
-        let z = nothing (assigns_f asked ts) (omega (arith, n, e₁, node-size asked k f a ts)) in
+        let z = empties (assigns_f asked ts) (omega (arith, n, e₁, node-size asked k f a ts)) in
         record { is = rw (e, z) refl; inits = (λ x. no-tail asked ts z, no-inits asked ts z) }
     one (node k f a ts) (inr h) n =
         let e = some_in (eqb k 6) ts h in
-        let z = nothing (own_assign asked k f a (head_t ts)) (omega (arith, n, e, node-size asked k f a ts)) in
+        let z = empties (own_assign asked k f a (head_t ts)) (omega (arith, n, e, node-size asked k f a ts)) in
         let r = one_in (eqb k 6) ts h (omega (arith, n, node-size asked k f a ts)) in
         record { is = rw (z, r.is) refl; inits = (r.tail, r.inits) }
 
@@ -348,17 +357,17 @@ module _ (o : ℕ) (l : Option Tree) where
     one_in d nil h n = absurd h
     one_in true (cons t ts) h n =
         let e = some-here t h in
-        let z = nothing (assigns_f asked ts) (omega (arith, n, e, sizes asked t ts)) in
+        let z = empties (assigns_f asked ts) (omega (arith, n, e, sizes asked t ts)) in
         let r = one t h (omega (arith, n, sizes asked t ts)) in
         record { is = rw (r.is, z) refl; inits = (r.inits, no-inits asked ts z); tail = λ x. z }
     one_in false (cons t ts) (inl h) n =
         let e = some-here t h in
-        let z = nothing (assigns_f asked ts) (omega (arith, n, e, sizes asked t ts)) in
+        let z = empties (assigns_f asked ts) (omega (arith, n, e, sizes asked t ts)) in
         let r = one t h (omega (arith, n, sizes asked t ts)) in
         record { is = rw (r.is, z) refl; inits = (r.inits, no-inits asked ts z); tail = λ x. absurd x }
     one_in false (cons t ts) (inr h) n =
         let e = some_in false ts h in
-        let z = nothing (assigns asked t) (omega (arith, n, e, sizes asked t ts)) in
+        let z = empties (assigns asked t) (omega (arith, n, e, sizes asked t ts)) in
         let r = one_in false ts h (omega (arith, n, sizes asked t ts)) in
         record { is = rw (z, r.is) refl; inits = (no-init asked t z, r.inits); tail = λ x. absurd x }
 
@@ -390,7 +399,7 @@ module _ (o : ℕ) where
       let us = take_f c.arity ts in
       let e₁ = sizes (λ a. eqb a o) (node c.kind c.form c.num us) (drop_f c.arity ts) in
       let e₂ = node-size (λ a. eqb a o) c.kind c.form c.num us in
-      let e₃ = own-size (eqb c.kind 33 && eqb c.form 0 && eqb c.num o) (c.num, plain_o (head_t us)) in
+      let e₃ = own-size (eqb c.kind 33 && eqb c.form 0 && eqb c.num o) (c.num, target_o (head_t us)) in
       omega (arith, e₁, e₂, e₃, shared c.arity ts, planted-size cs)
 
   -- a node hits at its own number alone

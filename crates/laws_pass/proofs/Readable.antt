@@ -1,5 +1,5 @@
 -- A result tree fits the kinds' places again. Assumes nothing.
-use mathlib.Core.Path.{◌≡◌, refl, sym, ap, ◌∙◌, subst}
+use mathlib.Core.Path.{◌≡◌, refl, sym, ap, ap₂, ◌∙◌, subst}
 use mathlib.Core.Bool.{Bool, true, false, ◌&&◌, not, ◌||◌}
 use mathlib.Core.List.{List, [], ◌∷◌}
 use Prim.Native.Nat.{ℕ, zero, suc, ◌+◌, ◌%◌}
@@ -11,14 +11,14 @@ use Rattle.def_tree.specs.Base.{pick}
 use Rattle.def_tree.specs.Tree.{length_f}
 use Rattle.def_file.specs.declared.kinds.Class.{Class}
 use Rattle.def_file.specs.declared.kinds.Row.{Row}
-use Rattle.def_file.specs.declared.kinds.Class.TheVariants.{Root, Statement, Expression, Binding, Block, Declarator, Catch, Case, Property, Updated, Assigned, Start, Head}
+use Rattle.def_file.specs.declared.kinds.Class.TheVariants.{Root, Statement, Expression, Binding, Name, Target, Block, Declarator, Catch, Case, Property, PatternProperty, Updated, Assigned, Destructured, Start, Head}
 use Rattle.def_file.specs.Kinds.{is_expr, allows, rows, no_row, row_of, form_ok, count_ok, child_of}
 use Rattle.def_file.specs.Kinds as Kinds
-use Rattle.def_pass.specs.Tree.{Tree, Forest, node, nil, cons, kind, kids, is_ident}
+use Rattle.def_pass.specs.Tree.{Tree, Forest, node, nil, cons, kind, kids, is_ident, in_pattern}
 use Rattle.def_pass.specs.Twice.{twice, flagged}
 use Rattle.def_pass.specs.Walk as Walk
 use Rattle.laws_pass.specs.Small.{SmallOut}
-use Rattle.laws_pass.specs.Assigns.{LastBlock}
+use Rattle.laws_pass.specs.Assigns.{nothing, skeleton, skeletons, LastBlock, Expressions}
 use Rattle.laws_pass.specs.Readable.{form_of, row_at, Fits, FitsF, Readable, ReadableOut, ResultReadable}
 use Rattle.laws_pass.proofs.Tests.{is_T, and_left, and_right, both, or_right, pick-ok}
 use Rattle.laws_pass.proofs.Effects.{GF, QF, VF, Passed, pass-does}
@@ -33,13 +33,17 @@ updated Root = false
 updated Statement = false
 updated Expression = false
 updated Binding = false
+updated Name = false
+updated Target = false
 updated Block = false
 updated Declarator = false
 updated Catch = false
 updated Case = false
 updated Property = false
+updated PatternProperty = false
 updated Updated = true
 updated Assigned = false
+updated Destructured = false
 updated Start = false
 updated Head = false
 
@@ -72,6 +76,20 @@ case-clean f = go (eqb f 1)
     go true = tt
     go false = tt
 
+assign-clean : (f : ℕ) → T (clean (Kinds.assign_row f))
+assign-clean f = go (eqb f 0)
+  where
+    go : (p : Bool) → T ((not (updated (pick p Destructured Assigned)) && not (updated (pick p Destructured Assigned))) && true)
+    go true = tt
+    go false = tt
+
+function-clean : (f : ℕ) → T (clean (Kinds.function_row f))
+function-clean f = go (eqb f 1)
+  where
+    go : (p : Bool) → T ((true && not (updated (pick p Binding Target))) && true)
+    go true = tt
+    go false = tt
+
 arrow-clean : (f : ℕ) → T (clean (Kinds.arrow_row f))
 arrow-clean f = go (eqb f 1)
   where
@@ -83,7 +101,7 @@ abbrev ok : {A : Type 0} → A → ℕ → Unit {0}
 ok n f = tt
 
 all-clean : Clean 0 rows
-all-clean = (ok, (ok, (ok, (ok, (ok, (ok, (ok, (ok, (ok, (ok, (ok, (ok, ((λ n f. for-clean f), (ok, (ok, (ok, ((λ n f. try-clean f), (ok, (ok, ((λ n f. case-clean f), (ok, (ok, (ok, (ok, (ok, (ok, (ok, (ok, (ok, (ok, (ok, ((λ n f. absurd (n tt)), (ok, (ok, (ok, (ok, (ok, (ok, (ok, (ok, ((λ n f. arrow-clean f), (ok, (ok, (ok, (ok, tt)))))))))))))))))))))))))))))))))))))))))))))
+all-clean = (ok, (ok, (ok, (ok, (ok, (ok, (ok, (ok, (ok, (ok, (ok, (ok, ((λ n f. for-clean f), (ok, (ok, (ok, ((λ n f. try-clean f), (ok, (ok, ((λ n f. case-clean f), (ok, (ok, (ok, (ok, (ok, (ok, (ok, (ok, (ok, (ok, (ok, ((λ n f. absurd (n tt)), (ok, ((λ n f. assign-clean f), (ok, (ok, (ok, (ok, (ok, ((λ n f. function-clean f), ((λ n f. arrow-clean f), (ok, (ok, (ok, (ok, (ok, (ok, (ok, (ok, tt)))))))))))))))))))))))))))))))))))))))))))))))))
 
 clean-from : (rs : List (ℕ → Row)) (n k : ℕ) → Clean n rs → (T (eqb (k + n) 31) → ⊥) → (f : ℕ) → T (clean (get_or rs k (λ g. no_row) f))
 clean-from [] n k c h f = tt
@@ -170,18 +188,43 @@ init6 f a n nil o = tt
 init6 f a n (cons e nil) o = ((o.1.2.1, o.1.2.0), tt)
 init6 f a n (cons e (cons d es)) o = absurd (long (length_f es) (and_right (leb 1 (suc (suc (suc (length_f es))))) (leb (suc (suc (suc (length_f es)))) 2) (and_right (leb 0 f && leb f 0) (leb 1 (suc (suc (suc (length_f es)))) && leb (suc (suc (suc (length_f es)))) 2) o.0)))
 
+-- which is no binding and of no pattern
+expression : (k : ℕ) → T (is_expr k) → (eqb k 20 || in_pattern k) ≡ false
+expression k h =
+    let l = leb→le 21 k (and_left (leb 21 k) (leb k 42) (and_left (leb 21 k && leb k 42) (not (eqb k 29)) h)) in
+    let g = leb→le k 42 (and_right (leb 21 k) (leb k 42) (and_left (leb 21 k && leb k 42) (not (eqb k 29)) h)) in
+    ap₂ ◌||◌ (ne_eqb k 20 (λ e. omega (arith, l, e))) (ap (λ (b : Bool). b && leb k 48) (no (leb 45 k) (λ t. (let m = leb→le 45 k t in omega (arith, m, g)))))
+  where
+    no : (b : Bool) → (T b → ⊥) → b ≡ false
+    no true f = absurd (f tt)
+    no false f = refl
+
+pub init-value : (f a : ℕ) (n : Tree) (es : Forest) → Fits (node 6 f a (cons n es)) → Expressions es
+init-value f a n es o = go es (init6 f a n es o)
+  where
+    one : (t : Tree) → T (is_expr (kind t)) → skeleton t ≡ nothing
+    one (node k g b ts) h = ap {B = Tree} (λ (c : Bool). elim c [ true ↦ node k (pick (eqb k 20) (g % 2) g) b (skeletons ts) | false ↦ nothing ]) (expression k h)
+
+    go : (es : Forest) → VF (law fitting) es → Expressions es
+    go nil v = tt
+    go (cons e es) v = (one e v.0.1, go es v.1)
+
 declarators : (m n : ℕ) (c : Class) → T (allows c 6 m) → T (allows c 6 n)
 declarators m n Root h = h
 declarators m n Statement h = h
 declarators m n Expression h = h
 declarators m n Binding h = h
+declarators m n Name h = h
+declarators m n Target h = h
 declarators m n Block h = h
 declarators m n Declarator h = h
 declarators m n Catch h = h
 declarators m n Case h = h
 declarators m n Property h = h
+declarators m n PatternProperty h = h
 declarators m n Updated h = h
 declarators m n Assigned h = h
+declarators m n Destructured h = h
 declarators m n Start h = h
 declarators m n Head h = h
 
@@ -205,13 +248,17 @@ idents k m n e Root x h = absurd h
 idents k m n e Statement x h = absurd h
 idents k m n e Expression x h = e
 idents k m n e Binding x h = absurd h
+idents k m n e Name x h = absurd h
+idents k m n e Target x h = absurd h
 idents k m n e Block x h = absurd h
 idents k m n e Declarator x h = absurd h
 idents k m n e Catch x h = absurd h
 idents k m n e Case x h = absurd h
 idents k m n e Property x h = absurd h
+idents k m n e PatternProperty x h = absurd h
 idents k m n e Updated x h = absurd (x tt)
 idents k m n e Assigned x h = absurd h
+idents k m n e Destructured x h = absurd h
 idents k m n e Start x h = or_right (eqb k 5) (is_expr k) e
 idents k m n e Head x h = absurd h
 

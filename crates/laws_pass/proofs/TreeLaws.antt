@@ -7,13 +7,13 @@ use Prim.Native.Nat.{ℕ, suc, ◌+◌}
 use lib.Dec.{T, eqb, ltb}
 use lib.ListN.{length}
 use Rattle.def_tree.specs.Base.{pick, or_else}
-use Rattle.def_pass.specs.Tree.{Tree, Forest, node, cons, kind, num, head_t, is_ident, is_cheap, height, void_zero}
+use Rattle.def_pass.specs.Tree.{Tree, Forest, node, cons, kind, num, is_ident, is_cheap, height, void_zero}
 use Rattle.def_pass.specs.Scope as Scope
 use Rattle.def_pass.specs.Scope.{VarInfo, Stack}
 use Rattle.def_pass.specs.Walk as Walk
 use Rattle.laws_pass.proofs.Tests.{pick-ok, elim-ok}
 use Rattle.laws_pass.proofs.Keep.{All, all_map, all_append}
-use Rattle.laws_pass.proofs.Effects.{Law, Effects, GF, QF, VF, VO, VB, VI, LastOther}
+use Rattle.laws_pass.proofs.Effects.{Law, Effects, GF, QF, VF, VO, VB, VI, Left, LastOther}
 
 -- every value and constant of the open scopes, of which V holds
 module _ (V? : Option Tree → Type 0) (nothing : V? none) where
@@ -204,7 +204,7 @@ module _ (X : TreeLaw) where
     pub q-refl : (t : Tree) → X.Rel t t
     pub q-trans : (t u v : Tree) → X.Rel t u → X.Rel u v → X.Rel t v
     pub kids : (p k f a : ℕ) (ts : Forest) → X.Good p (node k f a ts) → GF law (suc p) ts
-    pub around : (p k f a : ℕ) (ts us : Forest) → X.Good p (node k f a ts) → GF law (suc p) us → QF law ts us → (X.Tells → (T (eqb k 31) → ⊥) × (T (eqb k 33) → head_t us ≡ head_t ts)) → X.Good p (node k f a us) × X.Rel (node k f a ts) (node k f a us)
+    pub around : (p k f a : ℕ) (ts us : Forest) → X.Good p (node k f a ts) → GF law (suc p) us → QF law ts us → (X.Tells → (T (eqb k 31) → ⊥) × (T (eqb k 33) → Left ts us)) → X.Good p (node k f a us) × X.Rel (node k f a ts) (node k f a us)
     pub body : (p k f a : ℕ) (ts : Forest) → X.Tells → T (eqb k 7 || eqb k 39) → X.Good p (node k f a ts) → LastOther ts
     pub init : (p k f a : ℕ) (n : Tree) (es : Forest) → T (eqb k 6) → X.Good p (node k f a (cons n es)) → VF law es
     pub taken : (p k f a : ℕ) (n e : Tree) (es : Forest) → T (eqb k 6) → X.Good p (node k f a (cons n (cons e es))) → X.Good p (node k f a (cons n es)) × X.Rel (node k f a (cons n (cons e es))) (node k f a (cons n es))

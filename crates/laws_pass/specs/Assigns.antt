@@ -1,12 +1,12 @@
--- Each `=` outside the initialisers is in the result exactly once, with its target as it was. On core trees, where the number of a node of
--- kind 33 is its origin. Assumes nothing: these are definitions.
+-- Each `=` outside the initialisers is in the result exactly once, with its target as it was but for the defaults of a pattern (request 4). On
+-- core trees, where the number of a node of kind 33 is its origin. Assumes nothing: these are definitions.
 use Rattle.std.specs.Prelude.{◌≡◌, Bool, true, false, ◌&&◌, ◌||◌, List, [], ◌∷◌, ◌++◌, ℕ, ◌%◌, T, eqb}
 use Rattle.std.proofs.Math.Option.{Option, none, some}
 use Rattle.def_tree.specs.Base.{pick}
-use Rattle.def_pass.specs.Tree.{Tree, Forest, node, nil, cons, kind, head_t, tail_f}
+use Rattle.def_pass.specs.Tree.{Tree, Forest, node, nil, cons, kind, head_t, tail_f, is_pattern, in_pattern}
 use Rattle.def_pass.specs.Walk.{core_pass, Outcome, refused, result}
 
--- a target without the flags of its bindings (request 3): of a binding's form only whether its name is `arguments`
+-- a tree without the flags of its bindings (request 3): of a binding's form only whether its name is `arguments`
 abbrev mutual
   pub plain : Tree → Tree
   plain (node k f a ts) = node k (pick (eqb k 20) (f % 2) f) a (plains ts)
@@ -15,9 +15,25 @@ abbrev mutual
   plains nil = nil
   plains (cons t ts) = cons (plain t) (plains ts)
 
-abbrev pub plain_o : Option Tree → Option Tree
-plain_o none = none
-plain_o (some t) = some (plain t)
+-- of a pattern the bindings, and what of patterns they stand in; in the place of an expression, which is a default, nothing
+abbrev pub nothing : Tree
+nothing = node 0 0 0 nil
+
+abbrev mutual
+  pub skeleton : Tree → Tree
+  skeleton (node k f a ts) = elim (eqb k 20 || in_pattern k) [ true ↦ node k (pick (eqb k 20) (f % 2) f) a (skeletons ts) | false ↦ nothing ]
+
+  pub skeletons : Forest → Forest
+  skeletons nil = nil
+  skeletons (cons t ts) = cons (skeleton t) (skeletons ts)
+
+-- a target: a pattern without its defaults, and anything else whole
+abbrev pub target : Tree → Tree
+target t = pick (is_pattern t) (skeleton t) (plain t)
+
+abbrev pub target_o : Option Tree → Option Tree
+target_o none = none
+target_o (some t) = some (target t)
 
 -- an `=`: its origin and its target
 abbrev pub Assign : Type 0
@@ -29,7 +45,7 @@ listed false x = []
 
 -- of a node: is it an `=` whose origin is asked for
 abbrev pub own_assign : (ℕ → Bool) → ℕ → ℕ → ℕ → Option Tree → List Assign
-own_assign asked k f a l = listed (eqb k 33 && eqb f 0 && asked a) (a, plain_o l)
+own_assign asked k f a l = listed (eqb k 33 && eqb f 0 && asked a) (a, target_o l)
 
 -- those of a tree, in order
 abbrev mutual
@@ -46,9 +62,15 @@ LastBlock nil = Unit {0}
 LastBlock (cons t nil) = T (eqb (kind t) 2)
 LastBlock (cons t (cons u us)) = LastBlock (cons u us)
 
--- no `=` that is asked for stands in an initialiser or below a binding, an identifier or a literal; a function ends in a block
+-- none is a binding or of a pattern
+abbrev pub Expressions : Forest → Type 0
+Expressions nil = Unit {0}
+Expressions (cons t ts) = (skeleton t ≡ nothing) × Expressions ts
+
+-- no `=` that is asked for stands in an initialiser, which is an expression, or below a binding, an identifier or a literal; a function ends in a block
 pub record Here (asked : ℕ → Bool) (k : ℕ) (ts : Forest) : Type 0 where
   pub inits : T (eqb k 6) → assigns_f asked (tail_f ts) ≡ []
+  pub values : T (eqb k 6) → Expressions (tail_f ts)
   pub leaves : T (eqb k 20 || eqb k 21 || eqb k 22) → assigns_f asked ts ≡ []
   pub ends : T (eqb k 7 || eqb k 39) → LastBlock ts
 

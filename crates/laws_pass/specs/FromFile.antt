@@ -9,7 +9,7 @@ use Rattle.def_pass.specs.Script.{Out, Answer, no!, yes!, core_tree, back, pass_
 use Rattle.def_pass.specs.Walk.{Outcome, refused, result, core_pass}
 use Rattle.def_pass.specs.Cases.{f2, f3, name, bind, lit, decl_to}
 use Rattle.laws_pass.specs.Readable.{Readable}
-use Rattle.laws_pass.specs.Assigns.{Assign, plain_o, assigns, assigns_f}
+use Rattle.laws_pass.specs.Assigns.{Assign, target_o, assigns, assigns_f}
 
 -- no `=` that is asked for stands in an initialiser
 abbrev mutual
@@ -53,7 +53,7 @@ pub record Trees (s : Script) (xs : List Out) : Type 0 where
   pub readable : Readable before
   pub again : Readable after
   pub assigned : (asked : ℕ → Bool) → NoInit asked before → assigns asked after ≡ assigns asked before
-  pub once : (o : ℕ) (l : Option Tree) → Stands o l before → of_origin o after ≡ (o, plain_o l) ∷ []
+  pub once : (o : ℕ) (l : Option Tree) → Stands o l before → of_origin o after ≡ (o, target_o l) ∷ []
 
 abbrev pub TreesIn : Script → Answer → Type 0
 TreesIn s (no! n) = Unit {0}

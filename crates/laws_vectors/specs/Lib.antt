@@ -11,5 +11,7 @@ pub mod Part3
 pub mod Part4
 pub mod Part5
 pub mod Part6
+pub mod Part7
+pub mod Part8
 pub mod Play
 pub mod Vector

@@ -1,4 +1,4 @@
--- Vectors 0 to 187 of 780: files and answers, in numbers of 16 bytes. Written by tools/vectors.py.
+-- Vectors 0 to 187 of 1112: files and answers, in numbers of 16 bytes. Written by tools/vectors.py.
 use Rattle.std.specs.Prelude.{◌≡◌, refl, List, [], ◌∷◌}
 use Rattle.laws_vectors.specs.Vector.{Vector, v, wrong}
 

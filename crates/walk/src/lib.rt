@@ -19,7 +19,7 @@ use def_file::form;
 use def_file::kind::Kind;
 use refusal::Refusal;
 use scope::{ScopeKind, Write, name_at};
-use walk_answer::steps::{bare, decl_kind, nameless, settled};
+use walk_answer::steps::{bare, decl_kind, nameless, settled, to_pattern};
 use walk_declarator::{Declr, Spot, declr_after, over, stays};
 use walk_ident::assign::after_assign;
 use walk_ident::{
@@ -32,7 +32,7 @@ use walk_write::{
     mark_callee, mark_caught, store_barrier, write_args, write_but_last, write_kids,
     write_kids_but_last, write_name, write_tree,
 };
-use words::{arity_at, form_at, kind_at, layout, num_at};
+use words::{arity_at, form_at, kind_at, layout};
 use words_nodes::skip;
 use words_state::{
     PatFoldingMode, in_test, inlining, save_fields, set_conds, set_in_test, set_inlining,
@@ -448,10 +448,9 @@ fn binds(w: &mut [u32], p: usize, d: usize, n: usize, i: usize) -> Result<usize,
 {
     let mut at = i;
     for _k in 0..n {
-        let kind = kind_at(w, at);
-        let x = num_at(w, at);
-        at = full(w, p, d, at)?;
-        mark_caught(w, kind, x);
+        let j = full(w, p, d, at)?;
+        mark_caught(w, at);
+        at = j;
     }
     Ok(at)
 }
@@ -578,9 +577,14 @@ fn assign(w: &mut [u32], p: usize, d: usize, i: usize) -> Result<usize, Refusal>
 {
     set_pat_mode(w, PatFoldingMode::Assign);
     let f = form_at(w, i);
+    let pat = to_pattern(w, i);
     let n = arity_at(w, i) as usize;
     assign_first(w, f, n, i + 1)?;
-    let j = tail(w, p + 1, d, n, i + 1)?;
+    let j = if pat {
+        many(w, p + 1, d, n, i + 1)?
+    } else {
+        tail(w, p + 1, d, n, i + 1)?
+    };
     assign_last(w, n, i + 1)?;
     Ok(j)
 }

@@ -2,13 +2,15 @@
 ghost use Rattle.std.specs.Prelude.{◌≡◌};
 ghost use Rattle.words.specs.Layout.{node_of};
 ghost use Rattle.words_scopes.specs.Kinds.{type_of};
-ghost use Rattle.def_pass.specs.Walk.{decl_kind_of};
+ghost use Rattle.def_tree.specs.Combine.{tree_at};
+ghost use Rattle.def_pass.specs.Walk.{decl_kind_of, to_pattern};
+ghost use Rattle.words_state.specs.State.{abs};
 ghost use Rattle.walk_laws.specs.Did.{Here, Headed, bare_node, settled_node};
 
 use def_file::form;
 use def_file::kind::Kind;
 use scope::{VarDeclKind, VarType};
-use words::{arity_at, kind_at};
+use words::{arity_at, form_at, kind_at};
 
 // The kind of a declaration by its form.
 pub fn decl_kind(f: u32) -> VarType
@@ -49,4 +51,15 @@ pub fn settled(w: &[u32], i: usize) -> bool
     ensures { result ≡ settled_node (node_of w.now i) }
 {
     !matches!(kind_at(w, i), Kind::Ident | Kind::Bin | Kind::Assign)
+}
+
+// Is the assignment at i a `=` to a pattern.
+pub fn to_pattern(w: &[u32], i: usize) -> bool
+    requires { Here w.now 1 i 0 0 }
+    ensures { result ≡ to_pattern (tree_at (abs w.now) i) }
+{
+    if form_at(w, i) != form::ASSIGN || arity_at(w, i) == 0 {
+        return false;
+    }
+    kind_at(w, i + 1).is_pattern()
 }

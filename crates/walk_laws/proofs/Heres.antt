@@ -5,7 +5,6 @@ use mathlib.Core.List.{List, []}
 use Prim.Native.Nat.{ℕ, suc, ◌+◌, ◌-◌, ◌≤◌, ◌<◌}
 use native.Mathlib.Omega.{arith}
 use lib.ListN.{length, get_or, drop}
-use mathlib.Core.Logic.{inl}
 use Rattle.def_tree.specs.Tree.{Tree, Forest, Core, no_core, length_f, count, counts, plant, first_t}
 use Rattle.def_tree.specs.Combine.{Res, stop, done, M, Nothing, Flat, Walk, Walks, on_rest, act, act_f, tree_at, forest_at, many, carry}
 use Rattle.def_tree.proofs.Sims.{Sim, SimF, sim-each}
@@ -109,12 +108,6 @@ here-below {w} q l h = (h.planted, omega (arith, h.room.low, tree-length w))
 -- as some steps ask for it: n trees begin there
 pub at-trees : {w : List ℕ} {n i p d : ℕ} → Here w n i p d → Planted w × (n ≤ length_f (plant (drop i (tree w))))
 at-trees h = (h.planted, h.room.trees)
-
--- a binding's number is an identifier's
-pub name-low : {w u : List ℕ} {i p d k x : ℕ} → Here w 1 i p d → k ≡ (node_of w i).kind → x ≡ (node_of w i).num → Planted u → Planted u × (k ≡ 20 → x < 256)
-name-low {w} {i = i} h e s g =
-    let c = tree-at w i (here-node h) in
-    (g, λ z. subst (λ (m : ℕ). m < 256) (sym (s ∙ ap (λ c. c.num) (sym c))) (h.planted.good.names i (inl (ap (λ c. c.kind) c ∙ sym e ∙ z))))
 
 -- the script itself
 pub here-root : {w : List ℕ} → Planted w → Here w 1 0 1 200

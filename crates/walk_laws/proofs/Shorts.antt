@@ -5,23 +5,25 @@ use mathlib.Core.Path.{◌≡◌, refl, sym, ap, ◌∙◌}
 use mathlib.Core.Bool.{Bool, true, false, not, ◌&&◌, ◌||◌}
 use mathlib.Core.List.{List}
 use mathlib.Core.Logic.{◌⊎◌, ⊎_elim, inl, inr}
-use Prim.Native.Nat.{ℕ, ◌+◌, ◌-◌}
+use Prim.Native.Nat.{ℕ, zero, suc, ◌+◌, ◌-◌}
 use native.Mathlib.Omega.{arith}
 use lib.Dec.{eqb}
 use lib.ListN.{get_or}
 use borrow.Author.Tests.{eqb-true, eq-eqb, ne_eqb}
 use Rattle.def_tree.specs.Tree.{Core, count}
-use Rattle.def_tree.specs.Combine.{node_at, many}
+use Rattle.def_tree.specs.Combine.{node_at, tree_at, many}
 use Rattle.words.specs.Layout.{tree, node_of}
-use Rattle.def_pass.specs.Walk.{h_plain, handlers}
+use Rattle.def_pass.specs.Walk.{h_plain, handlers, to_pattern}
 use Rattle.words_nodes.specs.Nodes.{tree_from}
 use Rattle.words_state.specs.State.{abs}
 use Rattle.laws_flat.specs.WalkF.{WalksF, walks_f, handle_f, plain_f, own_f, after_f, after_ident_f}
+use Rattle.laws_flat.specs.PassF.{some! }
 use Rattle.laws_flat.proofs.Sim.{sims, sim-own}
+use Rattle.laws_flat.proofs.Bounds.{pattern-at}
 use Rattle.walk_laws.specs.Did.{Did, Here, bare_node, settled_node}
 use Rattle.walk_laws.proofs.Laws.{many-none}
-use Rattle.walk_laws.proofs.Heres.{walk_end}
-use Rattle.walk_laws.proofs.Ways.{node-is, on-kids, own-by, kind-yes, full-then, first-no, after-ident, after-logic, logic-other}
+use Rattle.walk_laws.proofs.Heres.{walk_end, here-one, here-kids}
+use Rattle.walk_laws.proofs.Ways.{node-is, on-kids, own-by, kind-yes, form-yes, form-no, full-then, first-no, second-no, after-ident, after-logic, logic-other}
 
 never : ◌≡◌ {A = Bool} false true → ⊥
 never e = let y : ◌≡◌ {A = ℕ} 0 1 = cc in omega arith
@@ -90,3 +92,36 @@ module _ (c : Core) where
 
   pub settled-by : {k : ℕ} → k ≡ c.kind → (k ≡ 21 → ⊥) → (k ≡ 32 → ⊥) → not (eqb k 33) ≡ settled_node c
   settled-by f q s = rw (ne_eqb c.kind 21 (λ x. q (f ∙ x)), ne_eqb c.kind 32 (λ x. s (f ∙ x))) (ap (λ (m : ℕ). not (eqb m 33)) f)
+
+-- an assignment to a pattern, by what was read of its node and of the next one
+module _ {w : List ℕ} {i : ℕ} (h : Here w 1 i 0 0) where
+  abbrev to : Bool
+  to = to_pattern (tree_at (abs w) i)
+
+  abbrev at_object : Bool
+  at_object = eqb (node_at (abs w) (i + 1)).kind 45 || eqb (node_at (abs w) (i + 1)).kind 46
+
+  pub pattern-form : {f : ℕ} → f ≡ (node_of w i).form → (f ≡ 0 → ⊥) → false ≡ to
+  pattern-form e z = sym (pattern-at (abs w) i ∙ first-no (some! (node_at (abs w) i).arity && at_object) (form-no h 0 e z))
+
+  module _ {a : ℕ} (e : a ≡ (node_of w i).arity) where
+    arity-is : some! (node_at (abs w) i).arity ≡ some! a
+    arity-is = ap some! (ap (λ (c : Core). c.arity) (node-is h) ∙ sym e)
+
+    pub pattern-none : a ≡ 0 → false ≡ to
+    pattern-none z = sym (pattern-at (abs w) i ∙ second-no (eqb (node_at (abs w) i).form 0) (first-no at_object (arity-is ∙ ap some! z)))
+
+    -- the first child
+    pub pattern-child : (a ≡ 0 → ⊥) → Here w 1 (i + 1) 1 0
+    pattern-child z = let deep : Here w 1 i 0 (0 + 1) = record { planted = h.planted; room = h.room; depth = omega arith } in here-one z (here-kids deep e)
+
+    pub pattern-by : {f : ℕ} {b : Bool} → f ≡ (node_of w i).form → f ≡ 0 → (a ≡ 0 → ⊥) → b ≡ (eqb (node_of w (i + 1)).kind 45 || eqb (node_of w (i + 1)).kind 46) → b ≡ to
+    pattern-by {f} {b} x y z q =
+        sym (pattern-at (abs w) i
+        ∙ ap (λ (p : Bool). p && (some! (node_at (abs w) i).arity && at_object)) (form-yes h x y)
+        ∙ ap (λ (p : Bool). p && at_object) (arity-is ∙ more a z)
+        ∙ ap (λ (c : Core). eqb c.kind 45 || eqb c.kind 46) (node-is (pattern-child z)) ∙ sym q)
+      where
+        more : (n : ℕ) → (n ≡ 0 → ⊥) → some! n ≡ true
+        more zero z = absurd (z refl)
+        more (suc n) z = refl

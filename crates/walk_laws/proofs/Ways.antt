@@ -16,8 +16,9 @@ use Rattle.def_tree.specs.Tree.{Tree, count, form, num}
 use Rattle.def_tree.specs.Combine.{Res, stop, done, M, Nothing, and_then, ◌>>◌, iff, Flat, node_at, tree_at, Walk, Walks, on_rest, act, put, within_f, skip, many, split_f, each_but_f, on_kids_f}
 use Rattle.words.specs.Layout.{tree, node_of}
 use Rattle.words.proofs.Nodes.{tree-at}
-use Rattle.def_pass.specs.Scope.{VarType, ScopeKind, VarInfo, prevent_inline, add_read, find_constant}
-use Rattle.def_pass.specs.Walk.{St, modify, opening, restore, deeper, shallower, set_inlining, set_in_test, set_conds, set_var_decl_kind, set_pat_mode, as_param, decl_kind_of, set_changed, tally, same_ident, replace, when, mark, Handler, handlers, h_plain}
+use Rattle.def_pass.specs.Scope.{VarType, ScopeKind, VarInfo, prevent_each, add_read, find_constant}
+use Rattle.def_pass.specs.Tree.{bound_names}
+use Rattle.def_pass.specs.Walk.{St, modify, opening, restore, deeper, shallower, set_inlining, set_in_test, set_conds, set_var_decl_kind, set_pat_mode, as_param, decl_kind_of, set_changed, tally, same_ident, replace, when, mark, to_pattern, Handler, handlers, h_plain}
 use Rattle.words_nodes.specs.Nodes.{Planted, tree_from}
 use Rattle.words_state.specs.State.{rest, abs, Fielded, Act, Turns}
 use Rattle.words_state.proofs.Fields.{ok-self}
@@ -208,9 +209,6 @@ module _ {w : List ℕ} {i p d : ℕ} (h : Here w 1 i p d) {x : ℕ} where
   pub kind-is : x ≡ (node_of w i).kind → (node_at (abs w) i).kind ≡ x
   kind-is e = ap (λ c. c.kind) (node-is h) ∙ sym e
 
-  pub num-is : x ≡ (node_of w i).num → (node_at (abs w) i).num ≡ x
-  num-is e = ap (λ c. c.num) (node-is h) ∙ sym e
-
   pub form-yes : {m : ℕ} → x ≡ (node_of w i).form → x ≡ m → eqb (node_at (abs w) i).form m ≡ true
   form-yes {m} e s = eq-eqb (node_at (abs w) i).form m (form-is e ∙ s)
 
@@ -232,8 +230,10 @@ module _ {w : List ℕ} {i p d : ℕ} (h : Here w 1 i p d) {x : ℕ} where
   pub decl-turn : {u : List ℕ} {k : VarType} → x ≡ (node_of w i).form → k ≡ decl_kind_of x → Turns w u (set_var_decl_kind k (rest w)) → Turns w u (set_var_decl_kind (decl_kind_of (node_at (abs w) i).form) (rest w))
   decl-turn {u} e s t = subst (λ (y : VarType). Turns w u (set_var_decl_kind y (rest w))) (s ∙ ap decl_kind_of (sym (form-is e))) t
 
-  pub assign-form : (v : WalksF) (q : ℕ) {u : List ℕ} {a : Result ℕ Refusal} → x ≡ (node_of w i).form → Did w u a (on_kids_f (assign_kids_f v q x) i (abs w)) → Did w u a (on_kids_f (assign_kids_f v q (node_at (abs w) i).form) i (abs w))
-  assign-form v q {u} {a} e s = subst (λ (y : ℕ). Did w u a (on_kids_f (assign_kids_f v q y) i (abs w))) (sym (form-is e)) s
+  pub assign-form : (v : WalksF) (q : ℕ) {b : Bool} {u : List ℕ} {a : Result ℕ Refusal} → x ≡ (node_of w i).form → b ≡ to_pattern (tree_at (abs w) i) → Did w u a (on_kids_f (assign_kids_f v q x b) i (abs w)) → Did w u a (on_kids_f (assign_kids_f v q (node_at (abs w) i).form (to_pattern (tree_at (abs w) i))) i (abs w))
+  assign-form v q {b} {u} {a} e z s =
+      let p : Bool = to_pattern (tree_at (abs w) i) in
+      subst (λ (y : ℕ). Did w u a (on_kids_f (assign_kids_f v q y p) i (abs w))) (sym (form-is e)) (subst (λ (y : Bool). Did w u a (on_kids_f (assign_kids_f v q x y) i (abs w))) z s)
 
 pub both_yes : {a b : Bool} → a ≡ true → b ≡ true → (a && b) ≡ true
 both_yes {a} {b} x y = rw (x, y)
@@ -261,9 +261,9 @@ pub bound-stop : (v : WalksF) (p i : ℕ) {w u : List ℕ} {e : Refusal} → Did
 unfolding catch_param_f
 bound-stop v p i d = did-stop _ d
 
-pub bound-then : (v : WalksF) {w u y : List ℕ} {i p d k x j : ℕ} → Here w 1 i p d → k ≡ (node_of w i).kind → x ≡ (node_of w i).num → Did w u (Ok j) (v.full p i (abs w)) → Act u y 0 (on_rest (λ s. when (eqb k 20 && not s.inlining) (mark (prevent_inline x)) s) (abs u)) → Did w y (Ok j) (catch_param_f v p i (abs w))
+pub bound-then : (v : WalksF) (p i : ℕ) {w u y : List ℕ} {j : ℕ} → Did w u (Ok j) (v.full p i (abs w)) → Act u y 0 (act (λ b s. when (not s.inlining) (mark (prevent_each (bound_names b []))) s) i (abs u)) → Did w y (Ok j) (catch_param_f v p i (abs w))
 unfolding catch_param_f
-bound-then v {w} {u} {y} {i} {p} {k = k} {j = j} h e s d t = did_then _ d (act-end j (subst (λ (m : ℕ). Act u y 0 (on_rest (λ s. when (eqb m 20 && not s.inlining) (mark (prevent_inline (node_at (abs w) i).num)) s) (abs u))) (sym (kind-is h e)) (subst (λ (m : ℕ). Act u y 0 (on_rest (λ s. when (eqb k 20 && not s.inlining) (mark (prevent_inline m)) s) (abs u))) (sym (num-is h s)) t)))
+bound-then v p i {j = j} d t = did_then _ d (act-end j t)
 
 -- a function's inside
 pub func-in : (v : WalksF) (p n i : ℕ) {w u x : List ℕ} {a : Result ℕ Refusal} → Turns w u (set_pat_mode as_param (rest w)) → Did u x a (each_but_f (v.full (p + 1)) (v.inner (p + 1)) n i (abs u)) → Did w x a (and_then (on_rest (modify (set_pat_mode as_param)) (abs w)) (λ y. each_but_f (v.full (suc p)) (v.inner (suc p)) n i))

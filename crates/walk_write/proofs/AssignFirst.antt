@@ -1,15 +1,15 @@
 -- What is written before the walk of an assignment's value. Assumes nothing.
 use mathlib.Core.Path.{◌≡◌, refl, sym, ap, ◌∙◌}
 use mathlib.Core.List.{List, [], ◌∷◌, ◌++◌, append_assoc}
-use mathlib.Core.Bool.{Bool, true, false, not, ◌||◌}
+use mathlib.Core.Bool.{Bool, true, false, ◌||◌}
 use Prim.Native.Nat.{ℕ, ◌+◌, ◌-◌, ◌≤◌, ◌<◌}
 use native.Mathlib.Omega.{arith}
 use lib.Dec.{eqb}
 use lib.ListN.{get_or, drop}
 use borrow.Author.Tests.{eq-eqb, ne_eqb}
-use Rattle.def_tree.specs.Tree.{Tree, Forest, node, nil, cons, kind, length_f, Core, no_core, take_f, drop_f, plant}
+use Rattle.def_tree.specs.Tree.{Tree, Forest, node, nil, cons, length_f, Core, no_core, take_f, drop_f, plant}
 use Rattle.def_tree.specs.Combine.{Res, stop, done, Nothing, M, and_then, iff, ◌>>◌, forest_at, act_f}
-use Rattle.def_pass.specs.Tree.{ident_list, ident_list_f}
+use Rattle.def_pass.specs.Tree.{is_member, ident_list, ident_list_f}
 use Rattle.def_pass.specs.Walk.{St, when, write, writes, write_tree, write_forest, assign_first}
 use Rattle.words.specs.Layout.{tree, node_of}
 use Rattle.words_nodes.specs.Nodes.{Planted, forest_from}
@@ -56,7 +56,7 @@ module _ (f : ℕ) (l : Tree) (rs : Forest) where
   ts = cons l rs
 
   abbrev more : M St Nothing
-  more = when (not (eqb (kind l) 20)) (write_tree true l >> write_forest true rs)
+  more = when (is_member l) (write_tree true l >> write_forest true rs)
 
   first-forced : (f ≡ 0 → ⊥) → (s : St) → write_forest true ts s ≡ assign_first f ts s
   unfolding assign_first
@@ -68,11 +68,11 @@ module _ (f : ℕ) (l : Tree) (rs : Forest) where
       sym (ap (λ (p : Bool). iff p (write_tree false l >> (write_forest false rs >> more)) (write_tree true l >> write_forest true rs) s) (eq-eqb f 0 e)
       ∙ sym (then-then (write_tree false l s) (write_forest false rs) more) ∙ ap (λ (r : Res St Nothing). and_then r (λ a. more)) (both false l rs s))
 
-  more_no : kind l ≡ 20 → (s : St) → done s tt ≡ more s
-  more_no e s = sym (ap (λ (p : Bool). when (not p) (write_tree true l >> write_forest true rs) s) (eq-eqb (kind l) 20 e))
+  more_no : is_member l ≡ false → (s : St) → done s tt ≡ more s
+  more_no e s = sym (ap (λ (p : Bool). when p (write_tree true l >> write_forest true rs) s) e)
 
-  more_yes : (kind l ≡ 20 → ⊥) → (s : St) → write_forest true ts s ≡ more s
-  more_yes h s = sym (ap (λ (p : Bool). when (not p) (write_tree true l >> write_forest true rs) s) (ne_eqb (kind l) 20 h) ∙ both true l rs s)
+  more_yes : is_member l ≡ true → (s : St) → write_forest true ts s ≡ more s
+  more_yes e s = sym (ap (λ (p : Bool). when p (write_tree true l >> write_forest true rs) s) e ∙ both true l rs s)
 
 -- n trees from i on
 module _ {w : List ℕ} (g : Planted w) (f n i : ℕ) where
@@ -97,8 +97,8 @@ module _ {w : List ℕ} (g : Planted w) (f n i : ℕ) where
     unfolding forest_at forest_from
     trees-are = forest-here (tree-whole g) still (omega (arith, h))
 
-    kind-is : kind l ≡ (node_of w i).kind
-    kind-is = ap (λ (x : Core). x.kind) (sym (node-here g still (omega (arith, h))))
+    member_is : {m : Bool} → (eqb (node_of w i).kind 37 || eqb (node_of w i).kind 38) ≡ m → is_member l ≡ m
+    member_is e = sym (ap (λ (x : Core). eqb x.kind 37 || eqb x.kind 38) (node-here g still (omega (arith, h)))) ∙ e
 
     -- by what the forest is
     of-trees : {u : List ℕ} {r : ℕ} (m : Forest → M St Nothing) → Act w u r (act_f m n i (abs w)) → Step w u r (m (cons l rs) (rest w))
@@ -120,13 +120,13 @@ module _ {w : List ℕ} (g : Planted w) (f n i : ℕ) where
       pub first-stop : 0 < r → Act w u r (act_f (assign_first f) n i (abs w))
       first-stop z = plain (step-stop (more f l rs) first z)
 
-      pub first-name : r ≡ 0 → (node_of w i).kind ≡ 20 → Act w u 0 (act_f (assign_first f) n i (abs w))
-      first-name z k = plain (step_then (more f l rs) first z (step-as (more_no f l rs (kind-is ∙ k) (rest u)) (step-none a.ok.planted)))
+      pub first-once : r ≡ 0 → (eqb (node_of w i).kind 37 || eqb (node_of w i).kind 38) ≡ false → Act w u 0 (act_f (assign_first f) n i (abs w))
+      first-once z y = plain (step_then (more f l rs) first z (step-as (more_no f l rs (member_is y) (rest u)) (step-none a.ok.planted)))
 
-      pub first-again : {v : List ℕ} {m : ℕ} → r ≡ 0 → ((node_of w i).kind ≡ 20 → ⊥) → Act u v m (act_f (write_forest true) n i (abs u)) → Act w v m (act_f (assign_first f) n i (abs w))
+      pub first-again : {v : List ℕ} {m : ℕ} → r ≡ 0 → (eqb (node_of w i).kind 37 || eqb (node_of w i).kind 38) ≡ true → Act u v m (act_f (write_forest true) n i (abs u)) → Act w v m (act_f (assign_first f) n i (abs w))
       unfolding forest_at
-      first-again {v} {m} z k b =
+      first-again {v} {m} z e b =
           let t : tree u ≡ tree w = step-tree (more f l rs) first z in
           let d : Step u v m (write_forest true (take_f n (plant (drop i (tree u)))) (rest u)) = act-step (write_forest true (forest_at (abs u) n i)) b in
           let q : take_f n (plant (drop i (tree u))) ≡ cons l rs = ap (λ (xs : List Core). take_f n (plant (drop i xs))) t ∙ trees-are in
-          plain (step_then (more f l rs) first z (step-as (ap (λ (us : Forest). write_forest true us (rest u)) q ∙ more_yes f l rs (λ x. k (sym kind-is ∙ x)) (rest u)) d))
+          plain (step_then (more f l rs) first z (step-as (ap (λ (us : Forest). write_forest true us (rest u)) q ∙ more_yes f l rs (member_is e) (rest u)) d))

@@ -1,7 +1,7 @@
 -- What is written and recorded after the walk of an assignment's value. Assumes nothing.
 use Rattle.std.proofs.Common.{Result}
 use mathlib.Core.Path.{◌≡◌, refl, sym, ap, ◌∙◌}
-use mathlib.Core.List.{List}
+use mathlib.Core.List.{List, []}
 use mathlib.Core.Bool.{Bool, true, false}
 use mathlib.Core.Option.{Option, none, some}
 use Prim.Native.Nat.{ℕ, zero, suc, ◌+◌, ◌-◌, ◌≤◌, ◌<◌}
@@ -12,13 +12,13 @@ use lib.ListN.{get_or, drop}
 use borrow.Author.Tests.{eq-eqb, ne_eqb}
 use Rattle.def_tree.specs.Base.{pick}
 use Rattle.def_tree.specs.Tree.{Tree, Forest, nil, cons, kind, num, length_f, count, Core, no_core, take_f, drop_f, plant, first_t}
-use Rattle.def_tree.specs.Combine.{Res, stop, done, Nothing, M, and_then, iff, ret, ◌>>◌, on_rest, tree_at, forest_at, act, act_f}
-use Rattle.def_pass.specs.Tree.{is_cheap, head_t}
-use Rattle.def_pass.specs.Scope.{VarInfo, find_binding, var_inline_prevented, prevented_o, prevent_inline, change, with_value}
+use Rattle.def_tree.specs.Combine.{Res, done, Nothing, M, and_then, iff, ret, ◌>>◌, on_rest, tree_at, forest_at, act, act_f}
+use Rattle.def_pass.specs.Tree.{is_cheap, head_t, bound_names}
+use Rattle.def_pass.specs.Scope.{VarInfo, find_binding, var_inline_prevented, prevented_o, prevent_each, change, with_value}
 use Rattle.def_pass.specs.Walk.{St, when, mark, grow, write, store_value, store_o, assign_last}
 use Rattle.words.specs.Layout.{tree, node_of}
 use Rattle.words.proofs.Nodes.{tree-at}
-use Rattle.words_scopes.specs.State.{Becomes, stack}
+use Rattle.words_scopes.specs.State.{stack}
 use Rattle.scope_values.specs.Steps.{Grown}
 use Rattle.refusal.specs.declared.Refusal.{Refusal}
 use Rattle.refusal.specs.Number.{refused}
@@ -28,9 +28,8 @@ use Rattle.words_nodes.proofs.Words.{tree-whole, in_tree}
 use Rattle.words_state.specs.State.{rest, abs, Act}
 use Rattle.scope_var_info.specs.Handles.{tree_o, of_binding}
 use Rattle.scope_var_info.proofs.Numbers.{tree-in}
-use Rattle.walk_write.proofs.Steps.{Step, step-act, act-step, step-as, step-none, step_then, step-stop, step-tree, act-tree, act-count, mark-step, record-step}
+use Rattle.walk_write.proofs.Steps.{Step, step-act, act-step, step-as, step-none, step_then, step-stop, step-tree, act-tree, act-count, record-step}
 use Rattle.walk_write.proofs.Shapes.{head_of}
-use Rattle.walk_write.proofs.Writing.{num-here}
 use Rattle.walk_write.proofs.Marks.{kind-here}
 
 -- a value recorded for the binding of l
@@ -64,18 +63,11 @@ module _ {w : List ℕ} (g : Planted w) (l r : Tree) (x : ℕ) (q : num l ≡ x)
 -- by target and values
 module _ (l : Tree) (rs : Forest) (s : St) where
   abbrev last : Bool → Bool → Res St Nothing
-  last p k = iff p (when k (mark (prevent_inline (num l)))) (when k (write false l >> store_o l (head_t rs))) s
+  last p k = iff p (mark (prevent_each (bound_names l []))) (when k (write false l >> store_o l (head_t rs))) s
 
   last-is : (p k : Bool) → prevented_o (head_t rs) s.stack ≡ p → eqb (kind l) 20 ≡ k → last p k ≡ assign_last (cons l rs) s
   unfolding assign_last
   last-is p k e d = ap (λ (c : Bool). last p c) (sym d) ∙ ap (λ (c : Bool). last c (eqb (kind l) 20)) (sym e)
-
-  last-other : (kind l ≡ 20 → ⊥) → done s tt ≡ assign_last (cons l rs) s
-  last-other h = go (prevented_o (head_t rs) s.stack) ∙ last-is (prevented_o (head_t rs) s.stack) false refl (ne_eqb (kind l) 20 h)
-    where
-      go : (p : Bool) → done s tt ≡ last p false
-      go true = refl
-      go false = refl
 
 -- n trees from i on
 first_of : (n : ℕ) (ts : Forest) → 0 < n → first_t (take_f n ts) ≡ first_t ts
@@ -113,65 +105,70 @@ module _ {w : List ℕ} (g : Planted w) (n i : ℕ) (o : n ≤ length_f (plant (
   to_last : {u : List ℕ} {r : ℕ} → Step w u r (assign_last (cons l rs) (rest w)) → Act w u r (act_f assign_last n i (abs w))
   to_last d = step-act (assign_last (forest_at (abs w) n i)) (rw split d)
 
-  pub last-no-name : ((node_of w i).kind ≡ 20 → ⊥) → Act w w 0 (act_f assign_last n i (abs w))
-  last-no-name k = to_last (step-as (last-other l rs (rest w) (λ (e : kind l ≡ 20). k (sym (kind-here w i target-in) ∙ e))) (step-none g))
+  is_name_lem : (node_of w i).kind ≡ 20 → eqb (kind l) 20 ≡ true
+  is_name_lem k = eq-eqb (kind l) 20 (kind-here w i target-in ∙ k)
 
-  module _ (k : (node_of w i).kind ≡ 20) where
-    is_name_lem : eqb (kind l) 20 ≡ true
-    is_name_lem = eq-eqb (kind l) 20 (kind-here w i target-in ∙ k)
+  no_name : ((node_of w i).kind ≡ 20 → ⊥) → eqb (kind l) 20 ≡ false
+  no_name k = ne_eqb (kind l) 20 (λ (e : kind l ≡ 20). k (sym (kind-here w i target-in) ∙ e))
 
-    -- the target alone
-    pub last-alone : {u : List ℕ} {r : ℕ} → n ≡ 1 → Act w u r (act (write false) i (abs w)) → Act w u r (act_f assign_last n i (abs w))
-    unfolding forest_from
-    last-alone {u} {r} e a =
-        let d : Step w u r (write false l (rest w)) = act-step (write false l) a in
-        let q : head_t rs ≡ none = rw e refl in
-        to_last (step-as (alone (write false l (rest w)) ∙ ap (λ (v : Option Tree). and_then (write false l (rest w)) (λ x. store_o l v)) (sym q) ∙ last-is l rs (rest w) false true (ap (λ (v : Option Tree). prevented_o v (rest w).stack) q) is_name_lem) d)
-      where
-        alone : (r : Res St Nothing) → r ≡ and_then r (λ x. ret tt)
-        alone (stop m) = refl
-        alone (done s x) = refl
+  -- is the value, if there is one, not prevented
+  abbrev pub Free : Type 0
+  Free = prevented_o (head_t rs) (rest w).stack ≡ false
 
-    -- the value begins at j
-    module _ (two : n ≡ 1 → ⊥) (j : ℕ) (ej : j ≡ i + count (tree_from (tree w) i)) where
-      behind : Open (tree w) (i + count (tree_from (tree w) i)) (n - 1)
-      behind = open-past (tree-whole g) still z
+  no_value_lem : n ≡ 1 → head_t rs ≡ none
+  unfolding forest_from
+  no_value_lem e = rw e refl
 
-      m : 0 < n - 1
-      m = omega (arith, h, two)
+  pub free-alone : n ≡ 1 → Free
+  free-alone e = ap (λ (v : Option Tree). prevented_o v (rest w).stack) (no_value_lem e)
 
-      pub value_in : j < get_or w 0 0
-      value_in = rw ej (in_tree g behind m)
+  -- the value begins at j
+  module _ (j : ℕ) (ej : j ≡ i + count (tree_from (tree w) i)) where
+    behind : Open (tree w) (i + count (tree_from (tree w) i)) (n - 1)
+    behind = open-past (tree-whole g) still z
 
-      value-is : head_t rs ≡ some (tree_at (abs w) j)
-      unfolding forest_from tree_at
-      value-is = head_of (n - 1) (plant (drop (i + count (tree_from (tree w) i)) (tree w))) m behind.trees ∙ ap (λ (k : ℕ). some (first_t (plant (drop k (tree w))))) (sym ej)
+    pub value_in : 1 < n → j < get_or w 0 0
+    value_in m = rw ej (in_tree g behind (omega (arith, m)))
 
-      prevented-is : (p : Bool) → p ≡ prevented_o (tree_o (tree w) j) (stack w) → prevented_o (head_t rs) (rest w).stack ≡ p
-      unfolding rest tree_at tree_from
-      prevented-is p e = ap (λ (v : Option Tree). prevented_o v (stack w)) (value-is ∙ sym (tree-in w j value_in)) ∙ sym e
+    value-is : 1 < n → head_t rs ≡ some (tree_at (abs w) j)
+    unfolding forest_from tree_at
+    value-is m = head_of (n - 1) (plant (drop (i + count (tree_from (tree w) i)) (tree w))) (omega (arith, m)) behind.trees ∙ ap (λ (k : ℕ). some (first_t (plant (drop k (tree w))))) (sym ej)
 
-      pub last-prevented : {u : List ℕ} {x : ℕ} → true ≡ prevented_o (tree_o (tree w) j) (stack w) → x ≡ (node_of w i).num → Becomes w u (prevent_inline x (stack w)) → Act w u 0 (act_f assign_last n i (abs w))
-      last-prevented {u} {x} e q b =
-          to_last (step-as (ap (λ (a : ℕ). mark (prevent_inline a) (rest w)) (q ∙ sym (num-here w i target-in)) ∙ last-is l rs (rest w) true true (prevented-is true e) is_name_lem) (mark-step g (prevent_inline x) b))
+    prevented-is : 1 < n → {p : Bool} → p ≡ prevented_o (tree_o (tree w) j) (stack w) → prevented_o (head_t rs) (rest w).stack ≡ p
+    unfolding rest tree_at tree_from
+    prevented-is m e = ap (λ (v : Option Tree). prevented_o v (stack w)) (value-is m ∙ sym (tree-in w j (value_in m))) ∙ sym e
 
-      module _ {u : List ℕ} {r : ℕ} (e : false ≡ prevented_o (tree_o (tree w) j) (stack w)) (a : Act w u r (act (write false) i (abs w))) where
-        first : Step w u r (write false l (rest w))
-        first = act-step (write false l) a
+    pub free-value : {p : Bool} → 1 < n → p ≡ prevented_o (tree_o (tree w) j) (stack w) → p ≡ false → Free
+    free-value m e d = prevented-is m e ∙ d
 
-        then-as : and_then (write false l (rest w)) (λ x. store_value l (tree_at (abs w) j)) ≡ assign_last (cons l rs) (rest w)
-        then-as = ap (λ (v : Option Tree). and_then (write false l (rest w)) (λ x. store_o l v)) (sym value-is) ∙ last-is l rs (rest w) false true (prevented-is false e) is_name_lem
+    pub last-prevented : {u : List ℕ} {p : Bool} → 1 < n → p ≡ prevented_o (tree_o (tree w) j) (stack w) → p ≡ true → Act w u 0 (act (λ t. mark (prevent_each (bound_names t []))) i (abs w)) → Act w u 0 (act_f assign_last n i (abs w))
+    last-prevented m e d a = to_last (step-as (last-is l rs (rest w) true (eqb (kind l) 20) (prevented-is m e ∙ d) refl) (act-step (mark (prevent_each (bound_names l []))) a))
 
-        pub last-stop : 0 < r → Act w u r (act_f assign_last n i (abs w))
-        last-stop y = to_last (step-as then-as (step-stop (store_value l (tree_at (abs w) j)) first y))
+  module _ (f : Free) where
+    pub last-other : ((node_of w i).kind ≡ 20 → ⊥) → Act w w 0 (act_f assign_last n i (abs w))
+    last-other k = to_last (step-as (last-is l rs (rest w) false false f (no_name k)) (step-none g))
 
-        pub last_stored : {v : List ℕ} {y : ℕ} → r ≡ 0 → Act u v y (on_rest (store_value (tree_at (abs u) i) (tree_at (abs u) j)) (abs u)) → Act w v y (act_f assign_last n i (abs w))
-        unfolding tree_at
-        last_stored {v} {y} c b =
-            let t : tree u ≡ tree w = step-tree (store_value l (tree_at (abs w) j)) first c in
-            let at : List Core → ℕ → Tree = λ xs k. first_t (plant (drop k xs)) in
-            let d : Step u v y (store_value (at (tree u) i) (at (tree u) j) (rest u)) = act-step (store_value (at (tree u) i) (at (tree u) j)) b in
-            to_last (step-as then-as (step_then (store_value l (tree_at (abs w) j)) first c (step-as (ap (λ (xs : List Core). store_value (at xs i) (at xs j) (rest u)) t) d)))
+    module _ {u : List ℕ} {r : ℕ} (k : (node_of w i).kind ≡ 20) (a : Act w u r (act (write false) i (abs w))) where
+      first : Step w u r (write false l (rest w))
+      first = act-step (write false l) a
+
+      then-as : and_then (write false l (rest w)) (λ x. store_o l (head_t rs)) ≡ assign_last (cons l rs) (rest w)
+      then-as = last-is l rs (rest w) false true f (is_name_lem k)
+
+      pub last-stop : 0 < r → Act w u r (act_f assign_last n i (abs w))
+      last-stop y = to_last (step-as then-as (step-stop (store_o l (head_t rs)) first y))
+
+      pub last-alone : r ≡ 0 → n ≡ 1 → Act w u 0 (act_f assign_last n i (abs w))
+      last-alone c e = to_last (step-as then-as (step_then (store_o l (head_t rs)) first c (step-as (ap (λ (v : Option Tree). store_o l v (rest u)) (sym (no_value_lem e))) (step-none a.ok.planted))))
+
+      pub last_stored : {v : List ℕ} {y j : ℕ} → r ≡ 0 → j ≡ i + count (tree_from (tree w) i) → (n ≡ 1 → ⊥) → Act u v y (on_rest (store_value (tree_at (abs u) i) (tree_at (abs u) j)) (abs u)) → Act w v y (act_f assign_last n i (abs w))
+      unfolding tree_at
+      last_stored {v} {y} {j} c ej m b =
+          let t : tree u ≡ tree w = step-tree (store_o l (head_t rs)) first c in
+          let at : List Core → ℕ → Tree = λ xs k. first_t (plant (drop k xs)) in
+          let d : Step u v y (store_value (at (tree u) i) (at (tree u) j) (rest u)) = act-step (store_value (at (tree u) i) (at (tree u) j)) b in
+          let q : store_value (at (tree u) i) (at (tree u) j) (rest u) ≡ store_o l (head_t rs) (rest u) = ap (λ (xs : List Core). store_value (at xs i) (at xs j) (rest u)) t ∙ ap (λ (v : Option Tree). store_o l v (rest u)) (sym (value-is j ej (omega (arith, h, m)))) in
+          to_last (step-as then-as (step_then (store_o l (head_t rs)) first c (step-as q d)))
 
 -- the words after the target was written
 pub store_needs : {w u : List ℕ} {r : ℕ} (i j : ℕ) → Act w u r (act (write false) i (abs w)) → r ≡ 0 → i < get_or w 0 0 → j < get_or w 0 0 → (node_of w i).kind ≡ 20 → Planted u × (i < get_or u 0 0) × (j < get_or u 0 0) × ((node_of u i).kind ≡ 20)

@@ -2,6 +2,7 @@
 pub mod Steps
 pub mod Names
 pub mod Writing
+pub mod Bounds
 pub mod Shapes
 pub mod Marks
 pub mod AssignFirst

@@ -1,7 +1,7 @@
 -- Marks by the phase. Assumes nothing.
 use mathlib.Core.Path.{◌≡◌, refl, sym, ap, ◌∙◌}
-use mathlib.Core.List.{List}
-use mathlib.Core.Bool.{Bool, true, false, not, ◌&&◌}
+use mathlib.Core.List.{List, []}
+use mathlib.Core.Bool.{Bool, true, false, not}
 use mathlib.Core.Option.{Option, none, some}
 use Prim.Native.Nat.{ℕ, ◌<◌}
 use lib.Dec.{eqb}
@@ -11,7 +11,8 @@ use Rattle.def_tree.specs.Base.{pick}
 use Rattle.def_tree.specs.Tree.{Tree, kind, num, Core}
 use Rattle.def_tree.specs.Combine.{Nothing, M, on_rest, tree_at, act}
 use Rattle.def_tree.proofs.Whole.{kind_at}
-use Rattle.def_pass.specs.Scope.{prevent_inline, store_inline_barrier, mark_this_sensitive, ident_of}
+use Rattle.def_pass.specs.Scope.{prevent_each, store_inline_barrier, mark_this_sensitive, ident_of}
+use Rattle.def_pass.specs.Tree.{bound_names}
 use Rattle.def_pass.specs.Walk.{St, when, mark, store_inline_barrier_m}
 use Rattle.words.specs.Layout.{node_of}
 use Rattle.words.proofs.Nodes.{tree-length, tree-at}
@@ -19,7 +20,7 @@ use Rattle.words_scopes.specs.State.{Becomes, stack}
 use Rattle.scope_read_write.proofs.Limits.{becomes-self}
 use Rattle.words_nodes.specs.Nodes.{Planted}
 use Rattle.words_state.specs.State.{rest, abs, Act}
-use Rattle.walk_write.proofs.Steps.{Step, step-act, step-as, step-none, mark-step}
+use Rattle.walk_write.proofs.Steps.{Step, step-act, act-step, step-as, step-none, mark-step}
 use Rattle.walk_write.proofs.Writing.{num-here}
 
 -- a step that a test lets or not
@@ -54,21 +55,15 @@ pub callee-other : {w : List ℕ} (i : ℕ) → i < get_or w 0 0 → Planted w �
 callee-other {w} i l g z h = callee-on w i l none g z (ident-none w i l h) (becomes-self w g.good)
 
 -- the parameter of a catch clause
-module _ {w : List ℕ} (g : Planted w) (k x : ℕ) where
-  abbrev caught : M St Nothing
-  caught s = when (eqb k 20 && not s.inlining) (mark (prevent_inline x)) s
+abbrev caught : Tree → M St Nothing
+caught b s = when (not s.inlining) (mark (prevent_each (bound_names b []))) s
 
-  pub caught-other : (k ≡ 20 → ⊥) → Act w w 0 (on_rest caught (abs w))
-  caught-other h = step-act caught (when-no (mark (prevent_inline x)) g (ap (λ (p : Bool). p && not (rest w).inlining) (ne_eqb k 20 h)))
+module _ {w : List ℕ} (i : ℕ) where
+  pub caught-off : Planted w → (rest w).inlining ≡ true → Act w w 0 (act caught i (abs w))
+  caught-off g h = step-act (caught (tree_at (abs w) i)) (when-no (mark (prevent_each (bound_names (tree_at (abs w) i) []))) g (ap not h))
 
-  test : k ≡ 20 → (eqb k 20 && not (rest w).inlining) ≡ not (rest w).inlining
-  test e = ap (λ (p : Bool). p && not (rest w).inlining) (eq-eqb k 20 e)
-
-  pub caught-off : k ≡ 20 → (rest w).inlining ≡ true → Act w w 0 (on_rest caught (abs w))
-  caught-off e h = step-act caught (when-no (mark (prevent_inline x)) g (test e ∙ ap not h))
-
-  pub caught-on : {u : List ℕ} → k ≡ 20 → (rest w).inlining ≡ false → Becomes w u (prevent_inline x (stack w)) → Act w u 0 (on_rest caught (abs w))
-  caught-on e z b = step-act caught (when-yes (mark (prevent_inline x)) (test e ∙ ap not z) (mark-step g (prevent_inline x) b))
+  pub caught-on : {u : List ℕ} → (rest w).inlining ≡ false → Act w u 0 (act (λ t. mark (prevent_each (bound_names t []))) i (abs w)) → Act w u 0 (act caught i (abs w))
+  caught-on z a = step-act (caught (tree_at (abs w) i)) (when-yes (mark (prevent_each (bound_names (tree_at (abs w) i) []))) (ap not z) (act-step (mark (prevent_each (bound_names (tree_at (abs w) i) []))) a))
 
 -- a barrier
 module _ {w : List ℕ} (g : Planted w) where

@@ -8,19 +8,17 @@ ghost use Rattle.words.specs.Layout.{tree, node_of};
 ghost use Rattle.words_nodes.specs.Nodes.{Planted, size};
 ghost use Rattle.words_state.specs.State.{abs, Act};
 
-use super::{write_ident, write_trees};
+use super::{prevent_bound, write_ident, write_trees};
 use def_file::form;
 use def_file::kind::Kind;
 use refusal::Refusal;
-use scope::{
-    Write, find_binding, is_inline_prevented, prevent_inline, record_value, var_inline_prevented,
-};
+use scope::{Write, find_binding, is_inline_prevented, record_value, var_inline_prevented};
 use scope_find::ident_at;
 use walk_declarator::kept_value;
 use words::kind_at;
 use words_nodes::skip;
 
-// Before the walk of an assignment's value: f is the assignment's form. A plain `=` to a name is not forced.
+// Before the walk of an assignment's value: f is the assignment's form. A plain `=` is forced if its target is a member.
 pub fn assign_first(w: &mut [u32], f: u32, n: usize, i: usize) -> Result<(), Refusal>
     requires { (Planted w.old) × (n ≤ length_f (plant (drop i (tree w.old)))) }
     ensures { Act w.old w.new (refused result) (act_f (assign_first f) n i (abs w.old)) }
@@ -33,10 +31,10 @@ pub fn assign_first(w: &mut [u32], f: u32, n: usize, i: usize) -> Result<(), Ref
     }
     let kind = kind_at(w, i);
     write_trees(w, n, i, Write::Plain)?;
-    match kind {
-        Kind::BindingIdent => Ok(()),
-        _ => write_trees(w, n, i, Write::Forced),
+    if kind.is_member() {
+        return write_trees(w, n, i, Write::Forced);
     }
+    Ok(())
 }
 
 // The value at j is recorded for the name at i, unless its binding is prevented.
@@ -55,7 +53,8 @@ fn store_value(w: &mut [u32], i: usize, j: usize) -> Result<(), Refusal>
     record_value(w, x, v)
 }
 
-// After the walk of an assignment's value, if the target is a name: it is prevented if the value is, else written, and the value recorded.
+// After the walk of an assignment's value: the names that the target binds are prevented if the value is; else a target that is a name is
+// written, and the value recorded.
 pub fn assign_last(w: &mut [u32], n: usize, i: usize) -> Result<(), Refusal>
     requires { (Planted w.old) × (n ≤ length_f (plant (drop i (tree w.old)))) }
     ensures { Act w.old w.new (refused result) (act_f assign_last n i (abs w.old)) }
@@ -63,18 +62,17 @@ pub fn assign_last(w: &mut [u32], n: usize, i: usize) -> Result<(), Refusal>
     if n == 0 {
         return Ok(());
     }
+    let j = skip(w, i);
+    if n > 1 && is_inline_prevented(w, j) {
+        prevent_bound(w, i);
+        return Ok(());
+    }
     let Kind::BindingIdent = kind_at(w, i) else {
         return Ok(());
     };
+    write_ident(w, i, Write::Plain)?;
     if n == 1 {
-        return write_ident(w, i, Write::Plain);
-    }
-    let j = skip(w, i);
-    if is_inline_prevented(w, j) {
-        let x = ident_at(w, i);
-        prevent_inline(w, x);
         return Ok(());
     }
-    write_ident(w, i, Write::Plain)?;
     store_value(w, i, j)
 }

@@ -2,12 +2,12 @@
 // walks have them; that there are n is a clause, a fact of the words.
 #![tactic(auto)]
 
-ghost use Rattle.std.specs.Prelude.{◌≡◌, true, false, not, ◌&&◌, ◌⊎◌, ℕ, eqb, drop, ◌<◌, ◌≤◌};
+ghost use Rattle.std.specs.Prelude.{◌≡◌, true, false, not, [], ◌⊎◌, drop, ◌<◌, ◌≤◌};
 ghost use Rattle.std.proofs.Math.Option.{some};
 ghost use Rattle.def_tree.specs.Tree.{kids, length_f, plant};
 ghost use Rattle.def_tree.specs.Combine.{on_rest, act, act_f};
-ghost use Rattle.def_pass.specs.Tree.{head_t};
-ghost use Rattle.def_pass.specs.Scope.{prevent_inline, mark_this_sensitive, ident_of};
+ghost use Rattle.def_pass.specs.Tree.{head_t, bound_names};
+ghost use Rattle.def_pass.specs.Scope.{prevent_each, mark_this_sensitive, ident_of};
 ghost use Rattle.def_pass.specs.Walk.{when, mark, write, write_tree, write_forest, write_name, but_last, assigning, pat_by, store_inline_barrier_m};
 ghost use Rattle.refusal.specs.Number.{refused};
 ghost use Rattle.words.specs.Layout.{tree, node_of};
@@ -15,8 +15,6 @@ ghost use Rattle.scope_find.specs.Answers.{is_name};
 ghost use Rattle.scope_read_write.specs.Writes.{forced};
 ghost use Rattle.words_nodes.specs.Nodes.{Planted, size};
 ghost use Rattle.words_state.specs.State.{abs, Act};
-ghost use Rattle.def_file.specs.Named.{Coded};
-ghost use Rattle.def_file.specs.declared.kind.Kind.TheVariants.{BindingIdent};
 
 pub mod assign;
 pub mod declared;
@@ -147,16 +145,37 @@ pub fn mark_callee(w: &mut [u32], i: usize)
     mark_this_sensitive(w, x);
 }
 
-// The parameter of a catch clause is prevented, in Analysis: its kind and x, its number, are those before its walk.
-pub fn mark_caught(w: &mut [u32], kind: Kind, x: u32)
-    requires { (Planted w.old) × (kind ≡ BindingIdent → x < 256) }
-    ensures { (k : ℕ) → Coded kind k → Act w.old w.new 0 (on_rest (λ s. when (eqb k 20 && not s.inlining) (mark (prevent_inline x)) s) (abs w.old)) }
+// Every name that the tree at i binds is prevented: `more` trees are open, and what is no pattern is passed over.
+pub fn prevent_bound(w: &mut [u32], i: usize)
+    requires { (Planted w.old) × (i < size w.old) }
+    ensures { Act w.old w.new 0 (act (λ t. mark (prevent_each (bound_names t []))) i (abs w.old)) }
 {
-    let Kind::BindingIdent = kind else {
-        return;
-    };
+    let mut at = i;
+    let mut more: usize = 1;
+    // The index moves by a subtree's length.
+    while 0 < more {
+        let kind = kind_at(w, at);
+        if kind.in_pattern() {
+            more = more - 1 + arity_at(w, at) as usize;
+            at += 1;
+        } else {
+            if let Kind::BindingIdent = kind {
+                let x = ident_at(w, at);
+                prevent_inline(w, x);
+            }
+            at = skip(w, at);
+            more -= 1;
+        }
+    }
+}
+
+// The names that the parameter of a catch clause at i binds are prevented, in Analysis.
+pub fn mark_caught(w: &mut [u32], i: usize)
+    requires { (Planted w.old) × (i < size w.old) }
+    ensures { Act w.old w.new 0 (act (λ b s. when (not s.inlining) (mark (prevent_each (bound_names b []))) s) i (abs w.old)) }
+{
     if !inlining(w) {
-        prevent_inline(w, x as u8);
+        prevent_bound(w, i);
     }
 }
 

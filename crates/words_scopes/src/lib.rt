@@ -247,8 +247,8 @@ pub fn prevent_inline(w: &mut [u32], x: u8)
     }
 }
 
-// How many nodes the values before binding e have, if those before binding k have `at`. It goes beside k, here and above, as a running sum of the
-// loops, so that it is not added up anew; a struct of the two has no words, and could not say that `at` belongs to k.
+// How many nodes the values before binding e have, if those before binding k have `at`. It goes beside k, as above in the loops, whose running sum it
+// is, so that it is not added up anew; a struct of the two has no words, and could not say that `at` belongs to k.
 pub fn offset_from(w: &[u32], k: usize, at: usize, e: usize) -> usize
     requires { (Good w.now) × (k ≤ e) × (e ≤ slice_index w.now 1) × (at ≡ off w.now k) × (at ≤ 512) }
     ensures { (result ≡ off w.now e) × (result ≤ 512) }

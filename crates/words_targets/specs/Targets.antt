@@ -1,7 +1,9 @@
 -- The set of targets in the words, node by node. Assumes nothing: these are definitions.
-use Rattle.std.specs.Prelude.{◌≡◌, Option, Some, None, List, Bool, false, ◌&&◌, ◌||◌, ℕ, suc, eqb, ◌≤◌, ◌<◌, length, get_or, drop}
+use Rattle.std.specs.Prelude.{◌≡◌, Option, Some, None, List, [], ◌∷◌, Bool, false, ◌&&◌, ◌||◌, ℕ, suc, eqb, ◌≤◌, ◌<◌, length, get_or, drop}
+use Rattle.def_tree.specs.Base.{member}
+use Rattle.def_tree.specs.Tree.{Core}
 use Rattle.def_pass.specs.Targets.{aims}
-use Rattle.laws_flat.specs.PassF.{some!, next_is, targets_l}
+use Rattle.laws_flat.specs.PassF.{some!, bounds_l, next_is, targets_l}
 use Rattle.words.specs.Flags.{flag_at}
 use Rattle.words.specs.Layout.{yes, node_of, tree}
 use Rattle.words_scopes.specs.State.{Names, targeted}
@@ -19,19 +21,24 @@ pub record Beside (w u : List ℕ) : Type 0 where
   pub low : (j : ℕ) → j < 16016 → get_or u j 0 ≡ get_or w j 0
   pub high : (j : ℕ) → 16024 ≤ j → get_or u j 0 ≡ get_or w j 0
 
--- the identifier for which the test holds, if it holds for one
-abbrev pub Aimed : Option ℕ → (ℕ → Bool) → Type 0
-Aimed (Some x) b = (x < 256) × ((i : ℕ) → b i ≡ eqb x i)
-Aimed None b = (i : ℕ) → b i ≡ false
+-- the tree that comes next, itself a target, targets identifier i: it is that identifier, or binds it
+abbrev pub aimed : ℕ → List Core → Bool
+aimed i [] = false
+aimed i (c ∷ cs) = (eqb c.kind 21 && eqb c.num i) || member i (bounds_l 1 0 (c ∷ cs))
+
+-- the node where the target stands, if there is one: the test holds for what is targeted there
+abbrev pub Aimed : List ℕ → Option ℕ → (ℕ → Bool) → Type 0
+Aimed w (Some k) b = (k < get_or w 0 0) × ((i : ℕ) → b i ≡ aimed i (drop k (tree w)))
+Aimed w None b = (i : ℕ) → b i ≡ false
 
 -- node k targets identifier i
 abbrev pub hits : List ℕ → ℕ → ℕ → Bool
 hits w k i = aims (node_of w k).kind && (some! (node_of w k).arity && next_is i (drop (suc k) (tree w)))
 
--- the target of node k is in the set, with what was there
-pub record Scanned (w u : List ℕ) (k : ℕ) : Type 0 where
+-- the identifiers that pass the test are in the set, with what was there
+pub record Joined (w u : List ℕ) (b : ℕ → Bool) : Type 0 where
   pub beside : Beside w u
-  pub here : (i : ℕ) → i < 256 → yes (flag_at u 16016 i) ≡ (hits w k i || yes (flag_at w 16016 i))
+  pub here : (i : ℕ) → i < 256 → yes (flag_at u 16016 i) ≡ (b i || yes (flag_at w 16016 i))
 
 -- the set is what the tree targets
 pub record Targeted (w u : List ℕ) : Type 0 where

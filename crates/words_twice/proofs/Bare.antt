@@ -7,9 +7,9 @@ use borrow.Author.Tests.{eqb-true}
 use lib.Dec.{eqb}
 use lib.ListN.{drop}
 use Rattle.def_tree.specs.Base.{pick}
-use Rattle.def_tree.specs.Tree.{Tree, Forest, node, nil, cons, length_f, tail_f, Core, core, flat, flats, take_f, drop_f, plant}
-use Rattle.def_pass.specs.Tree.{head_t}
-use Rattle.def_pass.specs.Twice.{is_function, is_named, binds, no_literal, declarators, vars, vars_f, params, twice, flag, flags, flag_named}
+use Rattle.def_tree.specs.Tree.{Tree, Forest, node, nil, cons, length_f, Core, core, flat, flats, take_f, drop_f, plant}
+use Rattle.def_pass.specs.Tree.{head_t, in_pattern, bound_names, bound_names_f}
+use Rattle.def_pass.specs.Twice.{is_function, is_named, among, no_literal, declarator, declarators, vars, vars_f, params, twice, flag, flags, flag_named}
 use Rattle.words_nodes.specs.Nodes.{forest_from}
 use Rattle.words_twice.specs.Twice.{flag_node}
 
@@ -53,20 +53,25 @@ length-bare nil = refl
 length-bare (cons t ts) = ap suc (length-bare ts)
 
 -- the test of a bare forest
-binds-bare : (i : ℕ) (ts : Forest) → binds i (head_t (bare_f ts)) ≡ binds i (head_t ts)
-binds-bare i nil = refl
-binds-bare i (cons (node k f a us) ts) = refl
+mutual
+  bounds-bare : (t : Tree) (is : List ℕ) → bound_names (bare_t t) is ≡ bound_names t is
+  bounds-bare (node k f a ts) is = ap (λ (js : List ℕ). elim (eqb k 20) as (λ x. List ℕ) [ true ↦ a ∷ is | false ↦ elim (in_pattern k) as (λ x. List ℕ) [ true ↦ js | false ↦ is ] ]) (bounds_f-bare ts is)
 
-second-bare : (ts : Forest) → no_literal (head_t (tail_f (bare_f ts))) ≡ no_literal (head_t (tail_f ts))
-second-bare nil = refl
-second-bare (cons t nil) = refl
-second-bare (cons t (cons (node k f a us) ts)) = refl
+  bounds_f-bare : (ts : Forest) (is : List ℕ) → bound_names_f (bare_f ts) is ≡ bound_names_f ts is
+  bounds_f-bare nil is = refl
+  bounds_f-bare (cons t ts) is = bounds-bare t (bound_names_f (bare_f ts) is) ∙ ap (bound_names t) (bounds_f-bare ts is)
+
+literal-bare : (t : Tree) (ts : Forest) → no_literal (bare_t t) (head_t (bare_f ts)) ≡ no_literal t (head_t ts)
+literal-bare (node k f a us) nil = refl
+literal-bare (node k f a us) (cons (node l g b vs) ts) = refl
+
+declarator-bare : (i : ℕ) (ts : Forest) → declarator i (bare_f ts) ≡ declarator i ts
+declarator-bare i nil = refl
+declarator-bare i (cons t ts) = ap₂ {C = List Bool} (λ (b : Bool) (is : List ℕ). among i b is) (literal-bare t ts) (bounds-bare t [])
 
 declarators-bare : (i : ℕ) (ts : Forest) → declarators i (bare_f ts) ≡ declarators i ts
 declarators-bare i nil = refl
-declarators-bare i (cons (node k f a us) ts) =
-    ap (λ (b : Bool). elim b as (λ x. List Bool) [ true ↦ no_literal (head_t (tail_f (bare_f us))) ∷ declarators i (bare_f ts) | false ↦ declarators i (bare_f ts) ]) (binds-bare i us)
-    ∙ ap₂ {C = List Bool} (λ (d : Bool) (ds : List Bool). elim (binds i (head_t us)) as (λ x. List Bool) [ true ↦ d ∷ ds | false ↦ ds ]) (second-bare us) (declarators-bare i ts)
+declarators-bare i (cons (node k f a us) ts) = ap₂ {C = List Bool} (λ (ds es : List Bool). ds ++ es) (declarator-bare i us) (declarators-bare i ts)
 
 var-bare : (k f : ℕ) → (eqb k 5 && eqb (pick (eqb k 20) 0 f) 0) ≡ (eqb k 5 && eqb f 0)
 var-bare k f = go (eqb k 5) refl
@@ -87,7 +92,7 @@ mutual
 
 params-bare : (i : ℕ) (ts : Forest) → params i (bare_f ts) ≡ params i ts
 params-bare i nil = refl
-params-bare i (cons (node k f a us) ts) = ap (λ (ds : List Bool). elim (eqb k 20 && eqb a i) as (λ x. List Bool) [ true ↦ false ∷ ds | false ↦ ds ]) (params-bare i ts)
+params-bare i (cons t ts) = ap₂ {C = List Bool} (λ (is : List ℕ) (ds : List Bool). among i false is ++ ds) (bounds-bare t []) (params-bare i ts)
 
 twice-bare : (ts : Forest) (i : ℕ) → twice (bare_f ts) i ≡ twice ts i
 twice-bare ts i = rw (params-bare i ts, vars_f-bare i ts) refl

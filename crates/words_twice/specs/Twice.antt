@@ -1,12 +1,15 @@
 -- Declarations counted, and the nodes with the bindings of some trees flagged. Assumes nothing: these are definitions.
-use Rattle.std.specs.Prelude.{Bool, true, false, Option, Some, None, ◌&&◌, ◌||◌, List, [], ◌∷◌, ◌++◌, ◌≡◌, ℕ, ◌+◌, ◌≤◌, ◌<◌, eqb, length, get_or, take, drop}
+use Rattle.std.specs.Prelude.{Bool, true, false, ◌&&◌, ◌||◌, List, [], ◌∷◌, ◌++◌, ◌≡◌, ℕ, ◌+◌, ◌≤◌, ◌<◌, eqb, length, get_or, take, drop}
 use Rattle.def_tree.specs.Base.{pick, to_nat}
-use Rattle.def_tree.specs.Tree.{Tree, Forest, node, nil, cons, length_f, counts, Core, core, no_core, flats, plant}
+use Rattle.def_tree.specs.Tree.{Tree, node, length_f, counts, Core, core, no_core, flats, plant}
 use Rattle.def_pass.specs.Twice.{is_named, declarators, flags}
 use Rattle.laws_flat.specs.PassF.{some! }
-use Rattle.words.specs.Layout.{tree}
-use Rattle.words_nodes.specs.Nodes.{tree_from, forest_from}
+use Rattle.words_nodes.specs.Nodes.{forest_from}
 use Rattle.words_twice.specs.declared.Tally.{Tally}
+
+-- the node is a binding of i
+abbrev pub is_binding : ℕ → Core → Bool
+is_binding i c = eqb c.kind 20 && eqb c.num i
 
 -- how many of the declarations: all, or those with an initialiser that is no literal
 abbrev pub tally : Bool → List Bool → ℕ
@@ -16,20 +19,6 @@ tally all (d ∷ ds) = to_nat (all || d) + tally all ds
 pub record Counts (t : Tally) (ds : List Bool) : Type 0 where
   pub all : t.all ≡ tally true ds
   pub costly : t.costly ≡ tally false ds
-
--- at most one declaration
-abbrev pub one : Option Bool → List Bool
-one None = []
-one (Some d) = d ∷ []
-
--- what trees declare, each by itself
-abbrev pub over : (Tree → List Bool) → Forest → List Bool
-over f nil = []
-over f (cons t ts) = f t ++ over f ts
-
--- whatever P may answer of a node is what f says of the tree there
-abbrev pub Says : List ℕ → (ℕ → Option Bool → Type 0) → (Tree → List Bool) → Type 0
-Says w P f = (j : ℕ) (r : Option Bool) → j < get_or w 0 0 → P j r → one r ≡ f (tree_from (tree w) j)
 
 -- the declarations that a node itself makes, without those in it: a `var`'s
 abbrev pub own : ℕ → Tree → List Bool

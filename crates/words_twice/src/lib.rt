@@ -1,17 +1,16 @@
 // Request 3: the bindings of the identifiers that a function or the script itself declares more than once by `var`, where one initialiser is no
-// literal, flagged in the tree as read. `binds`, `twice` and `flag_node` are the definition's; n, i: n trees from node i on, of which each loop
-// changes both; a, m: the trees that a function or the script declares by, as they come.
+// literal, flagged in the tree as read. `params`, `declarators`, `twice` and `flag_node` are the definition's; n, i: n trees from node i on, of which
+// each loop changes both; a, m: the trees that a function or the script declares by, as they come.
 #![tactic(auto)]
 
-ghost use Rattle.std.specs.Prelude.{◌≡◌, List, Bool, ℕ, ◌+◌, ◌<◌, get_or, set};
-ghost use Rattle.std.proofs.Math.Option.{some};
-ghost use Rattle.def_tree.specs.Tree.{Tree, no_core, nil, cons, counts};
+ghost use Rattle.std.specs.Prelude.{◌≡◌, ℕ, ◌+◌, ◌<◌, length, get_or, set};
+ghost use Rattle.def_tree.specs.Tree.{no_core, kids, counts};
 ghost use Rattle.def_file.specs.Named.{Coded};
-ghost use Rattle.def_pass.specs.Twice.{binds, declarators, vars_f, twice};
+ghost use Rattle.def_pass.specs.Twice.{declarator, declarators, vars_f, params, twice};
 ghost use Rattle.laws_flat.specs.PassF.{flagged_l};
-ghost use Rattle.words.specs.Layout.{tree};
+ghost use Rattle.words.specs.Layout.{node_of, tree};
 ghost use Rattle.words_nodes.specs.Nodes.{Planted, Replants, tree_from, forest_from, size};
-ghost use Rattle.words_twice.specs.Twice.{one, over, Counts, Says, own, outside, Stand, Plain, flag_node, flagged_from};
+ghost use Rattle.words_twice.specs.Twice.{is_binding, Counts, own, outside, Stand, Plain, flag_node, flagged_from};
 
 use def_file::form;
 use def_file::kind::Kind;
@@ -32,7 +31,7 @@ fn outside(kind: Kind, f: u32, c: usize) -> usize
 // Is the node at j a binding of x.
 fn binds(w: &[u32], j: usize, x: u32) -> bool
     requires { (Planted w.now) × (j < size w.now) }
-    ensures { result ≡ binds x (some (tree_from (tree w.now) j)) }
+    ensures { result ≡ is_binding x (node_of w.now j) }
 {
     match kind_at(w, j) {
         Kind::BindingIdent => num_at(w, j) == x,
@@ -40,19 +39,26 @@ fn binds(w: &[u32], j: usize, x: u32) -> bool
     }
 }
 
-// Does the declarator at j declare x, and if so, with an initialiser that is no literal.
-fn declares(w: &[u32], j: usize, x: u32) -> Option<bool>
-    requires { (Planted w.now) × (j < size w.now) }
-    ensures { one result ≡ declarators x (cons (tree_from (tree w.now) j) nil) }
+// How often the n trees from i on bind x, as the parameters of a function do, or the name of a declarator. What is no pattern is passed over.
+fn params(w: &[u32], i: usize, n: usize, x: u32) -> usize
+    requires { (Planted w.now) × (Stand (tree w.now) i n) }
+    ensures { result ≡ length (params x (forest_from (tree w.now) n i)) }
 {
-    let c = arity_at(w, j);
-    if c == 0 || !binds(w, j + 1, x) {
-        return None;
+    let mut sum = 0;
+    let mut at = i;
+    let mut more = n;
+    // A while: the index moves by a subtree's length.
+    while 0 < more {
+        if kind_at(w, at).in_pattern() {
+            more = more - 1 + arity_at(w, at) as usize;
+            at += 1;
+        } else {
+            sum += usize::from(binds(w, at, x));
+            at = skip(w, at);
+            more -= 1;
+        }
     }
-    if c == 1 {
-        return Some(false);
-    }
-    Some(!matches!(kind_at(w, skip(w, j + 1)), Kind::LITERAL))
+    sum
 }
 
 // Declarations counted: all, and those with an initialiser that is no literal.
@@ -66,24 +72,42 @@ impl Tally {
     const NONE: Tally = Tally { all: 0, costly: 0 };
 }
 
-// Counts what the n trees from i on declare: of each, `declares` says whether it does, and if so, with an initialiser that is no literal.
-fn count_trees<F: Fn(usize) -> Option<bool>>(w: &[u32], i: usize, n: usize, declares: F) -> Tally
-    requires { (Planted w.now) × (Stand (tree w.now) i n) × ((j : ℕ) → j < size w.now → F.pre declares j) }
-    ensures { (f : Tree → List Bool) → Says w.now (F.post declares) f → Counts result (over f (forest_from (tree w.now) n i)) }
+// What the declarator at j declares of x. The initialiser of a pattern is no literal.
+fn declares(w: &[u32], j: usize, x: u32) -> Tally
+    requires { (Planted w.now) × (j < size w.now) }
+    ensures { Counts result (declarator x (kids (tree_from (tree w.now) j))) }
+{
+    let c = arity_at(w, j);
+    if c == 0 {
+        return Tally::NONE;
+    }
+    let all = params(w, j + 1, 1, x);
+    if c == 1 {
+        return Tally { all, costly: 0 };
+    }
+    if !kind_at(w, j + 1).is_pattern() && matches!(kind_at(w, skip(w, j + 1)), Kind::LITERAL) {
+        return Tally { all, costly: 0 };
+    }
+    Tally { all, costly: all }
+}
+
+// What the n declarators from i on declare of x.
+fn declarators(w: &[u32], i: usize, n: usize, x: u32) -> Tally
+    requires { (Planted w.now) × (Stand (tree w.now) i n) }
+    ensures { Counts result (declarators x (forest_from (tree w.now) n i)) }
 {
     let mut sum = Tally::NONE;
     let mut at = i;
     for _k in 0..n {
-        if let Some(costly) = declares(at) {
-            sum.all += 1;
-            sum.costly += usize::from(costly);
-        }
+        let one = declares(w, at, x);
+        sum.all += one.all;
+        sum.costly += one.costly;
         at = skip(w, at);
     }
     sum
 }
 
-// How many of the declarators of the node at j declare x, if it is a `var`.
+// What the declarators of the node at j declare of x, if it is a `var`.
 fn var_at(w: &[u32], j: usize, x: u32) -> Tally
     requires { (Planted w.now) × (j < size w.now) }
     ensures { Counts result (own x (tree_from (tree w.now) j)) }
@@ -95,10 +119,10 @@ fn var_at(w: &[u32], j: usize, x: u32) -> Tally
         return Tally::NONE;
     }
     let n = arity_at(w, j) as usize;
-    count_trees(w, j + 1, n, |at| declares(w, at, x))
+    declarators(w, j + 1, n, x)
 }
 
-// How many declarators declare x in the n trees from i on, nested functions passed over.
+// What declarators declare of x in the n trees from i on, nested functions passed over.
 fn vars(w: &[u32], i: usize, n: usize, x: u32) -> Tally
     requires { (Planted w.now) × (Stand (tree w.now) i n) }
     ensures { Counts result (vars_f x (forest_from (tree w.now) n i)) }
@@ -129,10 +153,10 @@ fn twice(w: &[u32], i: usize, n: usize, x: u32) -> bool
     requires { (Planted w.now) × (Stand (tree w.now) i n) }
     ensures { result ≡ twice (forest_from (tree w.now) n i) x }
 {
-    // A parameter has no initialiser.
-    let p = count_trees(w, i, n, |at| binds(w, at, x).then_some(false));
+    // A parameter has no initialiser: a default is none.
+    let p = params(w, i, n, x);
     let v = vars(w, i, n, x);
-    2 <= p.all + v.all && 0 < v.costly
+    2 <= p + v.all && 0 < v.costly
 }
 
 // The node at j, if it is a binding that the m trees from a on declare twice, is flagged on its form.

@@ -153,6 +153,8 @@ fn all(repeats: usize) {
     );
     for nodes in [100, 200, 300, 400, 600, 800, 1000] {
         show("gates", nodes, least(&[scripts::gates(nodes)], repeats, 10));
+        let patterns = [scripts::pattern_gates(nodes)];
+        show("gates with patterns", nodes, least(&patterns, repeats, 10));
     }
     for nodes in [100, 300, 600, 1000] {
         let list = scripts::random(nodes, 100);

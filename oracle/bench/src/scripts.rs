@@ -32,8 +32,39 @@ const PARTS: [&str; 3] = [
      }"#,
 ];
 
+/// The same gate by patterns: what it is given is taken apart, with defaults.
+const PATTERN_PARTS: [&str; 3] = [
+    "function minutes@({hour: hour$1@, minute: minute$1@ = 0}) {
+       var total$1@ = hour$1@ * 60 + minute$1@;
+       if (total$1@ >= day) total$1@ -= day;
+       return total$1@;
+     }",
+    "function between@(now$3@, [from$3@, to$3@]) {
+       if (to$3@ < from$3@) { [from$3@, to$3@] = [to$3@, from$3@]; }
+       return now$3@ >= from$3@ && now$3@ < to$3@;
+     }",
+    r#"function gate@({today: today$2@, before: before$2@ = today$2@}) {
+       var start$2@ = minutes@(today$2@) + lead;
+       const [rise$2@, end$2@ = hold] = before$2@.levels;
+       for (const {at: at$4@, shut: [from$4@, to$4@] = [0, day]} of today$2@.plan) {
+         if (between@(at$4@, [from$4@, to$4@])) log("gate", rise$2@);
+       }
+       open = between@(minutes@(before$2@), [start$2@, end$2@]);
+       return open ? 1 : void 0;
+     }"#,
+];
+
 /// Parts of gates, each of them left out that would be over `nodes`, then calls and empty statements up to exactly `nodes`.
 pub fn gates(nodes: usize) -> Script {
+    filled(nodes, &PARTS)
+}
+
+/// The same with patterns.
+pub fn pattern_gates(nodes: usize) -> Script {
+    filled(nodes, &PATTERN_PARTS)
+}
+
+fn filled(nodes: usize, parts: &[&str]) -> Script {
     let read = |source: &str| parse(source).unwrap_or_else(|what| panic!("{what}"));
     let mut source = HEAD.to_string();
     let mut add = |part: &str| {
@@ -43,7 +74,7 @@ pub fn gates(nodes: usize) -> Script {
         }
     };
     for number in 10..30 {
-        PARTS
+        parts
             .iter()
             .for_each(|part| add(&part.replace('@', &number.to_string())));
     }

@@ -1,6 +1,6 @@
 //! The original and the port beside one another in one process: `beside SEED TREES DAMAGED [JOBS]`.
 //!
-//! TREES random scripts, one in 10 of them near a limit, and DAMAGED damaged copies of such scripts. Every answer is compared:
+//! TREES random scripts, one in 3 of them with patterns and one in 10 near a limit, and DAMAGED damaged copies of such scripts. Every answer is compared:
 //! refusal, nodes, runs, mark, root bindings in their order; and each result has the assignments of its script. Of one tree in 8
 //! also: rows 1 and 10 with their buffers, and two paired copies on the port. The files depend on SEED alone. What is answered
 //! otherwise is made as small as it will go. Scripts that a request amends leave the comparison: they are counted, and their
@@ -8,7 +8,7 @@
 
 mod port;
 
-use generator::{damage::damage, near::near_limit, pairs, random_script, rng::Rng};
+use generator::{damage::damage, pairs, rng::Rng, Sort};
 use negbosun::Inliner;
 use programs::amended::{file_leaves, leaves};
 use programs::shrink::small_file;
@@ -38,6 +38,8 @@ struct Tally {
     buffers: u64,
     /// Assignments outside initialisers, in scripts that have a result.
     assignments: u64,
+    /// Results with a pattern.
+    patterns: u64,
 }
 
 impl Tally {
@@ -54,6 +56,7 @@ impl Tally {
         self.paired += more.paired;
         self.buffers += more.buffers;
         self.assignments += more.assignments;
+        self.patterns += more.patterns;
     }
 
     fn met(&mut self, answer: &Answer, script: Option<&Script>) {
@@ -62,17 +65,23 @@ impl Tally {
             Answer::Done(done) => {
                 self.rows[0] += 1;
                 self.again += u64::from(done.runs > 1);
+                self.patterns += u64::from(has_pattern(&done.tree));
                 self.other += u64::from(script.is_some_and(|script| script.tree != done.tree));
             }
         }
     }
 }
 
+fn has_pattern(tree: &Tree) -> bool {
+    matches!(tree.kind, 45 | 46) || tree.kids.iter().any(has_pattern)
+}
+
 fn next_script(rng: &mut Rng) -> Script {
     let high = *rng.pick(&[20, 40, 80, 160, 400, 1024]);
-    let script = random_script(rng, 5, high);
+    let sort = Sort::any(rng);
+    let script = sort.script(rng, 5, high);
     match rng.once_in(10) {
-        true => near_limit(rng, &script),
+        true => sort.near_limit(rng, &script),
         false => script,
     }
 }
@@ -235,8 +244,8 @@ fn show(name: &str, tally: &Tally, reports: &[String]) {
         tally.passed, tally.failed, tally.amended
     );
     println!(
-        "  results {}, of them {} after more than one run",
-        tally.rows[0], tally.again
+        "  results {}, of them {} after more than one run and {} with patterns",
+        tally.rows[0], tally.again, tally.patterns
     );
     let rows: Vec<String> = (1..=10)
         .map(|row| format!("{row}: {}", tally.rows[row]))

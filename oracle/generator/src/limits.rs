@@ -47,6 +47,19 @@ pub const FAMILIES: &[Family] = families! {
     hoisted 128 9;
 };
 
+/// The same with patterns.
+pub const PATTERN_FAMILIES: &[Family] = families! {
+    array_pattern_depth 200 6;
+    object_pattern_depth 200 6;
+    default_pattern_depth 200 6;
+    constant_in_default 199 8;
+    value_in_default 200 8;
+    arrows_in_defaults 31 8;
+    void_in_default 1024 9;
+    bound_by_parameter 256 9;
+    bound_by_head 256 9;
+};
+
 fn texts(list: &[&str]) -> Vec<Vec<u8>> {
     list.iter().map(|text| text.as_bytes().to_vec()).collect()
 }
@@ -287,5 +300,101 @@ fn hoisted(k: usize) -> Vec<u8> {
     write(&Script {
         tree: node(1, 0, list),
         texts: many(k),
+    })
+}
+
+fn array_pattern(list: Vec<Tree>) -> Tree {
+    node(46, 0, list)
+}
+
+/// `var` and the pattern: script, declaration and declarator are above it.
+fn taken_apart(pattern: Tree) -> Tree {
+    declare(0, pattern, None)
+}
+
+/// A name in array patterns, `k` deep.
+fn array_pattern_depth(k: usize) -> Vec<u8> {
+    let pattern = nested(k - 4, binding(0), |p| array_pattern(vec![p]));
+    file(vec![taken_apart(pattern)], &["a"])
+}
+
+/// A name in object patterns, two deeper with each.
+fn object_pattern_depth(k: usize) -> Vec<u8> {
+    let layer = |p| node(45, 0, vec![named(47, 0, 0, vec![p])]);
+    let inner = nested(k % 2, binding(0), |p| array_pattern(vec![p]));
+    file(vec![taken_apart(nested((k - 4) / 2, inner, layer))], &["a"])
+}
+
+/// The default of a pattern with a default, and so on: two deeper with each.
+fn default_pattern_depth(k: usize) -> Vec<u8> {
+    let layer = |p| array_pattern(vec![node(48, 0, vec![p, null()])]);
+    let inner = nested(k % 2, array_pattern(vec![]), |p| array_pattern(vec![p]));
+    file(vec![taken_apart(nested((k - 4) / 2, inner, layer))], &[])
+}
+
+/// A parameter with a default, at depth 3: the default is at depth 4.
+fn with_default(name: u32, value: Tree) -> Tree {
+    let param = node(48, 0, vec![binding(name), value]);
+    function(binding(name), vec![param], vec![])
+}
+
+/// A constant named in a default at depth `k` is followed one deeper.
+fn constant_in_default(k: usize) -> Vec<u8> {
+    let use_ = with_default(1, in_arrays(k - 4, ident(0)));
+    file(
+        vec![declare(2, binding(0), Some(null())), use_],
+        &["a", "f"],
+    )
+}
+
+/// A value of height 100 that makes a default `k` deep.
+fn value_in_default(k: usize) -> Vec<u8> {
+    let value = in_arrays(99, null());
+    let use_ = with_default(1, in_arrays(k - 103, ident(0)));
+    file(vec![declare(1, binding(0), Some(value)), use_], &["a", "f"])
+}
+
+/// Each default is an arrow with a parameter whose default is the next.
+fn arrows_in_defaults(k: usize) -> Vec<u8> {
+    let layer = |e| {
+        let param = node(48, 0, vec![binding(0), e]);
+        node(40, 1, vec![param, null()])
+    };
+    file(vec![statement(nested(k, null(), layer))], &["a"])
+}
+
+/// `var x; let [y = x] = null;` and nulls: one node fewer than `k`, and `void 0` is one more.
+fn void_in_default(k: usize) -> Vec<u8> {
+    let pattern = array_pattern(vec![node(48, 0, vec![binding(1), ident(0)])]);
+    let list = vec![
+        declare(0, binding(0), None),
+        declare(1, pattern, Some(null())),
+        statement(array(nulls(k - 14))),
+    ];
+    let made = file(list, &["x", "y"]);
+    debug_assert_eq!(tree_file::read(&made).map(|s| s.tree.count()), Ok(k - 1));
+    made
+}
+
+/// `k` live bindings: the function, and what its one parameter binds, one of it by the function's name.
+fn bound_by_parameter(k: usize) -> Vec<u8> {
+    let names = (0..k as u32 - 1).map(binding).collect();
+    let list = vec![function(binding(0), vec![array_pattern(names)], vec![])];
+    write(&Script {
+        tree: node(1, 0, list),
+        texts: many(k - 1),
+    })
+}
+
+/// A constant, and what a head without a declaration binds, one of it by the constant's name.
+fn bound_by_head(k: usize) -> Vec<u8> {
+    let pattern = array_pattern((0..k as u32 - 1).map(binding).collect());
+    let list = vec![
+        declare(2, binding(0), Some(null())),
+        node(14, 0, vec![pattern, null(), node(3, 0, vec![])]),
+    ];
+    write(&Script {
+        tree: node(1, 0, list),
+        texts: many(k - 1),
     })
 }

@@ -6,14 +6,25 @@ use tree_file::{read, write, Script, Tree, MAX_DEPTH, MAX_NODES};
 
 /// The script, made larger in one respect; or as it was where that is not readable.
 pub fn near_limit(rng: &mut Rng, script: &Script) -> Script {
+    nearer(rng, script, 6)
+}
+
+/// The same, by a deep or a long pattern too.
+pub fn near_limit_with_patterns(rng: &mut Rng, script: &Script) -> Script {
+    nearer(rng, script, 8)
+}
+
+fn nearer(rng: &mut Rng, script: &Script, ways: usize) -> Script {
     let mut near = script.clone();
-    match rng.below(6) {
+    match rng.below(ways) {
         0 => many_nodes(rng, &mut near),
         1 => many_scopes(rng, &mut near),
         2 => deep(rng, &mut near),
         3 => many_names(rng, &mut near),
         4 => large_value(rng, &mut near),
-        _ => right_sides(rng, &mut near),
+        5 => right_sides(rng, &mut near),
+        6 => deep_pattern(rng, &mut near),
+        _ => long_pattern(rng, &mut near),
     }
     if read(&write(&near)).is_ok() {
         near
@@ -162,4 +173,51 @@ fn right_sides(rng: &mut Rng, script: &mut Script) {
         }
         *place = inner;
     }
+}
+
+/// A pattern in each place that takes one, around a statement or two.
+fn placed(rng: &mut Rng, pattern: Tree, name: u32) -> Tree {
+    let (null, empty) = (node(22, 0, vec![]), node(3, 0, vec![]));
+    match rng.below(6) {
+        0 => function(binding(name), vec![pattern], vec![]),
+        1 => statement(node(40, 1, vec![pattern, null])),
+        2 => declare(rng.below(3) as u8, pattern, Some(null)),
+        3 => node(rng.from(13, 14) as u8, 0, vec![pattern, null, empty]),
+        4 => statement(assign(pattern, null)),
+        _ => {
+            let catch = node(17, 0, vec![pattern, block(vec![])]);
+            node(16, 1, vec![block(vec![]), catch])
+        }
+    }
+}
+
+/// A pattern of about 200 deep, with defaults on the way and an identifier inside.
+fn deep_pattern(rng: &mut Rng, script: &mut Script) {
+    let name = rng.below(script.texts.len()) as u32;
+    let mut inner = node(48, 0, vec![binding(name), array(vec![ident(name)])]);
+    let room = MAX_DEPTH - 6 - rng.below(5);
+    while inner.height() < room {
+        let target = match inner.kind {
+            45 | 46 if rng.once_in(3) => node(48, 0, vec![inner, node(22, 0, vec![])]),
+            _ => inner,
+        };
+        inner = match rng.below(2) {
+            0 => node(46, 0, vec![target]),
+            _ => node(45, 0, vec![named(47, name, 0, vec![target])]),
+        };
+    }
+    let made = placed(rng, inner, name);
+    let place = rng.below(script.tree.kids.len() + 1);
+    script.tree.kids.insert(place, made);
+}
+
+/// A pattern of so many fresh names that the live bindings are near their limit.
+fn long_pattern(rng: &mut Rng, script: &mut Script) {
+    let name = rng.below(script.texts.len()) as u32;
+    let count = rng.from(225, 250);
+    let names = (0..count).map(|number| binding(add_text(script, format!("n{number}"))));
+    let pattern = node(46, 0, names.collect());
+    let made = placed(rng, pattern, name);
+    let place = rng.below(script.tree.kids.len() + 1);
+    script.tree.kids.insert(place, made);
 }

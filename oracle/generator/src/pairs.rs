@@ -21,7 +21,7 @@ pub fn paired(rng: &mut Rng, script: &Script) -> Script {
         } else if node.is_literal() {
             let other = literal(rng, &mut texts);
             *node = other;
-        } else if matches!(node.kind, 29 | 37) {
+        } else if matches!(node.kind, 29 | 37 | 47) {
             node.text = texts.number(property(rng));
         }
     });

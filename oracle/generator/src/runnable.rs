@@ -42,6 +42,8 @@ struct Allowed {
     subtrees: bool,
     before: bool,
     arrows: bool,
+    /// Where they are not, nothing is drawn for them.
+    patterns: bool,
 }
 
 impl Allowed {
@@ -53,6 +55,7 @@ impl Allowed {
             subtrees: rng.once_in(2),
             before: rng.once_in(3),
             arrows: rng.once_in(2),
+            patterns: false,
         }
     }
 }
@@ -68,9 +71,22 @@ struct Maker<'a> {
     functions: Vec<usize>,
 }
 
-/// A script of about `size` nodes.
+/// A script of about `size` nodes without patterns.
 pub fn script(rng: &mut Rng, size: usize) -> Script {
     let allowed = Allowed::draw(rng);
+    made(rng, size, allowed)
+}
+
+/// One with patterns.
+pub fn pattern_script(rng: &mut Rng, size: usize) -> Script {
+    let allowed = Allowed {
+        patterns: true,
+        ..Allowed::draw(rng)
+    };
+    made(rng, size, allowed)
+}
+
+fn made(rng: &mut Rng, size: usize, allowed: Allowed) -> Script {
     let mut maker = Maker {
         rng,
         allowed,
@@ -194,11 +210,63 @@ impl Maker<'_> {
         vars.map(|name| name.text).collect()
     }
 
+    fn takes_pattern(&mut self) -> bool {
+        self.allowed.patterns && self.rng.once_in(3)
+    }
+
+    /// A pattern over these names, and a value that it takes apart without an error of its own.
+    fn taken_apart(&mut self, names: &[u32]) -> (Tree, Tree) {
+        let mut targets: Vec<Tree> = names.iter().map(|name| binding(*name)).collect();
+        for target in &mut targets {
+            if self.rng.once_in(3) {
+                let value = self.expression(3);
+                *target = node(48, 0, vec![std::mem::take(target), value]);
+            }
+        }
+        if self.rng.once_in(2) {
+            let count = self.rng.from(names.len() - 1, names.len());
+            let value = array((0..count).map(|_| self.expression(1)).collect());
+            return (node(46, 0, targets), value);
+        }
+        let keys = ["p", "q"].map(|key| self.text(key.as_bytes()));
+        let value = match self.rng.once_in(2) {
+            true => self.host("o"),
+            false => {
+                let properties = keys.map(|key| named(29, key, 0, vec![self.expression(1)]));
+                node(28, 0, properties.into())
+            }
+        };
+        let targets = targets.into_iter().zip(keys.into_iter().cycle());
+        let properties = targets.map(|(target, key)| named(47, key, 0, vec![target]));
+        (node(45, 0, properties.collect()), value)
+    }
+
+    /// One or two fresh names.
+    fn fresh_names(&mut self) -> Vec<u32> {
+        (0..self.rng.from(1, 2)).map(|_| self.fresh()).collect()
+    }
+
+    fn declared_pattern(&mut self, form: u8) -> Tree {
+        let old = self.own_vars();
+        let mut names = self.fresh_names();
+        if form == 0 && !old.is_empty() && self.rng.once_in(3) {
+            names[0] = *self.rng.pick(&old);
+        }
+        let (pattern, value) = self.taken_apart(&names);
+        for name in names.into_iter().filter(|name| !old.contains(name)) {
+            self.add(name, [Sort::Var, Sort::Let, Sort::Const][form as usize]);
+        }
+        declare(form, pattern, Some(value))
+    }
+
     fn declaration(&mut self, size: usize) -> Tree {
         let form = match *self.rng.pick(&[0, 0, 0, 1, 1, 2]) {
             2 if !self.allowed.constants => 1,
             form => form,
         };
+        if self.takes_pattern() {
+            return self.declared_pattern(form);
+        }
         let old = self.own_vars();
         let again = self.allowed.again && form == 0 && !old.is_empty() && self.rng.once_in(3);
         let text = if again {
@@ -228,6 +296,13 @@ impl Maker<'_> {
         self.in_scope(true, |maker| {
             let params: Vec<u32> = (0..maker.rng.below(3)).map(|_| maker.fresh()).collect();
             params.iter().for_each(|text| maker.add(*text, Sort::Var));
+            let mut kids: Vec<Tree> = params.iter().map(|text| binding(*text)).collect();
+            if maker.takes_pattern() {
+                let names = maker.fresh_names();
+                let (pattern, value) = maker.taken_apart(&names);
+                kids.push(node(48, 0, vec![pattern, value]));
+                names.iter().for_each(|text| maker.add(*text, Sort::Var));
+            }
             let place = Place {
                 in_function: true,
                 in_loop: false,
@@ -238,7 +313,6 @@ impl Maker<'_> {
                 let value = maker.expression(2);
                 body.push(node(8, 0, vec![value]));
             }
-            let mut kids: Vec<Tree> = params.iter().map(|text| binding(*text)).collect();
             kids.push(block(body));
             kids
         })
@@ -289,6 +363,9 @@ impl Maker<'_> {
         let old = self
             .any_name()
             .filter(|name| matches!(name.sort, Sort::Var | Sort::Let));
+        if self.takes_pattern() {
+            return self.for_each_pattern(size, inner, old);
+        }
         self.in_scope(false, |maker| {
             let head = match old {
                 Some(name) if maker.rng.once_in(2) => binding(name.text),
@@ -304,6 +381,26 @@ impl Maker<'_> {
         })
     }
 
+    fn for_each_pattern(&mut self, size: usize, inner: Place, old: Option<Name>) -> Tree {
+        self.in_scope(false, |maker| {
+            let (names, form) = match old {
+                Some(name) if maker.rng.once_in(2) => (vec![name.text], None),
+                _ => (maker.fresh_names(), Some(maker.rng.below(2) as u8)),
+            };
+            let (pattern, value) = maker.taken_apart(&names);
+            let head = match form {
+                None => pattern,
+                Some(form) => {
+                    let sort = if form == 0 { Sort::Var } else { Sort::Let };
+                    names.iter().for_each(|text| maker.add(*text, sort));
+                    declare(form, pattern, None)
+                }
+            };
+            let body = maker.block(size, inner);
+            node(14, 0, vec![head, array(vec![value.clone(), value]), body])
+        })
+    }
+
     fn try_stmt(&mut self, size: usize, place: Place) -> Tree {
         let mut inside = self.block(size / 2 + 1, place);
         if self.rng.once_in(2) && !ends(&inside) {
@@ -313,8 +410,13 @@ impl Maker<'_> {
         let catch = self.in_scope(false, |maker| {
             let text = maker.fresh();
             maker.add(text, Sort::Let);
+            let mut name = binding(text);
+            if maker.takes_pattern() {
+                let key = maker.text(b"length");
+                name = node(45, 0, vec![named(47, key, 0, vec![name])]);
+            }
             let body = maker.block(size / 2 + 1, place);
-            node(17, 0, vec![binding(text), body])
+            node(17, 0, vec![name, body])
         });
         if self.rng.once_in(4) {
             let last = self.block(3, Place::default());
@@ -392,6 +494,16 @@ impl Maker<'_> {
         }
         if name.sort == Sort::Const && !self.rng.once_in(6) {
             return self.expression(size);
+        }
+        if self.takes_pattern() {
+            let other = self.any_name();
+            let other = other.filter(|other| matches!(other.sort, Sort::Var | Sort::Let));
+            let names: Vec<u32> = std::iter::once(name)
+                .chain(other)
+                .map(|name| name.text)
+                .collect();
+            let (pattern, value) = self.taken_apart(&names);
+            return assign(pattern, value);
         }
         let value = if self.rng.once_in(2) {
             self.expression(1)

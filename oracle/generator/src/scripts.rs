@@ -33,6 +33,9 @@ struct Maker<'a> {
     expression_weights: Vec<usize>,
     /// How often, out of ten times, a group of statements that belong together is written.
     idioms: usize,
+    /// How often, out of ten times, a pattern stands where one may. Where it is 0 nothing is drawn for it, so that scripts without
+    /// patterns are those of their seed whatever patterns there are.
+    patterns: usize,
 }
 
 /// Kinds of statements, with the fewest nodes and the usual weight of each.
@@ -81,14 +84,20 @@ const EXPRESSIONS: [(u8, usize, usize); 21] = [
     (42, 2, 2),
 ];
 
-/// A readable script of at most `nodes` nodes, 1 to 1,024.
+/// A readable script without patterns, of at most `nodes` nodes, 1 to 1,024.
 pub fn script(rng: &mut Rng, nodes: usize) -> Script {
+    Maker::new(rng).script(nodes)
+}
+
+/// The same with patterns in every place that takes one.
+pub fn pattern_script(rng: &mut Rng, nodes: usize) -> Script {
     let mut maker = Maker::new(rng);
-    let tree = node(1, 0, maker.statements(nodes - 1));
-    Script {
-        tree,
-        texts: maker.texts,
-    }
+    maker.patterns = *maker.rng.pick(&[2, 4, 6, 9]);
+    maker.script(nodes)
+}
+
+fn nodes_of(list: &[Tree]) -> usize {
+    list.iter().map(Tree::count).sum()
 }
 
 impl<'a> Maker<'a> {
@@ -130,6 +139,15 @@ impl<'a> Maker<'a> {
             statement_weights,
             expression_weights,
             idioms,
+            patterns: 0,
+        }
+    }
+
+    fn script(mut self, nodes: usize) -> Script {
+        let tree = node(1, 0, self.statements(nodes - 1));
+        Script {
+            tree,
+            texts: self.texts,
         }
     }
 
@@ -176,7 +194,7 @@ impl<'a> Maker<'a> {
             } else {
                 vec![self.any_statement(share)]
             };
-            let size: usize = made.iter().map(Tree::count).sum();
+            let size = nodes_of(&made);
             assert!(size <= share, "statements larger than their share");
             left -= size;
             list.extend(made);
@@ -207,9 +225,18 @@ impl<'a> Maker<'a> {
 
     /// A block of exactly or nearly `n` nodes, `n` at least 1, and parameters before it.
     fn function(&mut self, n: usize) -> Vec<Tree> {
-        let params = self.rng.below(3).min(n - 1);
-        let mut kids: Vec<Tree> = (0..params).map(|_| self.name(20)).collect();
-        kids.push(self.block(n - params));
+        let mut kids = self.params(n - 1);
+        kids.push(self.block(n - nodes_of(&kids)));
+        kids
+    }
+
+    /// Up to two parameters, of at most `n` nodes together.
+    fn params(&mut self, n: usize) -> Vec<Tree> {
+        let count = self.rng.below(3).min(n);
+        let mut kids = Vec::new();
+        for still in (0..count).rev() {
+            kids.push(self.binding_target(n - nodes_of(&kids) - still));
+        }
         kids
     }
 
@@ -222,9 +249,10 @@ impl<'a> Maker<'a> {
                 _ if kids.len() + 1 == most || self.rng.once_in(2) => left,
                 _ => self.rng.from(2, left),
             };
-            let mut declarator = vec![self.name(20)];
-            if share > 2 {
-                declarator.push(self.value(share - 2));
+            let mut declarator = vec![self.name_or_pattern(share - 1 - usize::from(share > 2))];
+            let rest = share - 1 - nodes_of(&declarator);
+            if rest > 0 {
+                declarator.push(self.value(rest));
             }
             kids.push(node(6, 0, declarator));
             left -= share;
@@ -265,10 +293,14 @@ impl<'a> Maker<'a> {
 
     fn for_head(&mut self, n: usize) -> Tree {
         if n >= 3 && self.rng.once_in(2) {
+            if self.takes_pattern() {
+                let form = self.rng.below(3) as u8;
+                return declare(form, self.pattern(n - 2), None);
+            }
             let room = if self.rng.once_in(5) { n.min(6) } else { 3 };
             self.declaration(room, 1)
         } else {
-            self.name(20)
+            self.name_or_pattern(n)
         }
     }
 
@@ -294,9 +326,9 @@ impl<'a> Maker<'a> {
     fn catch(&mut self, n: usize) -> Tree {
         let mut kids = Vec::new();
         if n > 2 && !self.rng.once_in(4) {
-            kids.push(self.name(20));
+            kids.push(self.name_or_pattern(n - 2));
         }
-        kids.push(self.block(n - 1 - kids.len()));
+        kids.push(self.block(n - 1 - nodes_of(&kids)));
         node(17, 0, kids)
     }
 
@@ -320,7 +352,7 @@ impl<'a> Maker<'a> {
             kids.push(self.expression(test));
         }
         let form = kids.len() as u8;
-        let used: usize = kids.iter().map(Tree::count).sum();
+        let used = nodes_of(&kids);
         kids.extend(self.statements(n - 1 - used));
         node(19, form, kids)
     }
@@ -473,17 +505,140 @@ impl<'a> Maker<'a> {
             _ => 0,
         };
         let room = if n > 4 { self.rng.from(1, n - 3) } else { 1 };
-        let target = self.target(room.min(5), 20);
+        let target = match form {
+            0 if self.takes_pattern() => self.pattern(room.max(n.min(9) - 2)),
+            _ => self.target(room.min(5), 20),
+        };
         let rest = n - 1 - target.count();
         let value = self.value(rest);
         node(33, form, vec![target, value])
     }
 
     fn expression_arrow(&mut self, n: usize) -> Tree {
-        let params = self.rng.below(3).min(n - 2);
-        let mut kids: Vec<Tree> = (0..params).map(|_| self.name(20)).collect();
-        kids.push(self.expression(n - 1 - params));
+        let mut kids = self.params(n - 2);
+        kids.push(self.expression(n - 1 - nodes_of(&kids)));
         node(40, 1, kids)
+    }
+}
+
+/// Patterns, of at most `n` nodes, `n` at least 1.
+impl Maker<'_> {
+    fn takes_pattern(&mut self) -> bool {
+        self.patterns > 0 && self.rng.below(10) < self.patterns
+    }
+
+    /// Where a name or a pattern may stand.
+    fn name_or_pattern(&mut self, n: usize) -> Tree {
+        match self.takes_pattern() {
+            true => self.pattern(n),
+            false => self.name(20),
+        }
+    }
+
+    /// A target: a name or a pattern, with a default or without.
+    fn binding_target(&mut self, n: usize) -> Tree {
+        if n < 3 || !self.takes_pattern() || self.rng.once_in(2) {
+            return self.name_or_pattern(n);
+        }
+        let name = self.name_or_pattern(n - 2);
+        let room = self.rng.from(1, (n - 1 - name.count()).min(8));
+        // An assignment in a default changes how the names after it are taken.
+        let value = match room {
+            3.. if self.rng.once_in(3) => self.assignment(room),
+            _ => self.value(room),
+        };
+        node(48, 0, vec![name, value])
+    }
+
+    /// An object pattern or an array pattern; seldom one that takes all the room.
+    fn pattern(&mut self, n: usize) -> Tree {
+        let kind = self.rng.from(45, 46) as u8;
+        let most = if self.rng.once_in(6) { n } else { n.min(9) };
+        let mut left = self.rng.from(most.min(3), most) - 1;
+        let key = usize::from(kind == 45);
+        let mut kids = Vec::new();
+        while left > key && !(kids.len() > 1 && self.rng.once_in(3)) {
+            let share = self.rng.from(1 + key, left);
+            let mut target = self.binding_target(share - key);
+            if kind == 45 {
+                target = named(47, self.any_text(), 0, vec![target]);
+            }
+            left -= target.count();
+            kids.push(target);
+        }
+        node(kind, 0, kids)
+    }
+
+    /// A pattern that binds the given name, of up to six nodes more.
+    fn pattern_of(&mut self, name: Tree) -> Tree {
+        let bare = match self.rng.once_in(4) {
+            true => node(48, 0, vec![name, self.leaf()]),
+            false => name,
+        };
+        let kind = self.rng.from(45, 46) as u8;
+        let mut kids = vec![bare];
+        if self.rng.once_in(2) {
+            let at = self.rng.below(2);
+            let other = self.name(20);
+            kids.insert(at, other);
+        }
+        if kind == 45 {
+            for kid in &mut kids {
+                *kid = named(47, self.any_text(), 0, vec![std::mem::take(kid)]);
+            }
+        }
+        node(kind, 0, kids)
+    }
+
+    /// Groups of statements around a name that a pattern binds or sets.
+    fn pattern_idiom(&mut self, name: Tree, read: Tree) -> Vec<Tree> {
+        let form = self.rng.below(3) as u8;
+        let pattern = self.pattern_of(name.clone());
+        let other = self.name(20);
+        match self.rng.below(6) {
+            // a parameter taken apart, an alias of what it binds, something between, and a read
+            0 => {
+                let alias = declare(form, other.clone(), Some(as_ident(&name)));
+                let between = self.statement(3, 4);
+                let body = vec![alias, between, statement(as_ident(&other))];
+                vec![function(self.name(20), vec![pattern], body)]
+            }
+            // a value, set again by a pattern
+            1 => vec![
+                declare(form.min(1), name, Some(self.leaf())),
+                statement(assign(pattern, self.leaf())),
+                statement(read),
+            ],
+            // a declaration taken apart, and a read
+            2 => vec![
+                declare(form, pattern, Some(self.leaf())),
+                statement(array(vec![read])),
+            ],
+            // the same after a declaration of the name
+            3 => vec![
+                declare(0, name, Some(self.leaf())),
+                declare(0, pattern, Some(self.leaf())),
+                statement(read),
+            ],
+            // caught and read
+            4 => {
+                let body = block(vec![statement(read)]);
+                let catch = node(17, 0, vec![pattern, body]);
+                vec![node(16, 1, vec![block(vec![]), catch])]
+            }
+            // a constant that names a variable, which a pattern or a head then sets
+            _ => vec![
+                declare(2, other.clone(), Some(read)),
+                match self.rng.once_in(2) {
+                    true => statement(assign(pattern, self.leaf())),
+                    false => {
+                        let kind = self.rng.from(13, 14) as u8;
+                        node(kind, 0, vec![pattern, self.leaf(), node(3, 0, vec![])])
+                    }
+                },
+                statement(as_ident(&other)),
+            ],
+        }
     }
 }
 
@@ -492,6 +647,14 @@ impl Maker<'_> {
     fn idiom(&mut self, n: usize) -> Vec<Tree> {
         let name = self.name(20);
         let read = as_ident(&name);
+        if n >= 10 && self.takes_pattern() {
+            let list = self.pattern_idiom(name, read);
+            return if nodes_of(&list) <= n {
+                list
+            } else {
+                vec![self.statement(n, 4)]
+            };
+        }
         let form = *self.rng.pick(&[0, 0, 1, 2]);
         let size = self.rng.from(1, n.min(12).saturating_sub(4).max(1));
         let list = match self.rng.below(9) {
@@ -560,7 +723,7 @@ impl Maker<'_> {
             // nested right sides
             _ => vec![statement(self.logical(size))],
         };
-        if list.iter().map(Tree::count).sum::<usize>() <= n {
+        if nodes_of(&list) <= n {
             list
         } else {
             vec![self.statement(n, 4)]

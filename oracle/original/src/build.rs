@@ -40,7 +40,33 @@ impl Builder {
     }
 
     fn pat(&self, t: &Tree) -> Pat {
-        Pat::Ident(self.binding(t))
+        match t.kind {
+            45 => Pat::Object(self.object_pat(t)),
+            46 => Pat::Array(self.array_pat(t)),
+            48 => Pat::Assign(AssignPat {
+                left: Box::new(self.pat(&t.kids[0])),
+                right: self.boxed(&t.kids[1]),
+            }),
+            _ => Pat::Ident(self.binding(t)),
+        }
+    }
+
+    fn array_pat(&self, t: &Tree) -> ArrayPat {
+        ArrayPat {
+            elems: t.kids.iter().map(|p| Some(self.pat(p))).collect(),
+        }
+    }
+
+    fn object_pat(&self, t: &Tree) -> ObjectPat {
+        let prop = |p: &Tree| {
+            ObjectPatProp::KeyValue(KeyValuePatProp {
+                key: self.name(p),
+                value: Box::new(self.pat(&p.kids[0])),
+            })
+        };
+        ObjectPat {
+            props: t.kids.iter().map(prop).collect(),
+        }
     }
 
     fn name(&self, t: &Tree) -> IdentName {
@@ -215,13 +241,16 @@ impl Builder {
     }
 
     fn assign(&self, t: &Tree) -> AssignExpr {
-        let left = match t.kids[0].kind {
-            20 => SimpleAssignTarget::Ident(self.binding(&t.kids[0])),
-            _ => SimpleAssignTarget::Member(self.member(&t.kids[0])),
+        let left = &t.kids[0];
+        let left = match left.kind {
+            20 => AssignTarget::Simple(SimpleAssignTarget::Ident(self.binding(left))),
+            45 => AssignTarget::Pat(AssignTargetPat::Object(self.object_pat(left))),
+            46 => AssignTarget::Pat(AssignTargetPat::Array(self.array_pat(left))),
+            _ => AssignTarget::Simple(SimpleAssignTarget::Member(self.member(left))),
         };
         AssignExpr {
             op: AssignOp::ALL[t.form as usize],
-            left: AssignTarget::Simple(left),
+            left,
             right: self.boxed(&t.kids[1]),
         }
     }

@@ -21,8 +21,24 @@ fn ident(kind: u8, i: &Ident) -> Tree {
 }
 
 fn pat(p: &Pat) -> Tree {
-    let Pat::Ident(binding) = p;
-    ident(20, &binding.id)
+    match p {
+        Pat::Ident(binding) => ident(20, &binding.id),
+        Pat::Array(a) => array_pat(a),
+        Pat::Object(o) => object_pat(o),
+        Pat::Assign(a) => Tree::new(48, 0, vec![pat(&a.left), expr(&a.right)]),
+    }
+}
+
+fn array_pat(a: &ArrayPat) -> Tree {
+    Tree::new(46, 0, a.elems.iter().flatten().map(pat).collect())
+}
+
+fn object_pat(o: &ObjectPat) -> Tree {
+    let prop = |p: &ObjectPatProp| {
+        let ObjectPatProp::KeyValue(p) = p;
+        with_text(47, &p.key.sym, 0, vec![pat(&p.value)])
+    };
+    Tree::new(45, 0, o.props.iter().map(prop).collect())
 }
 
 fn stmts(list: &[Stmt]) -> Vec<Tree> {
@@ -180,7 +196,8 @@ fn assign(e: &AssignExpr) -> Tree {
     let left = match &e.left {
         AssignTarget::Simple(SimpleAssignTarget::Ident(b)) => ident(20, &b.id),
         AssignTarget::Simple(SimpleAssignTarget::Member(m)) => member(m),
-        AssignTarget::Pat(p) => match p.none {},
+        AssignTarget::Pat(AssignTargetPat::Array(a)) => array_pat(a),
+        AssignTarget::Pat(AssignTargetPat::Object(o)) => object_pat(o),
     };
     Tree::new(33, place(AssignOp::ALL, e.op), vec![left, expr(&e.right)])
 }

@@ -6,20 +6,31 @@ use tree_file::{read, Script, Tree};
 
 type Identifier = (u32, u64);
 
-/// The identifier that a node targets, if it is an assignment, an update or a for-in or for-of, declaring or not.
-fn target(node: &Tree) -> Option<Identifier> {
+/// The identifiers that a node targets, if it is an assignment, an update or a for-in or for-of, declaring or not: of a pattern all bound
+/// names.
+fn targets(node: &Tree) -> Vec<Identifier> {
     if !matches!(node.kind, 13 | 14 | 31 | 33) {
-        return None;
+        return vec![];
     }
-    let mut aim = node.kids.first()?;
+    let mut aim = &node.kids[0];
     while matches!(aim.kind, 5 | 6) {
-        aim = aim.kids.first()?;
+        aim = &aim.kids[0];
     }
-    aim.identifier()
+    match aim.kind {
+        21 => aim.identifier().into_iter().collect(),
+        _ => bound(aim).collect(),
+    }
 }
 
-/// The identifier that is the whole initialiser of a declarator.
+fn bound(name: &Tree) -> impl Iterator<Item = Identifier> + '_ {
+    name.bound_names().into_iter().filter_map(Tree::identifier)
+}
+
+/// The identifier that is the whole initialiser of a declarator; what a pattern takes apart is recorded for none of its names.
 fn initialiser(declarator: &Tree) -> Option<Identifier> {
+    if declarator.kids[0].kind != 20 {
+        return None;
+    }
     let value = declarator.kids.get(1).filter(|value| value.kind == 21);
     value.and_then(Tree::identifier)
 }
@@ -27,7 +38,7 @@ fn initialiser(declarator: &Tree) -> Option<Identifier> {
 /// Request 8: a constant is initialised with an identifier that is targeted anywhere in the script.
 pub fn names_a_variable(script: &Script) -> bool {
     let nodes = script.tree.preorder();
-    let targets: HashSet<Identifier> = nodes.iter().filter_map(|node| target(node)).collect();
+    let targets: HashSet<Identifier> = nodes.iter().flat_map(|node| targets(node)).collect();
     let constants = nodes.iter().filter(|node| node.kind == 5 && node.form == 2);
     let mut named = constants
         .flat_map(|node| &node.kids)
@@ -40,13 +51,14 @@ pub fn names_a_variable(script: &Script) -> bool {
 struct Declared(HashMap<Identifier, (usize, bool)>);
 
 impl Declared {
+    /// A name, or each bound name of a pattern, whose initialiser is no literal whatever it is; a default is no initialiser.
     fn add(&mut self, name: &Tree, value: Option<&Tree>) {
-        let Some(name) = name.identifier() else {
-            return;
-        };
-        let (times, computed) = self.0.entry(name).or_default();
-        *times += 1;
-        *computed |= value.is_some_and(|value| !value.is_literal());
+        let is_computed = value.is_some_and(|value| name.kind != 20 || !value.is_literal());
+        for name in bound(name) {
+            let (times, computed) = self.0.entry(name).or_default();
+            *times += 1;
+            *computed |= is_computed;
+        }
     }
 
     /// Every `var` below a node, wherever it stands, but not those of nested functions.
@@ -210,6 +222,79 @@ mod tests {
             "function f(o) { () => { var o = t; }; }",
         ];
         all(declares_again, false, &not);
+    }
+
+    #[test]
+    fn each_bound_name_of_a_pattern_is_declared() {
+        let twice = [
+            "var a = 1; var [a] = 2;",
+            "var [a] = 2; var a;",
+            "var [a] = 2; var a = 1;",
+            "var {p: a} = o; var {q: [b, a]} = o;",
+            "var [a, a] = o;",
+            "var [[a], {p: a = 1}] = o;",
+            "function f([a]) { var a = t; }",
+            "function f({p: {q: a = 1}}) { var a = t; }",
+            "function f(a = 1) { var a = t; }",
+            "function f(a) { var [a] = 1; }",
+            "([a]) => { var {p: a} = 1; };",
+            "(function ([a] = 1) { var a = t; });",
+            "for (var [a] of b) ; var a = t;",
+            "for (var [a] = 1 of b) ; var a;",
+            "for (var [a] = 1; ; ) ; var a = 1;",
+        ];
+        all(declares_again, true, &twice);
+        let not = [
+            "var [a] = o;",
+            "var [a] = o; var [b] = o;",
+            "var [a] = o; let [a] = o;",
+            "var {a: b} = o; var a = t;",
+            "var [b = a] = o; var a = t;",
+            "var a = 1; for (var [a] of b) ;",
+            "for (var [a] of b) ; for (var {p: a} in b) ;",
+            "var {a: a}; var a;",
+            "function f([a, a]) {}",
+            "function f(a = t, a = t) { var a; }",
+            "function f(a = t) { var a = 1; }",
+            "function f([a = t] = t) { var a; }",
+            "var [a] = () => { var a = t; };",
+            "function f(b = (a) => { var c = t; }) { var a = t; }",
+            "var a = t; [a] = o;",
+            "var a = t; for ([a] of o) ;",
+            "var a = t; try { } catch ([a]) { }",
+            "var [a] = o; var a$1 = t;",
+        ];
+        all(declares_again, false, &not);
+    }
+
+    #[test]
+    fn a_pattern_targets_each_bound_name() {
+        let leaving = [
+            "const a = b; [b] = c;",
+            "const a = b; ({p: [b = 1]} = c);",
+            "const a = b; [d = 1, {p: b}] = c;",
+            "const a = b; [d = b = 1] = c;",
+            "const a = b; var [d = b = 1] = c;",
+            "const a = b; for ([b] of c) ;",
+            "const a = b; for ({p: b = 1} in c) ;",
+            "const a = b; for (let [b] of c) ;",
+            "const a = b; for (var {p: {q: b}} in c) ;",
+            "const a = b; (d = b++) => d;",
+            "const a = b; try { } finally { [b] = c; }",
+        ];
+        all(names_a_variable, true, &leaving);
+        let staying = [
+            "const a = b; [c = b] = d;",
+            "const a = b; ({b: c} = d);",
+            "const a = b; var [b] = c;",
+            "const a = b; ([b]) => b;",
+            "const a = b; try { } catch ([b]) { }",
+            "const a = b; for ([c = b] of d) ;",
+            "const [a] = b; b = 2;",
+            "const {p: a} = b; [b] = c;",
+            "const a = b; [b$1] = c;",
+        ];
+        all(names_a_variable, false, &staying);
     }
 
     #[test]

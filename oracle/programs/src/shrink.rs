@@ -147,7 +147,7 @@ pub fn renamed(script: &Script) -> Script {
     let mut letters = "abcdijklmnrstuvwxyz".chars();
     let mut tree = script.tree.clone();
     tree.for_each(&mut |node| {
-        if !matches!(node.kind, 20 | 21 | 25 | 29 | 37) {
+        if !matches!(node.kind, 20 | 21 | 25 | 29 | 37 | 47) {
             return;
         }
         let old = script.texts[node.text as usize].clone();

@@ -79,6 +79,14 @@ fn number(value: f64) -> String {
     }
 }
 
+/// What an expression's text begins with, as far as no parenthesis is before it.
+fn first(t: &Tree) -> &Tree {
+    match t.kind {
+        33 | 42 => first(&t.kids[0]),
+        _ => t,
+    }
+}
+
 impl Printer<'_> {
     fn text(&self, t: &Tree) -> String {
         String::from_utf8_lossy(&self.texts[t.text as usize]).into_owned()
@@ -110,7 +118,7 @@ impl Printer<'_> {
     }
 
     fn params(&self, list: &[Tree]) -> String {
-        let names: Vec<String> = list.iter().map(|b| self.ident(b)).collect();
+        let names: Vec<String> = list.iter().map(|b| self.expr(b)).collect();
         names.join(", ")
     }
 
@@ -126,8 +134,8 @@ impl Printer<'_> {
 
     fn declaration(&self, t: &Tree) -> String {
         let declarator = |d: &Tree| match d.kids.get(1) {
-            None => self.ident(&d.kids[0]),
-            Some(e) => format!("{} = {}", self.ident(&d.kids[0]), self.assigned(e)),
+            None => self.expr(&d.kids[0]),
+            Some(e) => format!("{} = {}", self.expr(&d.kids[0]), self.assigned(e)),
         };
         let list: Vec<String> = t.kids.iter().map(declarator).collect();
         let word = ["var", "let", "const"][t.form as usize];
@@ -137,7 +145,6 @@ impl Printer<'_> {
     fn head(&self, t: &Tree) -> String {
         match t.kind {
             5 => self.declaration(t),
-            20 => self.ident(t),
             _ => self.expr(t),
         }
     }
@@ -172,7 +179,7 @@ impl Printer<'_> {
             out += &match (part.kind, part.kids.len()) {
                 (17, 2) => format!(
                     " catch ({}) {}",
-                    self.ident(&part.kids[0]),
+                    self.expr(&part.kids[0]),
                     self.block(&part.kids[1])
                 ),
                 (17, _) => format!(" catch {}", self.block(&part.kids[0])),
@@ -195,7 +202,9 @@ impl Printer<'_> {
         match t.kind {
             2 => self.block(t),
             3 => ";".into(),
-            4 if matches!(kids[0].kind, 28 | 39) => format!("({});", self.expr(&kids[0])),
+            4 if matches!(first(&kids[0]).kind, 28 | 39 | 45) => {
+                format!("({});", self.expr(&kids[0]))
+            }
             4 => format!("{};", self.expr(&kids[0])),
             5 => format!("{};", self.declaration(t)),
             7 => self.function(&self.ident(&kids[0]), &kids[1..]),
@@ -269,7 +278,8 @@ impl Printer<'_> {
         let (body, params) = t.kids.split_last().expect("a body");
         let body = match (t.form, body.kind) {
             (0, _) => self.block(body),
-            (_, 28) => format!("({})", self.expr(body)),
+            (_, 42) => self.assigned(body),
+            _ if matches!(first(body).kind, 28 | 45) => format!("({})", self.expr(body)),
             _ => self.assigned(body),
         };
         format!("({}) => {body}", self.params(params))
@@ -306,8 +316,8 @@ impl Printer<'_> {
             24 => number(f64::from_bits(t.bits)),
             25 => quoted(&self.text(t)),
             26 => "this".into(),
-            27 => format!("[{}]", self.list(kids)),
-            28 => {
+            27 | 46 => format!("[{}]", self.list(kids)),
+            28 | 45 => {
                 let list: Vec<String> = kids.iter().map(|p| self.property(p)).collect();
                 format!("{{{}}}", list.join(", "))
             }
@@ -342,6 +352,7 @@ impl Printer<'_> {
             40 => self.arrow(t),
             41 => format!("({})", self.expr(&kids[0])),
             42 => self.list(kids),
+            48 => format!("{} = {}", self.expr(&kids[0]), self.assigned(&kids[1])),
             kind => unreachable!("no expression: {kind}"),
         }
     }

@@ -80,6 +80,16 @@ impl Tree {
         matches!(self.kind, 20 | 21).then_some((self.text, self.bits))
     }
 
+    /// BoundNames: the bindings that a name or pattern has, in tree order; what stands in a default is none of them.
+    pub fn bound_names(&self) -> Vec<&Tree> {
+        match self.kind {
+            20 => vec![self],
+            45..=47 => self.kids.iter().flat_map(Tree::bound_names).collect(),
+            48 => self.kids[0].bound_names(),
+            _ => vec![],
+        }
+    }
+
     fn bytes(&self, out: &mut Vec<u8>) {
         out.extend([self.kind, self.form]);
         out.extend((self.kids.len() as u16).to_le_bytes());

@@ -56,6 +56,23 @@ fn tokens(source: &str) -> Result<Vec<String>, String> {
     Ok(list)
 }
 
+/// An expression as the name or pattern that it is; what is none is left, and no file with it is read.
+fn pattern(mut t: Tree) -> Tree {
+    t.kind = match (t.kind, t.form) {
+        (21, _) => 20,
+        (27, _) => 46,
+        (28, _) => 45,
+        (29, _) => 47,
+        // the left side of an assignment is a pattern already
+        (33, 0) => 48,
+        (kind, _) => kind,
+    };
+    if (45..=47).contains(&t.kind) {
+        t.kids = t.kids.into_iter().map(pattern).collect();
+    }
+    t
+}
+
 type Parsed = Result<Tree, String>;
 
 struct Parser {
@@ -149,7 +166,7 @@ impl Parser {
         self.expect("(")?;
         let mut list = Vec::new();
         while !self.accept(")") {
-            list.push(self.name(20)?);
+            list.push(pattern(self.assigned()?));
             if self.peek() != ")" {
                 self.expect(",")?;
             }
@@ -172,7 +189,7 @@ impl Parser {
         };
         let mut list = Vec::new();
         loop {
-            let mut kids = vec![self.name(20)?];
+            let mut kids = vec![pattern(self.unary()?)];
             if self.accept("=") {
                 kids.push(self.assigned()?);
             }
@@ -255,10 +272,10 @@ impl Parser {
         self.no_in = true;
         if declares {
             kids.push(self.declaration()?);
-        } else if matches!(self.look(1), "in" | "of") {
-            kids.push(self.name(20)?);
         } else if self.peek() != ";" {
-            kids.push(self.expression()?);
+            let start = self.expression()?;
+            let is_head = matches!(self.peek(), "in" | "of");
+            kids.push(if is_head { pattern(start) } else { start });
         }
         self.no_in = false;
         if let "in" | "of" = self.peek() {
@@ -332,12 +349,24 @@ impl Parser {
         Ok(Tree::new(42, 0, list))
     }
 
-    /// Does the parenthesis here hold the parameters of an arrow, names and commas alone?
+    /// Does the parenthesis here hold the parameters of an arrow?
     fn at_arrow(&self) -> bool {
-        let is_param = |token: &String| token == "," || token.starts_with(in_name);
-        let rest = self.tokens.get(self.at + 1..).unwrap_or_default();
-        let params = rest.iter().take_while(|token| is_param(token)).count();
-        self.peek() == "(" && self.look(params + 1) == ")" && self.look(params + 2) == "=>"
+        if self.peek() != "(" {
+            return false;
+        }
+        let (mut open, mut at) = (0, 0);
+        loop {
+            match self.look(at) {
+                "(" => open += 1,
+                ")" => open -= 1,
+                "" => return false,
+                _ => {}
+            }
+            at += 1;
+            if open == 0 {
+                return self.look(at) == "=>";
+            }
+        }
     }
 
     fn arrow(&mut self) -> Parsed {
@@ -366,8 +395,8 @@ impl Parser {
             return Ok(left);
         };
         self.at += 1;
-        if left.kind == 21 {
-            left.kind = 20;
+        if matches!(left.kind, 21 | 27 | 28) {
+            left = pattern(left);
         }
         let right = self.assigned()?;
         Ok(Tree::new(33, form as u8, vec![left, right]))
@@ -473,6 +502,7 @@ impl Parser {
     }
 
     fn object(&mut self) -> Parsed {
+        let no_in = std::mem::take(&mut self.no_in);
         let mut kids = Vec::new();
         while !self.accept("}") {
             let key = self.next();
@@ -485,6 +515,7 @@ impl Parser {
                 self.expect(",")?;
             }
         }
+        self.no_in = no_in;
         Ok(Tree::new(28, 0, kids))
     }
 

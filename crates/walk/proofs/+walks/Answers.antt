@@ -150,6 +150,9 @@ arrow-returns = of_arrow.arrow-returns
 pub assign-form_at-f-requires : goal.assign-form_at-f-requires
 assign-form_at-f-requires = of_assign.assign-form_at-f-requires
 
+pub assign-to_pattern-pat-requires : goal.assign-to_pattern-pat-requires
+assign-to_pattern-pat-requires = of_assign.assign-to_pattern-pat-requires
+
 pub assign-arity_at-n-requires : goal.assign-arity_at-n-requires
 assign-arity_at-n-requires = of_assign.assign-arity_at-n-requires
 
@@ -165,8 +168,17 @@ assign-returns-in_err-assign_first = of_assign.assign-returns-in_err-assign_firs
 pub assign-overflow_add-p : goal.assign-overflow_add-p
 assign-overflow_add-p = of_assign.assign-overflow_add-p
 
+pub assign-overflow_add-i-then-pat : goal.assign-overflow_add-i-then-pat
+assign-overflow_add-i-then-pat = of_assign.assign-overflow_add-i-then-pat
+
+pub assign-overflow_add-i-else-pat : goal.assign-overflow_add-i-else-pat
+assign-overflow_add-i-else-pat = of_assign.assign-overflow_add-i-else-pat
+
 pub assign-overflow_add-i-2 : goal.assign-overflow_add-i-2
 assign-overflow_add-i-2 = of_assign.assign-overflow_add-i-2
+
+pub assign-many-requires : goal.assign-many-requires
+assign-many-requires = of_assign.assign-many-requires
 
 pub assign-tail-requires : goal.assign-tail-requires
 assign-tail-requires = of_assign.assign-tail-requires
@@ -174,8 +186,8 @@ assign-tail-requires = of_assign.assign-tail-requires
 pub assign-returns-in_err-j : goal.assign-returns-in_err-j
 assign-returns-in_err-j = of_assign.assign-returns-in_err-j
 
-pub assign-overflow_add-i-3 : goal.assign-overflow_add-i-3
-assign-overflow_add-i-3 = of_assign.assign-overflow_add-i-3
+pub assign-returns-in_err-j-2 : goal.assign-returns-in_err-j-2
+assign-returns-in_err-j-2 = of_assign.assign-returns-in_err-j-2
 
 pub assign-assign_last-requires : goal.assign-assign_last-requires
 assign-assign_last-requires = of_assign.assign-assign_last-requires
@@ -189,17 +201,11 @@ assign-returns = of_assign.assign-returns
 pub binds-loop-k-init : goal.binds-loop-k-init
 binds-loop-k-init = of_binds.binds-loop-k-init
 
-pub binds-kind_at-kind-requires : goal.binds-kind_at-kind-requires
-binds-kind_at-kind-requires = of_binds.binds-kind_at-kind-requires
-
-pub binds-num_at-x-requires : goal.binds-num_at-x-requires
-binds-num_at-x-requires = of_binds.binds-num_at-x-requires
-
 pub binds-full-requires : goal.binds-full-requires
 binds-full-requires = of_binds.binds-full-requires
 
-pub binds-returns-in_err-at : goal.binds-returns-in_err-at
-binds-returns-in_err-at = of_binds.binds-returns-in_err-at
+pub binds-returns-in_err-j : goal.binds-returns-in_err-j
+binds-returns-in_err-j = of_binds.binds-returns-in_err-j
 
 pub binds-mark_caught-requires : goal.binds-mark_caught-requires
 binds-mark_caught-requires = of_binds.binds-mark_caught-requires

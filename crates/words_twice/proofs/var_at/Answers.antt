@@ -1,10 +1,6 @@
 -- Kind and form, then the children. Assumes nothing.
-use Rattle.std.proofs.Common.{rules, ◌≡◌, ◌+◌, sym, ap, ◌∙◌, arith, true, false}
-use Rattle.def_tree.specs.Tree.{Tree, nil, cons}
-use Rattle.def_pass.specs.Twice.{declarators}
-use Rattle.words.specs.Layout.{tree, node_of}
-use Rattle.words_nodes.specs.Nodes.{forest_from}
-use Rattle.words_twice.specs.Twice.{over, Counts}
+use Rattle.std.proofs.Common.{◌≡◌, sym, ap, ◌∙◌, arith, true, false}
+use Rattle.words.specs.Layout.{node_of}
 use Rattle.def_file.specs.Named.{kind_of}
 use Rattle.words_twice.proofs.Looks as looks
 use Rattle.words_twice.proofs.var_at.Goals as goal
@@ -29,13 +25,12 @@ arity_at-n-requires c = looks.in-words c.requires.0 c.requires.1
 pub overflow_add-j : goal.overflow_add-j
 overflow_add-j c = omega (arith, c.requires.0.good.nodes, c.requires.1)
 
-pub count_trees-requires : goal.count_trees-requires
-count_trees-requires c = (c.requires.0, rw c.arity_at-n.ensures (looks.kids-stand c.requires.0 c.requires.1), λ j l. search rules)
+pub declarators-requires : goal.declarators-requires
+declarators-requires c = (c.requires.0, rw c.arity_at-n.ensures (looks.kids-stand c.requires.0 c.requires.1))
 
 pub returns : goal.returns
 returns c =
     let k = rw c.in-VarDecl.is at c.kind_at.ensures.1 in
     let f = sym c.form_at.ensures ∙ c.if-form_at-ne-VAR.false in
-    let d = λ (t : Tree). declarators c.args.x (cons t nil) in
-    let s : Counts c.count_trees.result (over d (forest_from (tree c.args.w.now) c.arity_at-n.result (c.args.j + 1))) = c.count_trees.ensures d (λ j r l p. search rules) in
+    let s = c.declarators.ensures in
     record { all = looks.own-var c.requires.0 c.requires.1 true c.args.x k f c.arity_at-n.ensures s.all; costly = looks.own-var c.requires.0 c.requires.1 false c.args.x k f c.arity_at-n.ensures s.costly }

@@ -1,11 +1,11 @@
 //! The original beside another program: `compare SEED COUNT COMMAND ARGUMENT..`.
 //!
 //! The command reads lines `HEX RUNS` and answers each at once as `oracle --batch` does. It gets
-//! random scripts, scripts near a limit and damaged copies; every answer is compared, the order of
-//! the root lines aside. A script that is answered otherwise is made as small as it will go. Scripts
+//! random scripts, one in three of them with patterns, scripts near a limit and damaged copies; every
+//! answer is compared, root lines in their order. A script that is answered otherwise is made as small as it will go. Scripts
 //! that a request amends are passed over.
 
-use generator::{damage::damage, near::near_limit, random_script, rng::Rng};
+use generator::{damage::damage, rng::Rng, Sort};
 use original::answer;
 use programs::amended::{file_leaves, leaves};
 use programs::other::Other;
@@ -17,9 +17,10 @@ const ENOUGH: u64 = 10;
 
 fn next_file(rng: &mut Rng) -> (Vec<u8>, u32) {
     let high = *rng.pick(&[20, 40, 80, 160, 400, 1024]);
-    let mut script = random_script(rng, 5, high);
+    let sort = Sort::any(rng);
+    let mut script = sort.script(rng, 5, high);
     if rng.once_in(20) {
-        script = near_limit(rng, &script);
+        script = sort.near_limit(rng, &script);
     }
     let runs = if rng.once_in(8) {
         rng.from(1, 15) as u32
@@ -36,14 +37,19 @@ fn next_file(rng: &mut Rng) -> (Vec<u8>, u32) {
 /// A line of the other's answer as the original prints it: without how often a root binding was replaced.
 fn uncounted(line: &str) -> &str {
     match line.strip_prefix("root ") {
-        Some(fields) if fields.split(' ').count() == 4 => line.rsplit_once(' ').map_or(line, |it| it.0),
+        Some(fields) if fields.split(' ').count() == 4 => {
+            line.rsplit_once(' ').map_or(line, |it| it.0)
+        }
         _ => line,
     }
 }
 
 fn agrees(other: &mut Other, file: &[u8], runs: u32) -> bool {
     let told = other.answer(file, runs);
-    answer(file, runs).to_string().lines().eq(told.lines().map(uncounted))
+    answer(file, runs)
+        .to_string()
+        .lines()
+        .eq(told.lines().map(uncounted))
 }
 
 fn report(other: &mut Other, file: &[u8], runs: u32) {

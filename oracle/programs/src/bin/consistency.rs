@@ -1,12 +1,13 @@
 //! What must hold of generator, reader and original among themselves: `consistency SEED COUNT`.
 //!
-//! Of each random script: it is read back as it was written; the result is readable too; paired
-//! copies are readable and treated alike; a damaged copy is refused or read back as it was.
+//! Of each random script, one in three of them with patterns: it is read back as it was written; the
+//! result is readable too, and has the assignments of its script; paired copies are readable and
+//! treated alike; a damaged copy is refused or read back as it was.
 
-use generator::{damage, near, pairs, random_script, rng::Rng};
+use generator::{damage, pairs, rng::Rng, Sort};
 use original::{pass, result};
 use programs::on_deep_stack;
-use tree_file::{read, write, Answer, Script};
+use tree_file::{assignments, read, write, Answer, Script};
 
 fn is_read_back(script: &Script) -> bool {
     read(&write(script)).as_ref() == Ok(script)
@@ -26,6 +27,13 @@ fn is_readable(script: &Script, answer: &Answer) -> bool {
     }
 }
 
+fn has_assignments(script: &Script, answer: &Answer) -> bool {
+    match answer {
+        Answer::Refused(_) => true,
+        Answer::Done(done) => assignments::kept(&script.tree, &done.tree),
+    }
+}
+
 fn damage_is_seen(rng: &mut Rng, script: &Script) -> bool {
     let file = damage::damage(rng, &write(script));
     read(&file).map_or_else(|row| (2..=7).contains(&row), |read| write(&read) == file)
@@ -42,15 +50,17 @@ fn main() {
         let mut rng = Rng::new(seed);
         for number in 0..count {
             let high = *rng.pick(&[30, 60, 120, 400, 1024]);
-            let mut script = random_script(&mut rng, 5, high);
+            let sort = Sort::any(&mut rng);
+            let mut script = sort.script(&mut rng, 5, high);
             if rng.once_in(4) {
-                script = near::near_limit(&mut rng, &script);
+                script = sort.near_limit(&mut rng, &script);
             }
             let runs = rng.from(1, 16) as u32;
             let answer = pass(&script, runs);
             let facts = [
                 ("read back", is_read_back(&script)),
                 ("a readable result", is_readable(&script, &answer)),
+                ("its assignments", has_assignments(&script, &answer)),
                 ("alike", is_alike(&mut rng, &script, &answer, runs)),
                 ("damage seen", damage_is_seen(&mut rng, &script)),
             ];

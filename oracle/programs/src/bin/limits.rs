@@ -1,7 +1,7 @@
 //! Each family of limit files one below, at and one above its limit, with the original's answer
 //! and the highest figures of the pass. Fails where the answer is not the expected one.
 
-use generator::limits::FAMILIES;
+use generator::limits::{FAMILIES, PATTERN_FAMILIES};
 use original::{answer, peaks};
 use programs::on_deep_stack;
 use tree_file::Answer;
@@ -9,7 +9,7 @@ use tree_file::Answer;
 fn main() {
     let (mut passed, mut failed) = (0, 0);
     on_deep_stack(|| {
-        for family in FAMILIES {
+        for family in FAMILIES.iter().chain(PATTERN_FAMILIES) {
             for k in family.limit - 1..=family.limit + 1 {
                 let answer = answer(&(family.make)(k), 16);
                 let (good, shown) = match answer {

@@ -1,12 +1,13 @@
-//! Writes the stored vectors, all from a seed: `vectors sample SEED` or `vectors small SEED`.
+//! Writes the stored vectors, all from a seed: `vectors sample|small|patterns SEED`.
 //!
-//! Both hold the hand-written cases, random scripts over every kind and form, and damaged copies;
-//! the sample also the files at every limit, and small only what a slow reader can take. Scripts that
-//! a request amends are left out: `vectors amended SEED` writes these, from both, and the
-//! hand-written cases of the requests, as lines `HEX RUNS`, for the port to answer.
+//! All hold hand-written cases, random scripts over every kind and form, and damaged copies; the
+//! sample also the files at every limit, and small only what a slow reader can take. The first two
+//! are without patterns, the third has them in every place. Scripts that a request amends are left
+//! out: `vectors amended SEED` writes these, from all three, and the hand-written cases of the
+//! requests, as lines `HEX RUNS`, for the port to answer.
 
-use generator::limits::FAMILIES;
-use generator::{damage::damage, random_script, rng::Rng};
+use generator::limits::{Family, FAMILIES, PATTERN_FAMILIES};
+use generator::{damage::damage, rng::Rng, Sort};
 use original::answer;
 use programs::amended::file_leaves;
 use programs::on_deep_stack;
@@ -17,6 +18,10 @@ use tree_file::{kinds, read, to_hex, write, Answer, Script};
 
 /// How many vectors of each sort, and how large the scripts are.
 struct Plan {
+    sort: Sort,
+    cases: &'static str,
+    /// The last kind that has to come.
+    last_kind: u8,
     random: usize,
     high: usize,
     /// Scripts of 150 to 500 nodes besides.
@@ -24,15 +29,20 @@ struct Plan {
     damaged: usize,
     /// Files at a limit that pass are left out if they are longer.
     most_bytes: usize,
+    families: &'static [Family],
     limits: fn(&str) -> bool,
 }
 
 const SAMPLE: Plan = Plan {
+    sort: Sort::Plain,
+    cases: include_str!("../../cases.txt"),
+    last_kind: 44,
     random: 390,
     high: 75,
     large: 8,
     damaged: 110,
     most_bytes: usize::MAX,
+    families: FAMILIES,
     limits: |_| true,
 };
 
@@ -44,6 +54,20 @@ const SMALL: Plan = Plan {
     damaged: 70,
     most_bytes: 2048,
     limits: |name| ["file_identifiers", "hoisted", "blocks"].contains(&name),
+    ..SAMPLE
+};
+
+const PATTERNS: Plan = Plan {
+    sort: Sort::Patterns,
+    cases: include_str!("../../patterns.txt"),
+    last_kind: 48,
+    random: 240,
+    high: 60,
+    large: 6,
+    damaged: 90,
+    most_bytes: usize::MAX,
+    families: PATTERN_FAMILIES,
+    limits: |_| true,
 };
 
 struct Writer<W: Write> {
@@ -98,8 +122,11 @@ impl Met {
         }
     }
 
-    fn is_complete(&self) -> bool {
-        kinds::all().into_iter().all(|pair| self.times(pair) >= 4)
+    fn is_complete(&self, last_kind: u8) -> bool {
+        let mut pairs = kinds::all()
+            .into_iter()
+            .filter(|(kind, _)| *kind <= last_kind);
+        pairs.all(|pair| self.times(pair) >= 4)
     }
 }
 
@@ -117,8 +144,8 @@ fn is_kept(rng: &mut Rng, met: &Met, script: &Script) -> bool {
 fn random(rng: &mut Rng, plan: &Plan) -> Vec<Script> {
     let mut met = Met::default();
     let mut list = Vec::new();
-    while list.len() < plan.random || !met.is_complete() {
-        let script = random_script(rng, 5, plan.high);
+    while list.len() < plan.random || !met.is_complete(plan.last_kind) {
+        let script = plan.sort.script(rng, 5, plan.high);
         let wanted = if list.len() < plan.random {
             is_kept(rng, &met, &script)
         } else {
@@ -131,7 +158,7 @@ fn random(rng: &mut Rng, plan: &Plan) -> Vec<Script> {
     }
     let large = list.len() + plan.large;
     while list.len() < large {
-        let script = random_script(rng, 150, 500);
+        let script = plan.sort.script(rng, 150, 500);
         if is_kept(rng, &met, &script) {
             list.push(script);
         }
@@ -140,7 +167,8 @@ fn random(rng: &mut Rng, plan: &Plan) -> Vec<Script> {
 }
 
 fn write_limits<W: Write>(writer: &mut Writer<W>, plan: &Plan) -> io::Result<()> {
-    for family in FAMILIES.iter().filter(|family| (plan.limits)(family.name)) {
+    let families = plan.families.iter();
+    for family in families.filter(|family| (plan.limits)(family.name)) {
         for k in family.limit - 1..=family.limit + 1 {
             let file = (family.make)(k);
             if k > family.limit || file.len() <= plan.most_bytes {
@@ -186,7 +214,7 @@ fn run(plan: &Plan, seed: u64, amended: bool) -> io::Result<usize> {
         amended,
         written: 0,
     };
-    for script in cases(include_str!("../../cases.txt")) {
+    for script in cases(plan.cases) {
         writer.vector(&write(&script), 16)?;
     }
     let scripts = random(&mut rng, plan);
@@ -204,14 +232,17 @@ fn run(plan: &Plan, seed: u64, amended: bool) -> io::Result<usize> {
     Ok(writer.written)
 }
 
-/// What the requests amend: their cases, whether they leave or not, then what leaves the other two.
+/// What the requests amend: their cases, whether they leave or not, then what leaves the others.
 fn amended(seed: u64) -> io::Result<usize> {
     let scripts = cases(include_str!("../../requests.txt"));
     for script in &scripts {
         println!("{} 16", to_hex(&write(script)));
     }
-    let small = run(&SMALL, seed, true)?;
-    Ok(scripts.len() + small + run(&SAMPLE, seed, true)?)
+    let mut written = scripts.len();
+    for plan in [SMALL, SAMPLE, PATTERNS] {
+        written += run(&plan, seed, true)?;
+    }
+    Ok(written)
 }
 
 fn main() {
@@ -220,9 +251,10 @@ fn main() {
     let written = on_deep_stack(|| match given.first().map(|name| &name[..]) {
         Some("sample") => run(&SAMPLE, seed, false),
         Some("small") => run(&SMALL, seed, false),
+        Some("patterns") => run(&PATTERNS, seed, false),
         Some("amended") => amended(seed),
         _ => {
-            eprintln!("usage: vectors sample|small|amended SEED");
+            eprintln!("usage: vectors sample|small|patterns|amended SEED");
             std::process::exit(2);
         }
     });

@@ -113,7 +113,10 @@ tree_types! {
     struct ParenExpr { expr: Box<Expr> }
     struct SeqExpr { exprs: Vec<Box<Expr>> }
     struct Invalid {}
-    struct AssignTargetPat { none: std::convert::Infallible }
+    struct ArrayPat { elems: Vec<Option<Pat>> }
+    struct ObjectPat { props: Vec<ObjectPatProp> }
+    struct KeyValuePatProp { key: IdentName, value: Box<Pat> }
+    struct AssignPat { left: Box<Pat>, right: Box<Expr> }
 }
 
 macro_rules! choices {
@@ -143,7 +146,9 @@ choices! {
         Arrow(ArrowExpr), Paren(ParenExpr), Seq(SeqExpr), Invalid(Invalid),
     }
     Lit { Null(Null), Bool(Bool), Num(Number), Str(Str) }
-    Pat { Ident(BindingIdent) }
+    Pat { Ident(BindingIdent), Array(ArrayPat), Object(ObjectPat), Assign(AssignPat) }
+    ObjectPatProp { KeyValue(KeyValuePatProp) }
+    AssignTargetPat { Array(ArrayPat), Object(ObjectPat) }
     VarDeclOrExpr { VarDecl(Box<VarDecl>), Expr(Box<Expr>) }
     ForHead { VarDecl(Box<VarDecl>), Pat(Box<Pat>) }
     BlockStmtOrExpr { BlockStmt(BlockStmt), Expr(Box<Expr>) }
@@ -345,7 +350,10 @@ macro_rules! tree_table {
                 inner ParenExpr visit_paren_expr visit_mut_paren_expr { expr }
                 inner SeqExpr visit_seq_expr visit_mut_seq_expr { exprs }
                 inner Invalid visit_invalid visit_mut_invalid {}
-                part AssignTargetPat visit_assign_target_pat visit_mut_assign_target_pat {}
+                inner ArrayPat visit_array_pat visit_mut_array_pat { elems }
+                inner ObjectPat visit_object_pat visit_mut_object_pat { props }
+                walked KeyValuePatProp visit_key_value_pat_prop visit_mut_key_value_pat_prop { key value }
+                inner AssignPat visit_assign_pat visit_mut_assign_pat { left right }
             }
             enums {
                 part Program visit_program visit_mut_program { Script }
@@ -359,7 +367,9 @@ macro_rules! tree_table {
                     Arrow Paren Seq Invalid
                 }
                 part Lit visit_lit visit_mut_lit { Null Bool Num Str }
-                walked Pat visit_pat visit_mut_pat { Ident }
+                walked Pat visit_pat visit_mut_pat { Ident Array Object Assign }
+                part ObjectPatProp visit_object_pat_prop visit_mut_object_pat_prop { KeyValue }
+                walked AssignTargetPat visit_assign_target_pat visit_mut_assign_target_pat { Array Object }
                 part VarDeclOrExpr visit_var_decl_or_expr visit_mut_var_decl_or_expr { VarDecl Expr }
                 part ForHead visit_for_head visit_mut_for_head { VarDecl Pat }
                 part BlockStmtOrExpr visit_block_stmt_or_expr visit_mut_block_stmt_or_expr {

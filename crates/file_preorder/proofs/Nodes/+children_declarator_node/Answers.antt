@@ -3,7 +3,7 @@ use Rattle.std.proofs.Common.{sym, ap, ◌∙◌, get_or, drop, arith, refl}
 use Rattle.std.proofs.lemmas.Result.{err_from_is_err_and}
 use Rattle.def_file.specs.declared.Raw.{Raw}
 use Rattle.def_file.specs.Script.{zero_node}
-use Rattle.def_file.specs.Named.{kind_of}
+use Rattle.def_file.specs.Kinds.{is_binding_name}
 use Rattle.file_preorder.specs.Child.{place, nodes_of}
 use Rattle.file_preorder.specs.declared.Child.TheVariants.{Binding, Other}
 use Rattle.file_fields.proofs.Raws.{nodes-length, node-raw}
@@ -37,16 +37,17 @@ children-loop-i-preserved t c =
     let f = child-at c.loop-i.i same (c.row_of-row.ensures _ c.from-kind.ensures.1) c.child-class.ensures c.in_ok-answer.ensures in
     rw c.behind-next.ensures (upto-more c.loop-i.invariant (omega (arith, many, c.loop-i-test.true)) f)
 
-pub children-returns-in-BindingIdent : goal.children-returns-in-BindingIdent
-children-returns-in-BindingIdent t c =
+pub children-returns-then-is_binding_name : goal.children-returns-then-is_binding_name
+children-returns-then-is_binding_name t c =
     let many = ap (λ (x : Raw). x.arity) (fitting-read c.requires c.node_at-x.ensures) in
     fitting-all c.requires (Binding c.loop-i.next) c.loop-i.invariant (omega (arith, many, c.loop-i-test.false)) refl tt
 
-pub children-returns-in_default : goal.children-returns-in_default
-children-returns-in_default t c =
+pub children-returns-else-is_binding_name : goal.children-returns-else-is_binding_name
+children-returns-else-is_binding_name t c =
     let same = fitting-read c.requires c.node_at-x.ensures in
     let many = ap (λ (x : Raw). x.arity) same in
-    fitting-all c.requires (Other c.loop-i.next) c.loop-i.invariant (omega (arith, many, c.loop-i-test.false)) refl (ok-allows _ _ _ c.requires.fits, λ k. c.in_default.not-BindingIdent (c.from-kind.ensures.0 ∙ ap kind_of (ap (λ (x : Raw). x.kind) same ∙ k)))
+    let named = ap (λ (x : Raw). is_binding_name x.kind) (sym same) ∙ sym (c.is_binding_name.ensures _ c.from-kind.ensures.1) ∙ c.if-is_binding_name.false in
+    fitting-all c.requires (Other c.loop-i.next) c.loop-i.invariant (omega (arith, many, c.loop-i-test.false)) refl (ok-allows _ _ _ c.requires.fits, named)
 
 pub declarator-overflow_sub-left : goal.declarator-overflow_sub-left
 declarator-overflow_sub-left t c = fitting-left c.requires.0

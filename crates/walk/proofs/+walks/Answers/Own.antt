@@ -154,4 +154,4 @@ own-returns-in-ForIn t c = ways.own-by (walks_f c.args.d) h_for_in c.requires re
 
 pub own-returns-in_default : goal.own-returns-in_default
 unfolding handle_f
-own-returns-in_default t c = ways.own-by (walks_f c.args.d) h_plain c.requires refl (ways.kind-plain (node_of c.args.w.now c.args.i).kind (inl refl, (inr (λ e. c.in_default.not-Script (c.kind_at.ensures.0 ∙ ap kind_of e)), (inr (λ e. c.in_default.not-Block (c.kind_at.ensures.0 ∙ ap kind_of e)), (inl refl, (inl refl, (inr (λ e. c.in_default.not-VarDecl (c.kind_at.ensures.0 ∙ ap kind_of e)), (inr (λ e. c.in_default.not-VarDeclarator (c.kind_at.ensures.0 ∙ ap kind_of e)), (inr (λ e. c.in_default.not-FnDecl (c.kind_at.ensures.0 ∙ ap kind_of e)), (inl refl, (inr (λ e. c.in_default.not-If (c.kind_at.ensures.0 ∙ ap kind_of e)), (inr (λ e. c.in_default.not-While (c.kind_at.ensures.0 ∙ ap kind_of e)), (inr (λ e. c.in_default.not-DoWhile (c.kind_at.ensures.0 ∙ ap kind_of e)), (inr (λ e. c.in_default.not-For (c.kind_at.ensures.0 ∙ ap kind_of e)), (inr (λ e. c.in_default.not-ForIn (c.kind_at.ensures.0 ∙ ap kind_of e)), (inr (λ e. c.in_default.not-ForOf (c.kind_at.ensures.0 ∙ ap kind_of e)), (inl refl, (inr (λ e. c.in_default.not-Try (c.kind_at.ensures.0 ∙ ap kind_of e)), (inr (λ e. c.in_default.not-CatchClause (c.kind_at.ensures.0 ∙ ap kind_of e)), (inl refl, (inr (λ e. c.in_default.not-SwitchCase (c.kind_at.ensures.0 ∙ ap kind_of e)), (inr (λ e. c.in_default.not-BindingIdent (c.kind_at.ensures.0 ∙ ap kind_of e)), (inl refl, (inl refl, (inl refl, (inl refl, (inl refl, (inl refl, (inl refl, (inl refl, (inl refl, (inr (λ e. c.in_default.not-Unary (c.kind_at.ensures.0 ∙ ap kind_of e)), (inr (λ e. c.in_default.not-Update (c.kind_at.ensures.0 ∙ ap kind_of e)), (inl refl, (inr (λ e. c.in_default.not-Assign (c.kind_at.ensures.0 ∙ ap kind_of e)), (inl refl, (inr (λ e. c.in_default.not-Call (c.kind_at.ensures.0 ∙ ap kind_of e)), (inr (λ e. c.in_default.not-New (c.kind_at.ensures.0 ∙ ap kind_of e)), (inl refl, (inl refl, (inr (λ e. c.in_default.not-FnExpr (c.kind_at.ensures.0 ∙ ap kind_of e)), (inr (λ e. c.in_default.not-Arrow (c.kind_at.ensures.0 ∙ ap kind_of e)), (inl refl, (inl refl, (inl refl, (inl refl, tt)))))))))))))))))))))))))))))))))))))))))))))) c.kids.ensures
+own-returns-in_default t c = ways.own-by (walks_f c.args.d) h_plain c.requires refl (ways.kind-plain (node_of c.args.w.now c.args.i).kind (inl refl, (inr (λ e. c.in_default.not-Script (c.kind_at.ensures.0 ∙ ap kind_of e)), (inr (λ e. c.in_default.not-Block (c.kind_at.ensures.0 ∙ ap kind_of e)), (inl refl, (inl refl, (inr (λ e. c.in_default.not-VarDecl (c.kind_at.ensures.0 ∙ ap kind_of e)), (inr (λ e. c.in_default.not-VarDeclarator (c.kind_at.ensures.0 ∙ ap kind_of e)), (inr (λ e. c.in_default.not-FnDecl (c.kind_at.ensures.0 ∙ ap kind_of e)), (inl refl, (inr (λ e. c.in_default.not-If (c.kind_at.ensures.0 ∙ ap kind_of e)), (inr (λ e. c.in_default.not-While (c.kind_at.ensures.0 ∙ ap kind_of e)), (inr (λ e. c.in_default.not-DoWhile (c.kind_at.ensures.0 ∙ ap kind_of e)), (inr (λ e. c.in_default.not-For (c.kind_at.ensures.0 ∙ ap kind_of e)), (inr (λ e. c.in_default.not-ForIn (c.kind_at.ensures.0 ∙ ap kind_of e)), (inr (λ e. c.in_default.not-ForOf (c.kind_at.ensures.0 ∙ ap kind_of e)), (inl refl, (inr (λ e. c.in_default.not-Try (c.kind_at.ensures.0 ∙ ap kind_of e)), (inr (λ e. c.in_default.not-CatchClause (c.kind_at.ensures.0 ∙ ap kind_of e)), (inl refl, (inr (λ e. c.in_default.not-SwitchCase (c.kind_at.ensures.0 ∙ ap kind_of e)), (inr (λ e. c.in_default.not-BindingIdent (c.kind_at.ensures.0 ∙ ap kind_of e)), (inl refl, (inl refl, (inl refl, (inl refl, (inl refl, (inl refl, (inl refl, (inl refl, (inl refl, (inr (λ e. c.in_default.not-Unary (c.kind_at.ensures.0 ∙ ap kind_of e)), (inr (λ e. c.in_default.not-Update (c.kind_at.ensures.0 ∙ ap kind_of e)), (inl refl, (inr (λ e. c.in_default.not-Assign (c.kind_at.ensures.0 ∙ ap kind_of e)), (inl refl, (inr (λ e. c.in_default.not-Call (c.kind_at.ensures.0 ∙ ap kind_of e)), (inr (λ e. c.in_default.not-New (c.kind_at.ensures.0 ∙ ap kind_of e)), (inl refl, (inl refl, (inr (λ e. c.in_default.not-FnExpr (c.kind_at.ensures.0 ∙ ap kind_of e)), (inr (λ e. c.in_default.not-Arrow (c.kind_at.ensures.0 ∙ ap kind_of e)), (inl refl, (inl refl, (inl refl, (inl refl, (inl refl, (inl refl, (inl refl, (inl refl, tt)))))))))))))))))))))))))))))))))))))))))))))))))) c.kids.ensures
