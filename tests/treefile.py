@@ -13,6 +13,7 @@ import struct
 import subprocess
 import sys
 
+from kinds import printed
 from treefile_reader import BITS, EXPRESSIONS, FORMS, NAMES, STATEMENTS, TEXT, WORDS, refusal
 
 WORDS_LEAST = 16384
@@ -252,6 +253,30 @@ def places(cases):
     cases.add("a node missing", pack([(1, 0, 1, 0, 0)], []), 6)
 
 
+def pairs(cases):
+    """Each pair of kinds, a parent and its child: where the program of crates/kind_table prints a 1, a file that is read and one with the child at a place
+    that does not take it; where it prints a 0, a file that is refused, whatever the place."""
+    table = printed()
+    for parent in FORMS:
+        for child in FORMS:
+            read, other = None, None
+            for form in FORMS[parent]:
+                kinds = least_children(parent, form)
+                ways = [kinds[:i] + [child] + kinds[i + 1:] for i in range(len(kinds))] + [kinds[:i] + [child] + kinds[i:] for i in range(len(kinds) + 1)]
+                for way in ways:
+                    file = pack(around(parent, tree(parent, *[least(k) for k in way], form=form)), [b"x"])
+                    if refusal(file):
+                        other = other or file
+                    else:
+                        read = read or file
+            allowed = table[parent - 1][child - 1] == "1"
+            name = "pair of %d and %d" % (parent, child)
+            if allowed or read:
+                cases.add(name + ", read", read or other, 0 if allowed else 6)
+            if other:
+                cases.add(name + ", refused", other, 6)
+
+
 def patterns(cases):
     """Request 4 by its words: where 45 to 48 stand, what stands below them, and the text of 47."""
     a, e, block, texts = tree(20), tree(21), tree(2), [b"a", b"b", b""]
@@ -444,7 +469,7 @@ def expected(file, room, words):
 def through_driver(driver):
     """How many files were answered as expected, and how many were not; each row must be met."""
     cases = Cases()
-    for add in (examples, limits, texts, headers, fields, places, patterns, damaged):
+    for add in (examples, limits, texts, headers, fields, places, pairs, patterns, damaged):
         add(cases)
     lines = "".join("%s %d %d\n" % (f.hex() or "-", room, words) for _, f, room, words, _ in cases.all)
     out = subprocess.run([driver], input=lines, capture_output=True, text=True, check=True).stdout.splitlines()

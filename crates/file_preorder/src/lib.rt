@@ -1,8 +1,9 @@
-// Row 6: the nodes fill the places that the kinds give, none missing and none left over. A node's reader and its children's call each
-// other, each call one deeper; the depth that is left falls from 200.
+// Row 6: the nodes fill the places that the kinds give, none missing and none left over, and a table allows each under its parent. A node's reader
+// and its children's call each other, each call one deeper; the depth that is left falls from 200.
 #![tactic(auto)]
 
 ghost use Rattle.std.specs.Prelude.{◌≡◌, ◌&&◌, ◌≤◌, get_or, [], ◌∷◌};
+ghost use Rattle.def_kinds.specs.Pairs.{pairs};
 ghost use Rattle.def_file.specs.Kinds.{allows, row_of, form_ok, count_ok};
 ghost use Rattle.def_file.specs.Script.{zero_node};
 ghost use Rattle.def_file.specs.Read.{fields_ok, fills};
@@ -12,6 +13,7 @@ use def_file::Raw;
 use def_file::kind::Kind;
 use def_file::kinds::{Class, row_of};
 use file_fields::fields::node_at;
+use file_kinds::{KINDS, allows_under};
 use refusal::Refusal;
 
 // What was read with all below it, a binding (20, or a pattern of bindings, 45 or 46) or another node, and the index behind it. No Option and no
@@ -57,22 +59,29 @@ fn node_ok(x: Raw, c: Class, t: usize) -> bool
     c.allows(kind, n) && fields_ok(x, t) && row.form_ok(usize::from(x.form)) && row.count_ok(n)
 }
 
-// A script of a file: its nodes, and how many texts they may name.
+// A script of a file: its nodes, how many texts they may name, and the table that allows each under its parent.
 #[derive(Clone, Copy, Debug, PartialEq, Eq)]
 struct Nodes<'a> {
     file: &'a [u8],
     count: usize,
     texts: usize,
+    table: &'a [u8],
     ghost room: { Room file.now count },
 }
 
-// A place is its class and the levels left: each child has another of both, so that a struct of the two would be made anew for each.
+// A place is its class and the levels left, under a parent's kind: each child has others, so that a struct of them would be made anew for each.
 impl Nodes<'_> {
-    // The children of the node at index `at`, which fills a place of class c with `left` levels.
+    // The children of the node at index `at`, which fills a place of class c with `left` levels, under that parent.
     #[cycle(children_declarator_node)]
-    fn children(self, at: usize, c: Class, left: usize) -> Result<Child, Refusal>
-        requires { Fitting self.file.now self.count self.texts at (place c left) }
-        ensures { Filled self.entry.texts (nodes_of self.entry.file.now self.entry.count) (place c left) at result }
+    fn children(
+        self,
+        at: usize,
+        c: Class,
+        left: usize,
+        parent: Option<u8>,
+    ) -> Result<Child, Refusal>
+        requires { Fitting self.file.now self.count self.texts self.table.now at (place c left) parent }
+        ensures { Filled self.entry.texts self.entry.table.now (nodes_of self.entry.file.now self.entry.count) (place c left) parent at result }
     {
         let x = node_at(self.file, at);
         let kind = Kind::from(x.kind);
@@ -81,7 +90,7 @@ impl Nodes<'_> {
         let mut next = at + 1;
         for i in 0..count {
             let class = row.child(count, i);
-            let answer = self.node(next, class, left - 1)?;
+            let answer = self.node(next, class, left - 1, Some(x.kind))?;
             next = answer.behind();
         }
         if kind.is_binding_name() {
@@ -93,40 +102,66 @@ impl Nodes<'_> {
 
     // 6 declarator: 20, 45 or 46, then [e]; a first child that is no binding is refused.
     #[cycle(children_declarator_node)]
-    fn declarator(self, at: usize, c: Class, left: usize) -> Result<Child, Refusal>
-        requires { Fitting self.file.now self.count self.texts at (place c left) × ((get_or (nodes_of self.file.now self.count) at zero_node).kind ≡ 6) }
-        ensures { Filled self.entry.texts (nodes_of self.entry.file.now self.entry.count) (place c left) at result }
+    fn declarator(
+        self,
+        at: usize,
+        c: Class,
+        left: usize,
+        parent: Option<u8>,
+    ) -> Result<Child, Refusal>
+        requires { Fitting self.file.now self.count self.texts self.table.now at (place c left) parent × ((get_or (nodes_of self.file.now self.count) at zero_node).kind ≡ 6) }
+        ensures { Filled self.entry.texts self.entry.table.now (nodes_of self.entry.file.now self.entry.count) (place c left) parent at result }
     {
         let x = node_at(self.file, at);
-        let name = self.node(at + 1, Class::Name, left - 1)?;
+        let name = self.node(at + 1, Class::Name, left - 1, Some(x.kind))?;
         let Child::Binding(next) = name else {
             return Err(Refusal::Nodes);
         };
         if x.arity == 1 {
             return Ok(Child::Other(next));
         }
-        let init = self.node(next, Class::Expression, left - 1)?;
+        let init = self.node(next, Class::Expression, left - 1, Some(x.kind))?;
         Ok(Child::Other(init.behind()))
     }
 
-    // The node at index `at` and all below it, at a place of class c with `left` levels.
+    // The node at index `at` and all below it, at a place of class c with `left` levels, under a parent of that kind, or at the script's own place. The
+    // table is asked before the place is.
     #[cycle(children_declarator_node)]
-    fn node(self, at: usize, c: Class, left: usize) -> Result<Child, Refusal>
+    fn node(self, at: usize, c: Class, left: usize, parent: Option<u8>) -> Result<Child, Refusal>
         requires { left ≤ 200 }
-        ensures { Filled self.entry.texts (nodes_of self.entry.file.now self.entry.count) (place c left) at result }
+        ensures { Filled self.entry.texts self.entry.table.now (nodes_of self.entry.file.now self.entry.count) (place c left) parent at result }
     {
         if self.count <= at || left == 0 {
             return Err(Refusal::Nodes);
         }
         let x = node_at(self.file, at);
+        if !allows_under(self.table, parent, x.kind) {
+            return Err(Refusal::Nodes);
+        }
         if !node_ok(x, c, self.texts) {
             return Err(Refusal::Nodes);
         }
         match Kind::from(x.kind) {
-            Kind::VarDeclarator => self.declarator(at, c, left),
-            _ => self.children(at, c, left),
+            Kind::VarDeclarator => self.declarator(at, c, left, parent),
+            _ => self.children(at, c, left, parent),
         }
     }
+}
+
+// Row 6 with a table: the n nodes are one script in preorder, against the kinds, with t texts, and the table allows each under its parent.
+pub fn nodes_ok_under(file: &[u8], n: usize, t: usize, table: &[u8]) -> bool
+    requires { Room file.now n }
+    ensures { result ≡ (fills t (root_place ∷ []) (nodes_of file.now n) && pairs table.now (None ∷ []) (nodes_of file.now n)) }
+{
+    let nodes = Nodes {
+        file,
+        count: n,
+        texts: t,
+        table,
+    };
+    nodes
+        .node(0, Class::Root, 200, None)
+        .is_ok_and(|root| root.behind() == n)
 }
 
 // Row 6: the n nodes are one script in preorder, against the kinds, with t texts.
@@ -134,12 +169,5 @@ pub fn nodes_ok(file: &[u8], n: usize, t: usize) -> bool
     requires { Room file.now n }
     ensures { result ≡ fills t (root_place ∷ []) (nodes_of file.now n) }
 {
-    let nodes = Nodes {
-        file,
-        count: n,
-        texts: t,
-    };
-    nodes
-        .node(0, Class::Root, 200)
-        .is_ok_and(|root| root.behind() == n)
+    nodes_ok_under(file, n, t, &KINDS)
 }

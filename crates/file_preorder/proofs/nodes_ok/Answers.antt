@@ -1,8 +1,9 @@
--- `file_preorder::nodes_ok` meets its contract: the script's own place is filled, and nothing is left over. Assumes nothing.
-use Rattle.std.proofs.Common.{drop, rules, tests}
-use Rattle.file_fields.proofs.Raws.{nodes-length}
-use Rattle.file_preorder.proofs.Fill.{filled-whole}
+-- `file_preorder::nodes_ok` meets its contract: the constant table allows each node that fills a place under its parent. Assumes nothing.
+use Rattle.std.proofs.Common.{◌∙◌}
+use Rattle.file_kinds.proofs.Table.{unmoved}
+use Rattle.file_preorder.specs.Child.{nodes_of}
+use Rattle.file_preorder.proofs.Fill.{and-implied}
 use Rattle.file_preorder.proofs.nodes_ok.Goals as goal
 
 pub returns : goal.returns
-returns c = filled-whole c.node.result c.is_ok_and.result (nodes-length c.args.n (drop 32 c.args.file.now)) c.node.ensures c.is_ok_and.ensures (λ root h. search (rules, tests))
+returns c = c.nodes_ok_under.ensures ∙ and-implied _ _ (unmoved c.args.t (nodes_of c.args.file.now c.args.n))

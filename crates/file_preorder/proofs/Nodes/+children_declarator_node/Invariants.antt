@@ -16,4 +16,4 @@ decreases-node l = 2 * l.left + 1
 
 -- the first i children are read
 abbrev pub invariant-children-loop-i : goal.invariant-children-loop-i
-invariant-children-loop-i l = Upto l.self.texts (nodes_of l.self.file.now l.self.count) (l.left - 1) (get_or (nodes_of l.self.file.now l.self.count) l.at zero_node) l.at l.i l.next
+invariant-children-loop-i l = Upto l.self.texts l.self.table.now (nodes_of l.self.file.now l.self.count) (l.left - 1) (get_or (nodes_of l.self.file.now l.self.count) l.at zero_node) l.at l.i l.next

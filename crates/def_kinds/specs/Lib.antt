@@ -1,0 +1,4 @@
+pub mod Stands
+pub mod Pairs
+pub mod Lent
+pub mod Examples
