@@ -57,6 +57,11 @@ has_all() {
     ! grep -v " root/root " "$out/contents"
 }
 
+# What is for those who work on the sources stays with them.
+has_no_more() {
+    ! grep -E "/(DECISIONS|DESIGN|PORT|TESTING)|/script/test|\.rt(\$|/)|/crates/" "$out/contents"
+}
+
 depends_on_libraries() {
     local depends package libraries
     depends=$(dpkg-deb --field "$deb" Depends) || return
@@ -64,6 +69,11 @@ depends_on_libraries() {
     for package in nodejs libc6 ${libraries:-node-acorn node-eslint-scope node-escodegen node-magic-string}; do
         grep -qE "(^|, )$package( |,|\$)" <<<"$depends" || { echo "$package is not in: $depends"; return 1; }
     done
+}
+
+# apt finds all that the package stands on among the packages that it knows, on a machine that has nothing yet. It only tells what it would do.
+apt_would() {
+    apt-get -s -o Dir::State::status=/dev/null --no-install-recommends install "$(realpath "$deb")" >"$out/apt" && grep "^Inst negbosun " "$out/apt"
 }
 
 # A command of the installed package, without anything of the checkout.
@@ -108,6 +118,11 @@ script_there() {
     from_there negbosun-script --accept "$root/usr/share/doc/negbosun/examples/tide.js" >"$out/tide.js" && cmp "$out/tide.js" samples/results/tide.js
 }
 
+# The command calls itself by its name there, and its documents by their place.
+help_there() {
+    from_there negbosun-script --help >"$out/help" && grep -q "^Usage: negbosun-script " "$out/help" && grep -q " /usr/share/doc/negbosun/MILLERS.md " "$out/help"
+}
+
 limited_there() {
     from_there negbosun-script --accept --runs 1 "$root/usr/share/doc/negbosun/examples/tide.js" >"$out/tide.js" && [ -s "$out/tide.js" ]
 }
@@ -132,7 +147,14 @@ one "made again" tools/make_deb "$out/second"
 deb=$out/first/negbosun_${version}_amd64.deb
 one "the same bytes" cmp "$deb" "$out/second/${deb##*/}"
 one "contents" has_all
+one "nothing for developers" has_no_more
 one "depends" depends_on_libraries
+
+if [ -n "$(apt-cache madison node-magic-string 2>/dev/null)" ]; then
+    one "apt would install it" apt_would
+else
+    echo "apt: skipped, no apt, or its lists of packages are absent (apt-get update)"
+fi
 
 one "database" new_database || finish
 one "installed" dpkg_there --install "$deb" || finish
@@ -152,6 +174,7 @@ fi
 if [ -d /usr/share/nodejs/acorn ] && [ -d /usr/share/nodejs/eslint-scope ] && [ -d /usr/share/nodejs/escodegen ] && [ -d /usr/share/nodejs/magic-string ]; then
     one "script" script_there
     one "script with a run limit" limited_there
+    one "script's help" help_there
 else
     echo "script: skipped, Debian's JavaScript libraries are absent (script/setup)"
 fi

@@ -1,11 +1,11 @@
 //! The variable inliner for gate scripts, called from Rust.
 //!
-//! The pass itself is written and proved in Rattle (crates/pass) and comes as a static library with two C functions. This crate
+//! The pass itself is written and proved in Rattle (crates/pass) and comes as a static library with three C functions. This crate
 //! declares them once and puts safe functions over them. A script goes in and comes out as a *tree file*; docs/TREE.md has its format.
 //!
-//! [`inline`] is all that most callers need; [`Inliner`] keeps its memory between files; [`inline_into`] and [`roots_into`] are the
-//! two C functions over the caller's own buffers; [`TreeFile`] shows a tree file's nodes and texts, [`Kind`] what each node is. Scripts may
-//! take values apart by patterns: `{today, before}` as a parameter stands in a file as [`Kind::ObjectPattern`], written out as
+//! [`inline`] is all that most callers need; [`Inliner`] keeps its memory between files; [`inline_into`], [`roots_into`] and [`root_of`]
+//! are the three C functions over the caller's own buffers; [`TreeFile`] shows a tree file's nodes and texts, [`Kind`] what each node is.
+//! Scripts may take values apart by patterns: `{today, before}` as a parameter stands in a file as [`Kind::ObjectPattern`], written out as
 //! `{today: today, before: before}`.
 //!
 //! ```

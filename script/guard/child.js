@@ -2,6 +2,7 @@
 'use strict';
 
 const fs = require('fs');
+const { writeAll } = require('../src/descriptor');
 const { treeOfText } = require('../src/to_tree');
 const { guard, variableOf } = require('./guard');
 const { findingLines } = require('./report');
@@ -22,4 +23,4 @@ function answerTo({ name, text, tree, ...options }) {
   return { ...outcome, findings: findings.map((finding) => plainFinding(finding, { name, text })) };
 }
 
-fs.writeSync(1, JSON.stringify(answerTo(JSON.parse(fs.readFileSync(0, 'utf8')))));
+writeAll(1, Buffer.from(JSON.stringify(answerTo(JSON.parse(fs.readFileSync(0, 'utf8'))))));

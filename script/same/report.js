@@ -26,10 +26,15 @@ function guardWords(outcome) {
   // What could not be judged counts against.
   const silent = 2 * unjudged > trials ? `the guard cannot say, in ${trials} trials` : `the guard saw no difference in ${trials} trials`;
   const seen = differing ? `${differing} of ${trials} trials differ` : silent;
-  return `${[seen, ...unclear].join(', ')}; a test and no proof`;
+  return `${[seen, ...unclear].join(', ')} (a test, no proof)`;
 }
 
 const HELD = 'nothing was written';
+
+const ENDS = {
+  unshown: `; ${HELD} (--keep-shown writes what is shown, --unshown writes it all the same)`,
+  accepted: '; accepted all the same, as an option asked for',
+};
 
 function shownWords({ level }) { return `shown for ${levelOf(level).words} (--host=${level}): the result does what the script does`; }
 
@@ -43,8 +48,7 @@ function summary(judged) {
   if (sort === 'unchanged') return judged.kept && judged.kept.back.length ? 'the script itself is left' : 'the pass changes nothing here';
   if (sort === 'differs') return `the result does something else: ${guardWords(outcome)}; ${HELD} (--accept writes it all the same)`;
   const verdict = check.shown ? shownWords(check) : unshownWords(judged);
-  const held = sort === 'unshown' ? `; ${HELD} (--keep-shown writes what is shown, --unshown writes it all the same)` : '';
-  return `${verdict}; ${guardWords(outcome)}${held}`;
+  return `${verdict}; ${guardWords(outcome)}${ENDS[sort] || ''}`;
 }
 
 // `about` has the script's name and text.

@@ -1,12 +1,11 @@
 // Many files: a line for each, a summary, and an exit status for a build.
 'use strict';
 
-const fs = require('fs');
 const { nameOf, readScript } = require('./input');
 const { runOne } = require('./run_one');
 const { findingsOf, sortOfError, worstOf } = require('./status');
 const { ScriptTrouble } = require('./trouble');
-const { write } = require('./output');
+const { progress, write } = require('./output');
 
 // One file's outcome; no error on a file ends the round.
 function outcomeOf(file, options) {
@@ -17,11 +16,6 @@ function outcomeOf(file, options) {
   } catch (error) {
     return { sort: sortOfError(error), lines: new ScriptTrouble(findingsOf(error)).lines(name) };
   }
-}
-
-// A line that is written over, where a person looks on.
-function progress(done, count, file) {
-  if (process.stderr.isTTY) fs.writeSync(2, done < count ? `\r\x1b[K${done + 1} of ${count}: ${file}` : '\r\x1b[K');
 }
 
 const SORTS = {
@@ -52,4 +46,4 @@ function check(options) {
   return worstOf(Object.keys(SORTS).filter((sort) => counts[sort]));
 }
 
-module.exports = { check, progress };
+module.exports = { check };

@@ -3,6 +3,7 @@
 
 const fs = require('fs');
 const path = require('path');
+const { plainly, remove } = require('./output');
 const { UsageTrouble } = require('./trouble');
 
 const there = (file) => fs.existsSync(file);
@@ -59,8 +60,10 @@ function writeFolder(folder, files, scripts, option) {
     for (const { inside, content } of files) put(path.join(stage, 'new'), inside, content);
     if (isNew) fs.renameSync(path.join(stage, 'new'), folder);
     else moveIn(stage, folder, files);
+  } catch (error) {
+    throw plainly(error, `${option} ${folder}`, folder);
   } finally {
-    fs.rmSync(stage, { recursive: true, force: true });
+    remove(stage);
   }
 }
 

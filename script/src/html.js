@@ -25,14 +25,20 @@ function part(value) {
 // A template whose values are escaped, but for HTML and lists of it.
 const html = (strings, ...values) => new Html(strings.reduce((made, string, index) => made + part(values[index - 1]) + string));
 
+// Words in which a script's own text stands in backquotes.
+const worded = (text) => text.split(/`([^`]*)`/).map((part, index) => (index % 2 ? html`<code>${part}</code>` : part));
+
 // A plain table: heads are names of columns, `number` saying that a column has numbers; rows are lists of cells.
 function table(heads, rows) {
   const sort = (index) => (heads[index].number ? ' class="number"' : '');
-  const cell = (name, more = '') => (value, index) => new Html(`<${name}${sort(index)}${more}>${part(value)}</${name}>`);
-  const lines = rows.map((row) => html`<tr>${row.map(cell('td'))}</tr>\n`);
-  return html`<div class="wide"><table class="plain"><thead><tr>${heads.map(({ name }) => name).map(cell('th', ' scope="col"'))}</tr></thead>
+  const head = ({ name }, index) => new Html(`<th${sort(index)} scope="col">${escaped(name)}</th>`);
+  // On a phone a number has its column's name beside it.
+  const named = (index) => (heads[index].number ? ` data-head="${escaped(heads[index].name)}"` : '');
+  const cell = (value, index) => new Html(`<td${sort(index)}${named(index)}>${part(value)}</td>`);
+  const lines = rows.map((row) => html`<tr>${row.map(cell)}</tr>\n`);
+  return html`<table class="plain"><thead><tr>${heads.map(head)}</tr></thead>
 <tbody>
-${lines}</tbody></table></div>`;
+${lines}</tbody></table>`;
 }
 
 // A whole page, which loads nothing: style and text stand in it.
@@ -55,4 +61,4 @@ ${body}
 `;
 }
 
-module.exports = { documentOf, html, table };
+module.exports = { documentOf, html, table, worded };

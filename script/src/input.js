@@ -5,41 +5,20 @@ const fs = require('fs');
 const path = require('path');
 const tty = require('tty');
 const { figure } = require('./limits');
-const { FileTrouble, UsageTrouble, trouble } = require('./trouble');
+const { bytesOf, sizeText } = require('./plain_file');
+const { UsageTrouble, trouble } = require('./trouble');
 
 // Far more than 1,024 nodes with their comments take; what is longer is not even parsed.
 const MOST_BYTES = 1000000;
 
-const WORDS = {
-  ENOENT: ['no such file', 'look at the name and at the folder that the command is run in'],
-  EISDIR: ['this is a folder', 'name a script in it, or take it whole with --check, --out-dir, --page or --json'],
-  EACCES: ['this file may not be read', 'let its owner allow it: chmod +r'],
-  ENOTDIR: ['no such file', 'a part of the name before it is a file and no folder'],
-};
-
-function fileTrouble(error) {
-  const [message, hint] = WORDS[error.code] || [error.message, null];
-  return new FileTrouble([{ at: null, message, hint }]);
-}
-
 const isStandard = (file) => file === undefined || file === '-';
 const nameOf = (file) => (isStandard(file) ? 'standard input' : file);
 
-function bytesOf(file) {
-  try {
-    const size = isStandard(file) ? 0 : fs.statSync(file).size;
-    return size > MOST_BYTES ? { size } : { bytes: fs.readFileSync(isStandard(file) ? 0 : file) };
-  } catch (error) {
-    if (error.syscall) throw fileTrouble(error);
-    throw error;
-  }
-}
-
 function readScript(file) {
   if (file === undefined && tty.isatty(0)) throw new UsageTrouble('name a script, or - for standard input; --help lists the options');
-  const { bytes, size = bytes.length } = bytesOf(file);
+  const { bytes, size } = bytesOf(isStandard(file) ? null : file, MOST_BYTES);
   if (size > MOST_BYTES) {
-    throw trouble(null, `${figure(size)} bytes, at most ${figure(MOST_BYTES)}`, 'a gate script is far shorter: is this the right file? Otherwise split it');
+    throw trouble(null, `${sizeText(size)}, at most ${figure(MOST_BYTES)}`, 'a gate script is far shorter: is this the right file? Otherwise split it');
   }
   try {
     return new TextDecoder('utf-8', { fatal: true, ignoreBOM: true }).decode(bytes);
@@ -50,9 +29,19 @@ function readScript(file) {
 
 const isFolder = (name) => name !== '-' && fs.existsSync(name) && fs.statSync(name).isDirectory();
 
-// The scripts below a folder, by their names in it.
+// What a folder has in it; null where that cannot be read.
+function entriesOf(folder) {
+  try {
+    return fs.readdirSync(folder, { withFileTypes: true }).sort((a, b) => (a.name < b.name ? -1 : 1));
+  } catch {
+    return null;
+  }
+}
+
+// The scripts below a folder, by their names in it. A folder that cannot be read stands in their place, and reading it says why.
 function scriptsBelow(folder, inside = '') {
-  const entries = fs.readdirSync(path.join(folder, inside), { withFileTypes: true }).sort((a, b) => (a.name < b.name ? -1 : 1));
+  const entries = entriesOf(path.join(folder, inside));
+  if (!entries) return [inside];
   return entries.flatMap((entry) => {
     const name = path.join(inside, entry.name);
     if (entry.name.startsWith('.') || entry.name === 'node_modules') return [];
@@ -63,10 +52,12 @@ function scriptsBelow(folder, inside = '') {
 
 // The scripts that names stand for: { file, inside }, `inside` being its name in the folder, or alone.
 function scriptsOf(names) {
-  return names.flatMap((name) => {
+  const scripts = names.flatMap((name) => {
     if (!isFolder(name)) return [{ file: name, inside: name === '-' ? 'standard-input.js' : path.basename(name) }];
-    return scriptsBelow(name).map((inside) => ({ file: path.join(name, inside), inside }));
+    return scriptsBelow(name).map((inside) => ({ file: path.join(name, inside), inside: inside || path.basename(name) }));
   });
+  if (!scripts.length) throw new UsageTrouble(`${names.join(', ')}: no *.js in there`);
+  return scripts;
 }
 
 module.exports = { isFolder, nameOf, readScript, scriptsOf };

@@ -1,18 +1,16 @@
 // The command: options in, output and exit status out.
 'use strict';
 
-const fs = require('fs');
 const { check } = require('./check');
 const { troubleLines } = require('./frame');
 const { nameOf, readScript, scriptsOf } = require('./input');
 const { many } = require('./many');
+const { NAME } = require('./name');
 const { readOptions } = require('./options');
 const { runOne } = require('./run_one');
 const { STATUS, statusOf } = require('./status');
 const { FileTrouble, PortTrouble, ScriptTrouble, UsageTrouble, toolError } = require('./trouble');
-const { write } = require('./output');
-
-const say = (text) => fs.writeSync(2, `${text}\n`);
+const { refuseOwnOutput, say, write } = require('./output');
 
 function single(options) {
   const [file] = options.files;
@@ -29,10 +27,10 @@ function failed(error, options) {
     return error instanceof FileTrouble ? STATUS.wrong : STATUS.refused;
   }
   if (error instanceof UsageTrouble || error instanceof PortTrouble || error.syscall) {
-    say(`script/inline: ${error.message}`);
+    say(`${NAME}: ${error.message}`);
     return STATUS.wrong;
   }
-  say(`script/inline: ${toolError(error)}`);
+  say(`${NAME}: ${toolError(error)}`);
   return STATUS.tool;
 }
 
@@ -44,6 +42,7 @@ function main(list) {
       write(options.help);
       return STATUS.well;
     }
+    refuseOwnOutput(options.files);
     if (options.isMany) return many(options, say);
     if (options.output !== 'check') return single(options);
     return check({ ...options, files: scriptsOf(options.files).map(({ file }) => file) });

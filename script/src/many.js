@@ -3,11 +3,10 @@
 
 const path = require('path');
 const { refusedAccount } = require('./account');
-const { progress } = require('./check');
 const { writeFolder } = require('./folder');
 const { troubleLines } = require('./frame');
 const { isFolder, nameOf, readScript, scriptsOf } = require('./input');
-const { write } = require('./output');
+const { progress, write } = require('./output');
 const { pageOf } = require('./page');
 const { indexOf, summary } = require('./page_index');
 const { runOne } = require('./run_one');
@@ -37,7 +36,6 @@ function entryOf(script, options) {
 
 function entriesOf(options) {
   const scripts = scriptsOf(options.files.length ? options.files : ['-']);
-  if (!scripts.length) throw new UsageTrouble(`${options.files.join(', ')}: no *.js in there`);
   const entries = scripts.map((script, index) => {
     progress(index, scripts.length, script.file);
     return entryOf(script, options);

@@ -2,52 +2,69 @@
 'use strict';
 
 const { parseArgs } = require('util');
+const { TITLES } = require('../guard/classify');
 const { DEFAULT_LEVEL, LEVELS, levelOf } = require('../same/levels');
 const many = require('./many_options');
+const { DOCS, NAME } = require('./name');
 const { MOST_RUNS } = require('./port');
 const { WORDS } = require('./refusals');
 const { UsageTrouble } = require('./trouble');
 const { VERSION } = require('./version');
 
-const HELP = `Usage: script/inline [OPTIONS] [FILE.js]
-       script/inline --check|--json|--page DIR|--out-dir DIR [OPTIONS] FILE.js|FOLDER...
+const HELP = `Usage: ${NAME} [OPTIONS] [FILE.js]
+       ${NAME} --check|--json|--page DIR|--out-dir DIR [OPTIONS] FILE.js|FOLDER...
 
 Takes a gate script (a file, or standard input, also named -) through the proved pass and prints the result: the script's own
 text, with its comments and layout, in which the names that the pass replaces are replaced, if it is shown to do what the script
-does for every host of the chosen sort. Otherwise the places in the way are told and nothing is written. As a second opinion both
-are run beside each other against made-up hosts. Of a folder all *.js below it are taken.
+does for every host (what runs it, the cabinet) of the chosen sort. Otherwise the places in the way are told and nothing is
+written. As a second opinion both are run beside each other against made-up hosts. Of a folder all *.js below it are taken.
 
-  --tree            write the script's tree file alone
-  --lines           write the port's lines
-  --compare         show script and result line by line, with each replaced name and each emptied declaration
+  ${NAME} gate.js                  the result on standard output, the verdict on standard error
+  ${NAME} --compare gate.js        what becomes of the script, line by line
+  ${NAME} --page pages gates       pages to look at in a browser, for all scripts of a folder
+  ${NAME} --out-dir built gates    for a build: all results, or none
+
+What is written:
+  --compare         script and result line by line, with each replaced name and each emptied declaration
   --check           go through many files: a line for each, a summary, an exit status
   --out FILE        write there instead of to standard output (-), whole or not at all
-${many.HELP}  --host SORT       what is taken for granted of the host (${DEFAULT_LEVEL}):
+${many.WRITTEN}  --tree            the script's tree file alone
+  --lines           the lines of the program that does the pass
+
+When it is written:
+  --host SORT       what is taken for granted of the host (${DEFAULT_LEVEL}):
                       anything  nothing: it may read, set and call all that the script's top declares, at any moment
-                      reads     it sets none of the script's variables, and calls its functions only after the script's end
+                      reads     it sets none of the script's variables, and calls its functions only after the script's end,
+                                but for those handed to it
                       apart     and it does not read them either
                       plain     and its values are plain, its functions and objects stay what they are
   --keep-shown      keep only the changes that are shown, put the rest back as the script has it, and say what and why
   --unshown         write the result although it is not shown, if the guard has nothing against it
-  --samples FILE    real values of the host for the guard (the script's name with .samples.json, if it is there)
-  --runs N          at most N runs, 1 to ${MOST_RUNS} (${MOST_RUNS})
   --accept          write the result whatever was found; --accept=1,13 for these classes only, if all the rest is shown
-  --no-guard        do not run script and result beside each other; the verdict is by what is shown alone
+
+The guard, the second opinion:
+  --samples FILE    real values of the host for it (the script's name with .samples.json, if it is there)
   --trials N        how many made-up hosts (60)
   --seed N          other made-up hosts (1)
-  --port PROGRAM    the port (NEGBOSUN_PORT, or target/bin/negbosun)
+  --no-guard        do not run script and result beside each other; the verdict is by what is shown alone
+
+The pass:
+  --runs N          at most N runs, 1 to ${MOST_RUNS} (${MOST_RUNS})
+${many.LIMITS}  --port PROGRAM    the program that does it (NEGBOSUN_PORT, or target/bin/negbosun)
+
   --version         the version
   -h, --help        this text
 
 Exit status: 0 shown, unchanged or accepted; 1 refused (with many scripts: at least one); 2 called wrongly, no such file, or
-no port; 3 the result does something else; 4 not shown, and no difference found; 5 an error of the tool itself.
-Classes are those of docs/DIFFERENCES.md. docs/MILLERS.md says what may be written in a script.
+the program that does the pass is not there; 3 the result does something else; 4 not shown, and no difference found; 5 an error
+of the tool itself. Classes are those of ${DOCS}/DIFFERENCES.md. ${DOCS}/MILLERS.md says what may be written in a script.
 `;
 
 const FLAGS = ['tree', 'lines', 'compare', 'check', 'no-guard', 'keep-shown', 'unshown', 'help', ...many.FLAGS];
 const VALUES = ['out', 'runs', 'trials', 'seed', 'port', 'accept', 'host', 'samples', ...many.VALUES];
 const SHORT = { help: { type: 'boolean', short: 'h' } };
 const MOST_TRIALS = 100000;
+const LAST_CLASS = Math.max(...Object.keys(TITLES));
 
 function whole(text, name, low, high) {
   const value = Number(text);
@@ -64,7 +81,7 @@ function runLimit(text) {
 function acceptedClasses(text) {
   if (text === undefined) return () => false;
   if (text === '') return () => true;
-  const classes = new Set(text.split(',').map((part) => whole(part, 'accept', 1, 18)));
+  const classes = new Set(text.split(',').map((part) => whole(part, 'accept', 1, LAST_CLASS)));
   return (number) => classes.has(number);
 }
 
@@ -80,14 +97,22 @@ function parsed(list) {
   try {
     return parseArgs({ args: given, options: { ...options, ...SHORT }, allowPositionals: true });
   } catch (error) {
-    throw new UsageTrouble(`${error.message.split('. ')[0]}; --help lists the options`);
+    const [first] = error.message.split(/\.(?:\s|$)/);
+    throw new UsageTrouble(`${first.replace('argument is ambiguous', 'is followed by an option in the place of its value')}; --help lists the options`);
   }
+}
+
+// Numbers behind `--accept` stand for classes only with the sign between.
+function checkAccept(text, files) {
+  const numbers = text === '' ? files.find((name) => /^\d+(,\d+)*$/.test(name)) : undefined;
+  if (numbers !== undefined) throw new UsageTrouble(`--accept ${numbers} accepts all; --accept=${numbers} accepts these classes`);
 }
 
 function readOptions(list) {
   const { values, positionals: files } = parsed(list);
   if (values.help) return { help: HELP };
   if (values.version) return { help: `negbosun ${VERSION}\n` };
+  checkAccept(values.accept, files);
   const kinds = ['tree', 'lines', 'compare', 'check'].filter((name) => values[name]);
   if (kinds.length > 1) throw new UsageTrouble(`--${kinds[0]} and --${kinds[1]} do not go together`);
   const more = many.readMany(values, files, kinds);

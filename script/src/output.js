@@ -1,20 +1,11 @@
-// Output that appears whole or not at all.
+// Output that appears whole or not at all, and what is said beside it.
 'use strict';
 
 const fs = require('fs');
 const path = require('path');
+const tty = require('tty');
+const { writeAll } = require('./descriptor');
 const { UsageTrouble } = require('./trouble');
-
-function writeAll(descriptor, bytes) {
-  for (let done = 0; done < bytes.length;) {
-    try {
-      done += fs.writeSync(descriptor, bytes, done);
-    } catch (error) {
-      // A full pipe takes the rest once its reader has read on.
-      if (error.code !== 'EAGAIN') throw error;
-    }
-  }
-}
 
 // Where a name leads in the end; a device or folder is never replaced, nor a script by its result.
 function placeOf(file, scripts) {
@@ -25,16 +16,28 @@ function placeOf(file, scripts) {
   return real;
 }
 
+// Some of a system's words on a file apply to standard output, too.
 const WORDS = {
+  EPIPE: () => 'what it was sent to has ended before it had read all',
   ENOENT: (file) => `the folder ${path.dirname(file)} is not there; make it first`,
+  ENOTDIR: () => 'a part of this name is a file and no folder',
   EACCES: () => 'this may not be written here',
   EROFS: () => 'nothing can be written here',
   ENOSPC: () => 'there is no room left on the disk',
 };
 
 // What the system says about a file that cannot be written, in plain words.
-function plainly(error, file) {
-  return WORDS[error.code] ? new UsageTrouble(`--out ${file}: ${WORDS[error.code](file)}`) : error;
+function plainly(error, name, file) {
+  return WORDS[error.code] ? new UsageTrouble(`${name}: ${WORDS[error.code](file)}`) : error;
+}
+
+// What was begun and is not wanted; where it could not be begun there is nothing to remove.
+function remove(place) {
+  try {
+    fs.rmSync(place, { recursive: true, force: true });
+  } catch (error) {
+    if (error.code !== 'ENOTDIR') throw error;
+  }
 }
 
 // A file is written beside its name and then moved there.
@@ -45,8 +48,24 @@ function writeFile(file, bytes, scripts) {
     fs.writeFileSync(beside, bytes, { flag: 'wx' });
     fs.renameSync(beside, place);
   } catch (error) {
-    fs.rmSync(beside, { force: true });
-    throw plainly(error, file);
+    remove(beside);
+    throw plainly(error, `--out ${file}`, file);
+  }
+}
+
+// Where standard output is a script that is to be read, whoever called the command has lost it already, and should know.
+function refuseOwnOutput(files) {
+  const { dev, ino } = fs.fstatSync(1);
+  const isOutput = (file) => fs.existsSync(file) && fs.statSync(file).dev === dev && fs.statSync(file).ino === ino && fs.statSync(file).isFile();
+  const own = files.find(isOutput);
+  if (own !== undefined) throw new UsageTrouble(`standard output is ${own} itself, of which \`>\` leaves nothing; name another file, by --out or behind \`>\``);
+}
+
+function writeOut(bytes) {
+  try {
+    writeAll(1, bytes);
+  } catch (error) {
+    throw plainly(error, 'standard output');
   }
 }
 
@@ -54,7 +73,23 @@ function writeFile(file, bytes, scripts) {
 function write(content, file, scripts = []) {
   const bytes = Buffer.from(content);
   if (file) writeFile(file, bytes, scripts);
-  else writeAll(1, bytes);
+  else writeOut(bytes);
 }
 
-module.exports = { write };
+// Where nobody reads it any more, the exit status still tells the outcome.
+function tell(text) {
+  try {
+    writeAll(2, Buffer.from(text));
+  } catch (error) {
+    if (!error.syscall) throw error;
+  }
+}
+
+const say = (text) => tell(`${text}\n`);
+
+// A line that is written over, where a person looks on.
+function progress(done, count, file) {
+  if (tty.isatty(2)) tell(done < count ? `\r\x1b[K${done + 1} of ${count}: ${file}` : '\r\x1b[K');
+}
+
+module.exports = { plainly, progress, refuseOwnOutput, remove, say, write };

@@ -1,7 +1,7 @@
 // One static page for one script: the verdict, script and result side by side with every change marked, the variables, the refusals at their place.
 'use strict';
 
-const { documentOf, html, table } = require('./html');
+const { documentOf, html, table, worded } = require('./html');
 const { figure } = require('./limits');
 const { STYLE } = require('./page_style');
 const { rowsOf } = require('./rows');
@@ -59,7 +59,7 @@ const SIGNS = { 'not shown': '?', different: '≠', 'put back': '↩', note: 'i'
 function placeNote({ line, variable, reason, kind }, { sign, status }) {
   const of = variable ? html` <code>${variable}</code>` : '';
   const where = line ? `, line ${line}` : '';
-  return html`<li class="place"><b>${kind ? SIGNS[kind] ?? '?' : sign} ${kind ?? status}</b>${where}${of}: ${sentence(reason)}</li>`;
+  return html`<li class="place"><b>${kind ? SIGNS[kind] ?? '?' : sign} ${kind ?? status}</b>${where}${of}: ${worded(sentence(reason))}</li>`;
 }
 
 function findingNote({ when, script, result }) {
@@ -68,7 +68,7 @@ function findingNote({ when, script, result }) {
 
 function refusalNote({ line, column, message, hint }, { status }) {
   const place = line === null ? '' : html`, line ${line}, column ${column}`;
-  return html`<li class="refusal"><b>✕ ${status}</b>${place}: ${sentence(message)} ${hint ? begun(sentence(hint)) : ''}</li>`;
+  return html`<li class="refusal"><b>✕ ${status}</b>${place}: ${worded(sentence(message))} ${hint ? worded(begun(sentence(hint))) : ''}</li>`;
 }
 
 // All that is told of a line of the script.

@@ -57,7 +57,11 @@ const NARROW = `@media (max-width: 45rem) {
   .sides tr.notes { display: block; }
   .sides tr.notes td { display: block; }
   .notes ul { padding-left: .4rem; }
-  .wide { overflow-x: auto; }
+  .plain thead { display: none; }
+  .plain, .plain tbody { display: block; }
+  .plain tr { display: flex; flex-wrap: wrap; gap: 0 .8rem; padding: .3rem 0; border-bottom: 1px solid var(--line); }
+  .plain td { border: 0; padding: 0; overflow-wrap: anywhere; }
+  .plain td.number::before { content: attr(data-head) " "; color: var(--soft); }
 }
 `;
 
@@ -67,6 +71,7 @@ const PRINT = `@media print {
   code, .code, .sides td.at { font-size: 7.5pt; }
   .sides .at { width: 3.2rem; }
   tr, .verdict { break-inside: avoid; }
+  tr.notes { break-before: avoid; }
   .changed td { border-top: 1px solid var(--line); }
   thead { display: table-header-group; }
   a { color: inherit; text-decoration: none; }

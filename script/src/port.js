@@ -22,26 +22,28 @@ const portPath = (named, runs) => named || process.env.NEGBOSUN_PORT || (runs !=
 const tooLong = (seconds) => trouble(null, `the pass did not end within ${seconds} ${seconds === 1 ? 'second' : 'seconds'}`,
   'take functions out of one another, above all `var v = function () { ... };` inside another one, or give it more time: --time-limit SECONDS');
 
+const WORDS = { EACCES: 'this is no program that may be run', ENOEXEC: 'this is no program that can be run' };
+
 // Without a limit the program is called without arguments, as document 01 has it.
 function portOutput(bytes, { port, runs, seconds = SECONDS }) {
   const command = portPath(port, runs);
   if (!fs.existsSync(command)) {
-    const words = `no port at ${command}; build it by tools/build negbosun, or name one by --port or NEGBOSUN_PORT`;
+    const words = `the program that does the pass is not there: ${command}; build it by tools/build negbosun, or name it by --port or NEGBOSUN_PORT`;
     throw Object.assign(new PortTrouble(words), { isAbsent: true });
   }
   const list = runs === undefined ? [] : ['--runs', String(runs)];
-  const { stdout, stderr, error } = spawnSync(command, list, { input: bytes, encoding: 'utf8', maxBuffer: LONGEST_ANSWER, timeout: 1000 * seconds, killSignal: 'SIGKILL' });
+  const { stdout, stderr, error } = spawnSync(path.resolve(command), list, { input: bytes, encoding: 'utf8', maxBuffer: LONGEST_ANSWER, timeout: 1000 * seconds, killSignal: 'SIGKILL' });
   if (error && error.code === 'ETIMEDOUT') throw tooLong(seconds);
-  if (error && error.code !== 'EPIPE') throw new PortTrouble(`${command}: ${error.message}`);
+  if (error && error.code !== 'EPIPE') throw new PortTrouble(`${command}: ${WORDS[error.code] || error.message}`);
   if (!/^(refused \d+|ok runs \d+ changed [01] nodes \d+)$/m.test(stdout)) {
-    throw new PortTrouble(`${command} gave no answer of the port${stderr ? `: ${stderr.trim()}` : ''}`);
+    throw new PortTrouble(`${command} is not the program that does the pass: it gave no such answer${stderr ? `, but: ${stderr.trim()}` : ''}`);
   }
   return stdout;
 }
 
 // A port that passes over its arguments makes 16 runs; what ended by itself within the limit is the same either way.
 function checkLimit(done, runs) {
-  if (runs !== undefined && done > runs) throw new PortTrouble(`this port takes no run limit: ${done} runs were made; build caller/ (cargo build --release), whose tool does`);
+  if (runs !== undefined && done > runs) throw new PortTrouble(`the program that does the pass takes no run limit: ${done} runs were made; build caller/ (cargo build --release), whose tool does`);
 }
 
 // The answer to a tree file: a refusal's number, or lines, runs, mark, the result's tree and the variables of the script's top.

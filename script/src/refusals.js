@@ -12,7 +12,7 @@ const WORDS = {
   3: 'the script is too long: over 1,024 nodes, 256 different names and texts, or 4,096 bytes of them',
   4: 'a length or offset in the tree file is not the sum of its parts',
   5: 'the texts of the tree file are out of order, or two are the same',
-  6: 'the script is nested over 200 deep, or its tree is not one that document 01 allows',
+  6: 'the script is nested over 200 deep, or its tree file has a node where the format (docs/TREE.md) allows none of its kind',
   7: 'the script has over 256 different variables',
   8: 'while running, the script or what was put in its place came to be over 200 deep (a constant may name itself), '
     + 'over 32 scopes were open in one another, or over 12 right sides of && and ||',

@@ -4,7 +4,7 @@
 var ready = require('./ready');
 
 if (ready.amiss(process.versions.node, require.resolve)) {
-  process.stderr.write('run script/setup\n');
+  require('fs').writeSync(2, 'run script/setup\n');
   process.exitCode = 2;
 } else {
   require('./main');

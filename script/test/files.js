@@ -2,6 +2,7 @@
 'use strict';
 
 const fs = require('fs');
+const os = require('os');
 const path = require('path');
 
 const ROOT = path.join(__dirname, '..', '..');
@@ -16,4 +17,18 @@ const sampleText = (name) => read(path.join(ROOT, sampleFile(name)));
 // The lines of a list of scripts, without its remarks.
 const listed = (name) => read(path.join(__dirname, name)).split('\n').filter((line) => line && !line.startsWith('#'));
 
-module.exports = { ROOT, RESULTS, read, samples, sampleFile, sampleText, listed };
+// Runs `act` in a folder that holds the given files, and removes it.
+function inFolder(files, act) {
+  const folder = fs.mkdtempSync(path.join(os.tmpdir(), 'inline-'));
+  try {
+    for (const [name, content] of Object.entries(files)) {
+      fs.mkdirSync(path.dirname(path.join(folder, name)), { recursive: true });
+      fs.writeFileSync(path.join(folder, name), content);
+    }
+    return act(folder);
+  } finally {
+    fs.rmSync(folder, { recursive: true });
+  }
+}
+
+module.exports = { ROOT, RESULTS, inFolder, read, samples, sampleFile, sampleText, listed };

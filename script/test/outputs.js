@@ -4,7 +4,6 @@
 const assert = require('assert');
 const { spawnSync } = require('child_process');
 const fs = require('fs');
-const os = require('os');
 const path = require('path');
 const { writeFolder } = require('../src/folder');
 const { frame } = require('../src/frame');
@@ -12,7 +11,7 @@ const { amiss } = require('../src/ready');
 const { scopesIn } = require('../src/running');
 const { treeOfText } = require('../src/to_tree');
 const { VERSION } = require('../src/version');
-const { ROOT, read } = require('./files');
+const { ROOT, inFolder, read } = require('./files');
 const { each } = require('./harness');
 
 const COMMAND = path.join(ROOT, 'script', 'inline');
@@ -21,20 +20,6 @@ const COMMAND = path.join(ROOT, 'script', 'inline');
 function inline(cwd, list, input = '', env = process.env) {
   const { status, stdout, stderr } = spawnSync(COMMAND, ['--no-guard', '--accept', ...list], { cwd, input, env, encoding: 'utf8' });
   return { status, text: stdout, said: stderr };
-}
-
-// Runs `act` in a folder that holds the given files, and removes it.
-function inFolder(files, act) {
-  const folder = fs.mkdtempSync(path.join(os.tmpdir(), 'inline-'));
-  try {
-    for (const [name, content] of Object.entries(files)) {
-      fs.mkdirSync(path.dirname(path.join(folder, name)), { recursive: true });
-      fs.writeFileSync(path.join(folder, name), content);
-    }
-    return act(folder);
-  } finally {
-    fs.rmSync(folder, { recursive: true });
-  }
 }
 
 const GATES = { 'gates/a.js': 'const a = 1; f(a);', 'gates/below/b.js': '// kept\nvar b = 2; g(b);', 'gates/readme.txt': 'no script' };
@@ -137,6 +122,12 @@ const SAID = [
   [['--json', '--lines', 'x.js'], '', 2, /--json and --lines do not go together/],
   [['a.js', 'b.js'], '', 2, /one file at a time/],
   [['--out', 'no/such/out.js'], 'f();', 2, /script\/inline: --out no\/such\/out\.js: the folder no\/such is not there; make it first\n$/],
+  [['--page', 'gate.js'], 'f();', 2, /^script\/inline: --page gate\.js: that is a script's name; name the page before the script: --page gate\.html gate\.js\n$/],
+  [['--accept', '13', 'gate.js'], '', 2, /^script\/inline: --accept 13 accepts all; --accept=13 accepts these classes\n$/],
+  [['--time-limit', '-1'], '', 2, /^script\/inline: Option '--time-limit' is followed by an option in the place of its value; --help lists the options\n$/],
+  [['--out-dir', 'README.md/built', 'samples/scripts/levels.js'], '', 2, /\nscript\/inline: --out-dir README\.md\/built: a part of this name is a file and no folder\n$/],
+  [['--port', 'samples'], 'f();', 2, /^script\/inline: samples: this is no program that may be run\n$/],
+  [['--port', '/bin/true'], 'f();', 2, /^script\/inline: \/bin\/true is not the program that does the pass: it gave no such answer\n$/],
   [['--what'], '', 2, /^script\/inline: Unknown option '--what'; --help lists the options\n$/],
 ];
 

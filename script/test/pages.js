@@ -2,10 +2,6 @@
 'use strict';
 
 const assert = require('assert');
-const { spawnSync } = require('child_process');
-const fs = require('fs');
-const os = require('os');
-const path = require('path');
 const { readOptions } = require('../src/options');
 const { pageOf } = require('../src/page');
 const { indexOf, summary } = require('../src/page_index');
@@ -98,54 +94,6 @@ function checkIndex() {
   assert.ok(plain(page).includes(`${samples().length} scripts: ${counts}.`));
 }
 
-// What a browser finds on the page is written into the page itself, on a copy that may run scripts.
-const FACTS = `<script>
-const shown = (selector) => [...document.querySelectorAll(selector)].filter((one) => one.getClientRects().length).length;
-document.documentElement.dataset.facts = JSON.stringify({
-  tooWide: document.documentElement.scrollWidth > innerWidth, struck: shown('del'), underlined: shown('ins'), notes: shown('.notes li'),
-  sameResults: shown('tr.same td.code.result'), results: shown('tr.changed td.code.result'), heads: shown('.sides thead'), text: document.body.innerText.length,
-});
-</script></body>`;
-
-function browse(chromium, page, width) {
-  const folder = fs.mkdtempSync(path.join(os.tmpdir(), 'page-'));
-  try {
-    const file = path.join(folder, 'page.html');
-    fs.writeFileSync(file, page.replace(/<meta http-equiv[^>]*>/, '').replace('</body>', FACTS));
-    const list = ['--headless', '--disable-gpu', '--no-first-run', `--user-data-dir=${folder}/profile`, `--window-size=${width},900`, '--dump-dom', `file://${file}`];
-    const { stdout } = spawnSync(chromium, process.getuid() === 0 ? ['--no-sandbox', ...list] : list, { encoding: 'utf8', timeout: 60000 });
-    const found = /data-facts="([^"]*)"/.exec(stdout || '');
-    return found && JSON.parse(found[1].replace(/&quot;/g, '"'));
-  } finally {
-    fs.rmSync(folder, { recursive: true, force: true });
-  }
-}
-
-// Side by side where there is room; on a phone one below the other, unchanged lines once, and nothing too wide.
-function checkFacts({ account }, wide, narrow) {
-  const changes = account.changes.length;
-  const notes = changes + account.verdict.places.filter(({ line }) => line).length;
-  for (const facts of [wide, narrow]) {
-    assert.deepStrictEqual([facts.tooWide, facts.notes], [false, notes]);
-    assert.ok(facts.struck >= changes && facts.underlined >= changes && facts.results > 0 && facts.text > account.script.length);
-  }
-  assert.ok(wide.sameResults > 0 && wide.heads === 1);
-  assert.deepStrictEqual([narrow.sameResults, narrow.heads], [0, 0]);
-}
-
-const browserOf = () => ['chromium', 'chromium-browser', 'google-chrome'].find((name) => spawnSync(name, ['--version'], { timeout: 60000 }).status === 0);
-
-function testInBrowser() {
-  const browser = browserOf();
-  const sample = made('tide', sampleText('tide'));
-  const [wide, narrow] = browser ? [browse(browser, sample.page, 1200), browse(browser, sample.page, 500)] : [null, null];
-  if (!wide || !narrow) {
-    console.log(`a page in a browser: skipped, ${browser ? `${browser} does not start here` : 'chromium is absent (apt-get install chromium)'}`);
-    return;
-  }
-  each('a page in a browser', [0], () => checkFacts(sample, wide, narrow));
-}
-
 function testPages() {
   each('pages of samples: text and marks', samples(), checkPage);
   each('pages of samples: counts', samples(), checkCounts);
@@ -153,7 +101,6 @@ function testPages() {
   each('a page of a refused script', [0], checkRefused);
   each('verdicts on a page', [0], checkVerdicts);
   each('the index', [0], checkIndex);
-  testInBrowser();
 }
 
-module.exports = { testPages };
+module.exports = { made, testPages };

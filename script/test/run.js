@@ -2,10 +2,12 @@
 'use strict';
 
 const { counts } = require('./harness');
+const { testInBrowser } = require('./browser');
 const { testContexts, testErrors, testPrinting, testRoundTrips, testTreeOfSample } = require('./without_port');
 const { testOutputs, testPlaces } = require('./outputs');
 const { testOwnText } = require('./own_text');
 const { testPages } = require('./pages');
+const { testStreams } = require('./streams');
 const { testHunt, testKeeping, testRules, testTime, testUnknownKinds, testVerdicts } = require('./same_meaning');
 const { testCommand, testGuard, testGuardReaches, testRefusals, testResults, testSamples } = require('./with_port');
 
@@ -30,9 +32,11 @@ if (process.env.NEGBOSUN_PORT) {
   testCommand();
   testOwnText();
   testOutputs();
+  testStreams();
   testPages();
+  testInBrowser();
 } else {
-  console.log('refusals, results, samples, verdicts, guard, command, own text, outputs and pages: skipped, no port');
+  console.log('refusals, results, samples, verdicts, guard, command, own text, outputs, streams and pages: skipped, no port');
 }
 console.log(`${counts.passed} passed, ${counts.failed} failed`);
 process.exitCode = counts.failed ? 1 : 0;

@@ -150,6 +150,7 @@ function testGuard() {
   each('the guard is quiet where nothing differs', QUIET, (text) => assert.deepStrictEqual(numbers(text), [], text));
 }
 
+const SWAPPED = 'let from = 300, to = 480; [from, to] = [to, from]; raise(from);';
 const DIFFERING = 'function f(t, c) { if (t + c > 300) { g(); } t = 0; }';
 
 function outputIsWholeOrAbsent() {
@@ -207,7 +208,7 @@ function accounts() {
   assert.deepStrictEqual([kept.status, kept.result, kept.changes], [0, CORE, []]);
   assert.ok(kept.verdict.places.some(({ variable, kind }) => variable === 'change' && kind === 'put back'));
   assert.doesNotMatch(inline(['--no-guard', '--keep-shown', '--compare'], CORE).text, /^ {6}\+/m);
-  assert.match(told([], 'var x = 1; x;').verdict.least, /^apart, such a host/);
+  assert.match(told([], 'var x = 1; x;').verdict.least, /^apart, a host that neither sets nor reads the script's variables and calls/);
 }
 
 // A folder of results is held back with the one that is not shown.
@@ -265,7 +266,11 @@ function samplesOfHost() {
     fs.writeFileSync(path.join(folder, 'gate.samples.json'), '{"config()": ["{\\"most\\": 5}"]}');
     assert.strictEqual(inline([script]).status, 3);
     fs.writeFileSync(path.join(folder, 'gate.samples.json'), '{"config()": 5}');
-    assert.strictEqual(inline([script]).status, 2);
+    const wrong = inline([script]);
+    assert.strictEqual(wrong.status, 2);
+    assert.match(wrong.said, /gate\.samples\.json: an object of names with lists of values is needed: \{"config\(\)": /);
+    assert.match(inline(['--samples', '/dev/zero', script]).said, /^script\/inline: samples \/dev\/zero: this is no plain file\n$/);
+    assert.match(inline(['--samples', 'README.md', script]).said, /^script\/inline: samples README\.md: no JSON: /);
   } finally {
     fs.rmSync(folder, { recursive: true });
   }
@@ -279,10 +284,16 @@ const COMMANDS = {
     const { text, status, said } = inline([], DIFFERING);
     assert.deepStrictEqual([text, status], ['', 3]);
     assert.match(said, /class 5 of docs\/DIFFERENCES.md/);
-    assert.match(said, /a test and no proof/);
+    assert.match(said, /trials differ \(a test, no proof\)/);
   },
   'accepted': () => assert.strictEqual(inline(['--accept'], DIFFERING).status, 0),
-  'accepted by class': () => assert.deepStrictEqual([inline(['--accept=5'], DIFFERING).status, inline(['--accept=7'], DIFFERING).status], [0, 3]),
+  'accepted by class': () => {
+    assert.deepStrictEqual([inline(['--accept=5'], DIFFERING).status, inline(['--accept=7'], DIFFERING).status], [0, 3]);
+    const accepted = inline(['--host=apart', '--accept=19'], SWAPPED);
+    assert.strictEqual(accepted.status, 0);
+    assert.match(accepted.said, / trials differ \(a test, no proof\); accepted all the same, as an option asked for\n$/);
+    assert.match(inline(['--accept=20'], SWAPPED).said, /--accept takes a number from 1 to 19\n$/);
+  },
   'without the guard the static check alone decides': () => {
     const { text, status, said } = inline(['--no-guard'], DIFFERING);
     assert.deepStrictEqual([text, status], ['', 4]);
@@ -309,7 +320,7 @@ const COMMANDS = {
   'one run, where a port takes a limit': () => {
     const { NEGBOSUN_PORT, ...unnamed } = process.env;
     const { text, said } = inline(['--no-guard', '--lines', '--runs', '1'], 'var x = 1; x;', takesLimit() ? unnamed : process.env);
-    assert.match(text + said, takesLimit() ? /^ok runs 1 changed 1 / : /^ok runs 1 changed 1 |this port takes no run limit/);
+    assert.match(text + said, takesLimit() ? /^ok runs 1 changed 1 / : /^ok runs 1 changed 1 |takes no run limit/);
   },
   'a file that is not UTF-8': () => assert.match(inline([], Buffer.from([0x78, 0xff])).said, /not UTF-8/),
   'nested deeper than can be read': () => assert.match(inline([], `${'['.repeat(20000)}${']'.repeat(20000)}`).said, /refusal 6: /),
