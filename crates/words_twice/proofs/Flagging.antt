@@ -7,7 +7,7 @@ use Prim.Native.Nat.{ℕ, zero, suc, ◌+◌, ◌-◌, ◌≤◌}
 use native.Mathlib.Omega.{arith}
 use borrow.Author.Tests.{eq-eqb, ne_eqb}
 use lib.Dec.{eqb}
-use lib.ListN.{length, take, drop, length-append, length-map}
+use lib.ListN.{length, take, drop, length-append}
 use lib.Seq.{take_at, drop_at, drop-drop, length-take-le}
 use Rattle.def_tree.specs.Base.{pick, to_nat}
 use Rattle.def_tree.specs.Tree.{Tree, Forest, node, nil, cons, length_f, count, counts, Core, core, flat, flats, take_f, drop_f, plant}
@@ -17,10 +17,9 @@ use Rattle.def_pass.specs.Twice.{is_function, is_named, twice, flag, flags, flag
 use Rattle.laws_flat.specs.PassF.{some! }
 use Rattle.words_nodes.specs.Nodes.{forest_from}
 use Rattle.words_nodes.proofs.Loops.{Open}
-use Rattle.words_nodes.proofs.Trees.{counts-append}
+use Rattle.words_nodes.proofs.Trees.{counts-append, length-flat}
 use Rattle.words_twice.specs.Twice.{outside, Stand, flag_node, flagged_from}
 use Rattle.words_twice.proofs.Places.{split-trees, counts-take-drop}
-use Rattle.words_twice.proofs.Bare.{bare, bare-flags, length-flags}
 
 -- trees in their place, behind p and before z
 module _ (p : List Core) (ts : Forest) (z : List Core) where
@@ -65,17 +64,31 @@ mutual
   flats-end nil z = refl
   flats-end (cons t ts) z = flat-end t (flats ts z) ∙ ap (λ (l : List Core). flat t [] ++ l) (flats-end ts z) ∙ sym (append_assoc (flat t []) (flats ts []) z) ∙ ap (λ (l : List Core). l ++ z) (sym (flat-end t (flats ts [])))
 
+length-flats : (ts : Forest) → length (flats ts []) ≡ counts ts
+length-flats ts = omega (arith, length-flat (node 0 0 0 ts) [])
+
+-- as many nodes as before
+length-flags : (b : ℕ → Bool) (ts : Forest) → length_f (flags b ts) ≡ length_f ts
+length-flags b nil = refl
+length-flags b (cons t ts) = ap suc (length-flags b ts)
+
 mutual
-  length-flat : (t : Tree) → length (flat t []) ≡ count t
-  length-flat (node k f a ts) = ap suc (length-flats ts)
+  pub count-flag : (b : ℕ → Bool) (t : Tree) → count (flag b t) ≡ count t
+  count-flag b (node k f a ts) = ap suc (go (is_function k) (is_named k f) (counts-named b ts) (counts-flags (twice ts) ts) (counts-flags b ts))
+    where
+      go : (p q : Bool) → counts (flag_named b ts) ≡ counts ts → counts (flags (twice ts) ts) ≡ counts ts → counts (flags b ts) ≡ counts ts
+          → counts (elim p as (λ x. Forest) [ true ↦ elim q as (λ x. Forest) [ true ↦ flag_named b ts | false ↦ flags (twice ts) ts ] | false ↦ flags b ts ]) ≡ counts ts
+      go true true c d e = c
+      go true false c d e = d
+      go false q c d e = e
 
-  length-flats : (ts : Forest) → length (flats ts []) ≡ counts ts
-  length-flats nil = refl
-  length-flats (cons t ts) = ap length (flat-end t (flats ts [])) ∙ length-append (flat t []) (flats ts []) ∙ omega (arith, length-flat t, length-flats ts)
+  pub counts-flags : (b : ℕ → Bool) (ts : Forest) → counts (flags b ts) ≡ counts ts
+  counts-flags b nil = refl
+  counts-flags b (cons t ts) = ap₂ {C = ℕ} (λ (m n : ℕ). m + n) (count-flag b t) (counts-flags b ts)
 
-pub counts-flags : (b : ℕ → Bool) (ts : Forest) → counts (flags b ts) ≡ counts ts
-counts-flags b ts =
-    sym (length-flats (flags b ts)) ∙ sym (length-map (flats (flags b ts) []) bare) ∙ ap length (bare-flags b ts [] [] refl) ∙ length-map (flats ts []) bare ∙ length-flats ts
+  counts-named : (b : ℕ → Bool) (ts : Forest) → counts (flag_named b ts) ≡ counts ts
+  counts-named b nil = refl
+  counts-named b (cons t ts) = ap₂ {C = ℕ} (λ (m n : ℕ). m + n) (count-flag b t) (counts-flags (twice ts) ts)
 
 -- a node that is no function: it is flagged by itself, and its children with what follows
 flag-open : (b : ℕ → Bool) (k f a : ℕ) (ts : Forest) → is_function k ≡ false → flag b (node k f a ts) ≡ node k (pick (eqb k 20 && b a) (f + 2) f) a (flags b ts)

@@ -1,7 +1,6 @@
 -- What the proofs of several functions use.
 pub mod Places
-pub mod Counts
+pub mod Declaring
 pub mod Looks
-pub mod Bare
 pub mod Flagging
 pub mod Steps

@@ -2,18 +2,18 @@
 use mathlib.Core.Path.{◌≡◌, refl, sym, ap, ap₂, ◌∙◌}
 use mathlib.Core.Bool.{Bool, true, false, ◌&&◌}
 use mathlib.Core.Logic.{⊎_elim}
-use mathlib.Core.List.{List, [], ◌∷◌, ◌++◌, map, map-append}
+use mathlib.Core.List.{List, [], ◌∷◌, ◌++◌}
 use Prim.Native.Nat.{ℕ, suc, ◌+◌, ◌-◌, ◌≤◌, ◌<◌}
 use native.Mathlib.Omega.{arith}
-use lib.ListN.{length, get_or, take, drop, set, length-map}
+use lib.ListN.{length, get_or, take, drop, set}
 use borrow.Author.Tests.{eq-eqb, ne_eqb}
-use lib.Seq.{drop-cons, get_or-drop, get_or_at, set_at, set_split, set-get_or, get_or-set_same, get_or-set_other, map-set_same, length-take-le}
+use lib.Seq.{drop-cons, get_or-drop, get_or_at, set_at, set_split, set-get_or, get_or-set_same, get_or-set_other, length-take-le}
 use Rattle.def_tree.specs.Base.{pick}
 use Rattle.def_tree.specs.Tree.{Tree, Forest, node, nil, cons, kids, length_f, count, counts, Core, core, no_core, flat, flats, plant, first_t}
 use Rattle.def_tree.proofs.Place.{plant-flat}
 use Rattle.def_tree.proofs.Whole.{Whole}
 use Rattle.def_pass.specs.Tree.{head_t}
-use Rattle.def_pass.specs.Twice.{is_function, twice, flags}
+use Rattle.def_pass.specs.Twice.{is_function, twice, flag, flags}
 use Rattle.laws_flat.specs.PassF.{flagged_o, flagged_l}
 use Rattle.words.specs.Layout.{tree, node_of}
 use Rattle.words.proofs.Nodes.{tree-length, tree-at}
@@ -25,25 +25,20 @@ use Rattle.words_nodes.proofs.Apart.{replants}
 use Rattle.words_nodes.proofs.Words.{tree-whole, in_tree}
 use Rattle.words_nodes.proofs.Trees.{flat-from, put_one, length-flat, count-some}
 use Rattle.words_nodes.proofs.Loops.{open-first}
-use Rattle.words_twice.specs.Twice.{outside, Stand, Plain, flag_node, flagged_from}
-use Rattle.words_twice.proofs.Places.{split-trees, open-stand}
-use Rattle.words_twice.proofs.Bare.{bare, bare-node, bare-flags, same_test, same-trees}
-use Rattle.words_twice.proofs.Flagging.{Left, left-start, left-all, left_open, in_step, first-stand, body-stand, past-done, place-behind, place-flagged, counts-flags}
+use Rattle.words_twice.specs.declared.Seen.{Seen}
+use Rattle.words_twice.specs.declared.Seen.TheVariants.{Never}
+use Rattle.words_twice.specs.Twice.{told, Tells, outside, Stand, Plain, flag_node, flagged_from}
+use Rattle.words_twice.proofs.Places.{open-stand}
+use Rattle.words_twice.proofs.Flagging.{Left, left-start, left-all, left_open, in_step, first-stand, body-stand, past-done, place-behind, place-flagged, count-flag, counts-flags}
 use Rattle.words_twice.proofs.Looks.{in-words, node-kids}
 
--- flagging changes forms of bindings alone, and nothing behind the trees
+-- flagging changes nothing behind the trees
 module _ (b : ℕ → Bool) (xs : List Core) (n i : ℕ) where
   abbrev ts : Forest
   ts = forest_from xs n i
 
   abbrev z : List Core
   z = drop (i + counts ts) xs
-
-  bare-from : Whole xs → map bare (flagged_from b xs n i) ≡ map bare xs
-  unfolding flagged_from
-  bare-from w =
-      map-append bare (take i xs) (flats (flags b ts) z) ∙ ap (λ (r : List Core). map bare (take i xs) ++ r) (bare-flags b ts z z refl)
-      ∙ sym (map-append bare (take i xs) (flats ts z)) ∙ ap (map bare) (split-trees xs n i w)
 
   behind-from : i ≤ length xs → drop (i + counts ts) (flagged_from b xs n i) ≡ drop (i + counts ts) xs
   unfolding flagged_from
@@ -66,29 +61,28 @@ plain-later l p = record { low = λ k m. p.low k (omega arith) }
 plain-set : {xs : List Core} (i : ℕ) (c : Core) → Plain xs i → Plain (set xs i c) (i + 1)
 plain-set {xs} i c p = record { low = λ j m. rw (get_or-set_other xs i j c no_core (λ e. omega arith)) (p.low j (omega arith)) }
 
--- trees that stand, and the test, where forms of bindings alone differ
-stand-bare : (xs ys : List Core) {i n : ℕ} → map bare ys ≡ map bare xs → Stand xs i n → Stand ys i n
-stand-bare xs ys {i} e s = record { inside = omega (arith, s.inside, length-bares); trees = rw (same-trees xs ys e i) s.trees }
-  where
-    length-bares : length ys ≡ length xs
-    length-bares = sym (length-map ys bare) ∙ ap length e ∙ length-map xs bare
-
 -- a loop over the n trees from i on of w has come to the node at `at`, and the words are v
 pub record Flagging (b : ℕ → Bool) (w v : List ℕ) (n i at more : ℕ) : Type 0 where
   pub left : Left b (flagged_from b (tree w) n i) (i + counts (forest_from (tree w) n i)) (tree v) at more
   pub planted : Planted v
   pub apart : Apart w v
-  pub bares : map bare (tree v) ≡ map bare (tree w)
   pub plain : Plain (tree v) at
   pub from : i ≤ at
 
 pub flagging-start : (b : ℕ → Bool) {w : List ℕ} {n i : ℕ} → Planted w → Stand (tree w) i n → Plain (tree w) i → Flagging b w w n i i n
-flagging-start b {w} {n} {i} g s p = record { left = left-start b (tree w) n i (tree-whole g) s; planted = g; apart = apart-self w; bares = refl; plain = p; from = omega arith }
+flagging-start b {w} {n} {i} g s p = record { left = left-start b (tree w) n i (tree-whole g) s; planted = g; apart = apart-self w; plain = p; from = omega arith }
 
 pub flagging-all : {b : ℕ → Bool} {w v : List ℕ} {n i at more : ℕ} → Planted w → Flagging b w v n i at more → more ≡ 0 → (at ≡ i + counts (forest_from (tree w) n i)) × Replants w v (flagged_from b (tree w) n i)
 flagging-all {b} {w} {v} {n} {i} g F z =
     let e = left-all F.left z in
     (e.0, replants (flagged_from b (tree w) n i) g F.apart F.planted.good.nodes e.1 (rw e.1 at F.planted.good.names) (rw e.1 at F.planted.one))
+
+-- of whatever test it is, so of what the table tells
+abbrev pub told_by : List Seen → ℕ → Bool
+told_by seen x = told (get_or seen x Never)
+
+pub known : (seen : List Seen) {w v : List ℕ} {n i at more : ℕ} → ((b : ℕ → Bool) → Tells seen b → Flagging b w v n i at more) → Flagging (told_by seen) w v n i at more
+known seen F = F (told_by seen) (λ x l. refl)
 
 -- the next node, taken apart
 record Cut (b : ℕ → Bool) (goal : List Core) (e : ℕ) (ys : List Core) (at more : ℕ) : Type 0 where
@@ -136,19 +130,17 @@ module _ {b : ℕ → Bool} {w v : List ℕ} {n i at more : ℕ} (F : Flagging b
 
   -- a node that is no function
   module _ {k c : ℕ} (ek : k ≡ (node_of v at).kind) (ec : c ≡ (node_of v at).arity) (h : is_function k ≡ false) where
-    pub open_done : {u : List ℕ} {b' : ℕ → Bool} → b' ≡ b → Replants v u (set (tree v) at (flag_node b' (get_or (tree v) at no_core))) → Flagging b w u n i (at + 1) (more - 1 + c)
-    open_done {u} {b'} eb R =
+    pub open_done : {u : List ℕ} → Replants v u (set (tree v) at (flag_node b (get_or (tree v) at no_core))) → Flagging b w u n i (at + 1) (more - 1 + c)
+    open_done {u} R =
         let shut : is_function C.k ≡ false = ap is_function (sym (ek ∙ ap (λ (y : Core). y.kind) node-is)) ∙ h in
         let kids : c ≡ length_f C.us = ec ∙ ap (λ (y : Core). y.arity) node-is in
         let one : tree u ≡ C.p ++ (flag_node b x ∷ rest) =
-        R.is ∙ ap₂ {C = List Core} (λ (b : ℕ → Bool) (y : Core). set (tree v) at (flag_node b y)) eb at-is ∙ ap (λ (ys : List Core). set ys at (flag_node b x)) C.here ∙ set_at C.p x rest (flag_node b x) at C.long in
-        let same : map bare (tree u) ≡ map bare (tree v) = ap (map bare) R.is ∙ map-set_same bare (tree v) at (flag_node b' (get_or (tree v) at no_core)) no_core (bare-node b' (get_or (tree v) at no_core)) in
+        R.is ∙ ap (λ (y : Core). set (tree v) at (flag_node b y)) at-is ∙ ap (λ (ys : List Core). set ys at (flag_node b x)) C.here ∙ set_at C.p x rest (flag_node b x) at C.long in
         record {
           left = rw (one, kids) (in_step b C.p C.k C.f C.a C.us C.vs C.z C.long C.many C.ends C.goes shut);
           planted = R.planted;
           apart = apart-then F.apart R.apart;
-          bares = same ∙ F.bares;
-          plain = rw R.is (plain-set at (flag_node b' (get_or (tree v) at no_core)) F.plain);
+          plain = rw R.is (plain-set at (flag_node b (get_or (tree v) at no_core)) F.plain);
           from = omega (arith, F.from);
         }
 
@@ -170,12 +162,12 @@ module _ {b : ℕ → Bool} {w v : List ℕ} {n i at more : ℕ} (F : Flagging b
     pub name : Stand (tree v) (at + 1) out × Plain (tree v) (at + 1)
     name = (name-stands, name-plain)
 
-    module _ {v₁ : List ℕ} {r₁ : ℕ} {b' : ℕ → Bool} (eb : b' ≡ b) (e₁ : r₁ ≡ at + 1 + counts (forest_from (tree v) out (at + 1))) (R₁ : Replants v v₁ (flagged_from b' (tree v) out (at + 1))) where
+    module _ {v₁ : List ℕ} {r₁ : ℕ} (e₁ : r₁ ≡ at + 1 + counts (forest_from (tree v) out (at + 1))) (R₁ : Replants v v₁ (flagged_from b (tree v) out (at + 1))) where
       body-plain : Plain (tree v₁) r₁
-      body-plain = rw (e₁, R₁.is) (plain-from b' (tree v) out (at + 1) name-stands.inside name-plain)
+      body-plain = rw (e₁, R₁.is) (plain-from b (tree v) out (at + 1) name-stands.inside name-plain)
 
       name_done : tree v₁ ≡ flagged_from b (C.p ++ (x ∷ rest)) (outside C.k C.f (length_f C.us)) (at + 1)
-      name_done = R₁.is ∙ ap₂ {C = List Core} (λ (b : ℕ → Bool) (m : ℕ). flagged_from b (tree v) m (at + 1)) eb out-is ∙ ap (λ (ys : List Core). flagged_from b ys (outside C.k C.f (length_f C.us)) (at + 1)) C.here
+      name_done = R₁.is ∙ ap (λ (m : ℕ). flagged_from b (tree v) m (at + 1)) out-is ∙ ap (λ (ys : List Core). flagged_from b ys (outside C.k C.f (length_f C.us)) (at + 1)) C.here
 
       name-ends : r₁ ≡ at + 1 + counts (forest_from (C.p ++ (x ∷ rest)) (outside C.k C.f (length_f C.us)) (at + 1))
       name-ends = e₁ ∙ ap₂ {C = ℕ} (λ (m : ℕ) (ys : List Core). at + 1 + counts (forest_from ys m (at + 1))) out-is C.here
@@ -196,23 +188,13 @@ module _ {b : ℕ → Bool} {w v : List ℕ} {n i at more : ℕ} (F : Flagging b
           let m : ℕ = length_f C.us - outside C.k C.f (length_f C.us) in
           let body-done : tree v₂ ≡ flagged_from (twice (forest_from (tree v₁) m r₁)) (tree v₁) m r₁ = R₂.is ∙ ap (λ (m : ℕ). flagged_from (twice (forest_from (tree v₁) m r₁)) (tree v₁) m r₁) left_is in
           let body-ends : r₂ ≡ r₁ + counts (forest_from (tree v₁) m r₁) = e₂ ∙ ap (λ (m : ℕ). r₁ + counts (forest_from (tree v₁) m r₁)) left_is in
-          let same₁ : map bare (tree v₁) ≡ map bare (tree v) = ap (map bare) R₁.is ∙ bare-from b' (tree v) out (at + 1) (tree-whole F.planted) in
-          let same₂ : map bare (tree v₂) ≡ map bare (tree v₁) = ap (map bare) R₂.is ∙ bare-from (twice (forest_from (tree v₁) (c - out) r₁)) (tree v₁) (c - out) r₁ (tree-whole R₁.planted) in
           record {
             left = past-done b C.p C.k C.f C.a C.us C.vs C.z C.long name_done name-ends body-done body-ends C.many C.ends C.goes fun;
             planted = R₂.planted;
             apart = apart-then F.apart (apart-then R₁.apart R₂.apart);
-            bares = same₂ ∙ same₁ ∙ F.bares;
             plain = rw (e₂, R₂.is) (plain-from (twice (forest_from (tree v₁) (c - out) r₁)) (tree v₁) (c - out) r₁ body-stands.inside body-plain);
             from = omega (arith, F.from, e₁, e₂);
           }
-
-  -- the trees by which the test goes stand in the words as they are, and the test is the same
-  pub test-stands : {a m : ℕ} → Stand (tree w) a m → Stand (tree v) a m
-  test-stands s = stand-bare (tree w) (tree v) F.bares s
-
-  pub test-same : (m a : ℕ) → twice (forest_from (tree v) m a) ≡ twice (forest_from (tree w) m a)
-  test-same m a = same_test (tree w) (tree v) F.bares m a
 
 -- one node flagged
 names-set : (xs : List Core) (i : ℕ) (d : Core) → i < length xs → Named d → Names xs → Names (set xs i d)
@@ -299,5 +281,5 @@ module _ {w : List ℕ} (g : Planted w) where
 
   pub flagged-long : length (flagged_l (tree w)) ≡ get_or w 0 0
   flagged-long =
-      let b : ℕ → Bool = twice (forest_from (tree w) (node_of w 0).arity 1) in
-      ap length (sym all-flagged) ∙ sym (length-map (flagged_from b (tree w) 1 0) bare) ∙ ap length (bare-from b (tree w) 1 0 (tree-whole g)) ∙ length-map (tree w) bare ∙ tree-length w
+      ap length (sym (ap (λ (ys : List Core). flagged_l ys) g.one.is) ∙ ap (λ (ts : Forest). flagged_o (head_t ts)) (plant-flat root []))
+      ∙ omega (arith, length-flat (flag (twice (kids root)) root) [], count-flag (twice (kids root)) root, length-flat root [], ap length g.one.is, tree-length w)

@@ -9,11 +9,8 @@ use Rattle.words_twice.proofs.Looks as looks
 use Rattle.words_twice.proofs.Steps as steps
 use Rattle.words_twice.proofs.flag_twice.Goals as goal
 
-pub arity_at-n-requires : goal.arity_at-n-requires
-arity_at-n-requires c = looks.in-words c.requires.0 (steps.some-node c.requires.0)
-
-pub flags-requires : goal.flags-requires
-flags-requires c = (c.requires.0, steps.root_stands c.requires.0, rw c.arity_at-n.ensures (looks.kids-stand c.requires.0 (steps.some-node c.requires.0)), c.requires.1)
+pub declared-seen-requires : goal.declared-seen-requires
+declared-seen-requires c = (c.requires.0, rw c.arity_at-n.ensures (looks.kids-stand c.requires.0 (steps.some-node c.requires.0)))
 
 pub returns : goal.returns
-returns c = rw (ap (λ (n : ℕ). flagged_from (twice (forest_from (tree c.args.w.now) n 1)) (tree c.args.w.now) 1 0) c.arity_at-n.ensures ∙ steps.all-flagged c.requires.0) at c.flags.ensures.1
+returns c = rw (ap (λ (n : ℕ). flagged_from (twice (forest_from (tree c.args.w.now) n 1)) (tree c.args.w.now) 1 0) c.arity_at-n.ensures ∙ steps.all-flagged c.requires.0) at (c.flags.ensures.1 _ c.declared-seen.ensures.1)

@@ -3,11 +3,11 @@ use Prim.Native.Nat.{◌-◌}
 use lib.ListN.{get_or}
 use Rattle.def_pass.specs.Twice.{vars_f}
 use Rattle.words.specs.Layout.{tree}
-use Rattle.words_twice.proofs.Counts as counts
+use Rattle.words_twice.proofs.Declaring as declaring
 use Rattle.words_twice.proofs.vars.Given as goal
 
 abbrev pub invariant-loop-more : goal.invariant-loop-more
-invariant-loop-more l = counts.Tallies (vars_f l.x) (tree l.w) l.i l.n l.sum l.at l.more
+invariant-loop-more l = declaring.Declaring vars_f (tree l.w) l.i l.n l.fn.seen l.seen l.at l.more
 
 abbrev pub decreases-loop-more : goal.decreases-loop-more
 decreases-loop-more l = get_or l.w 0 0 - l.at
