@@ -1,4 +1,4 @@
-// Why the pass refuses: the rows of "Refusals in checking order", with their numbers.
+// Why the pass refuses: the rows of "Refusals in checking order" and the checks of requests 10 and 11, with their numbers.
 #![tactic(auto)]
 
 ghost use Rattle.std.specs.Prelude.{◌≡◌};
@@ -29,6 +29,12 @@ pub enum Refusal {
     Room,
     // A result buffer that is too short.
     Buffer,
+    // A lent kind table that is not 2,304 bytes, none above 1.
+    Table,
+    // A lent kind table that allows a pair that the constant one forbids.
+    Pairs,
+    // A buffer for a canonical file that is too short.
+    CanonBuffer,
 }
 
 // The number of its row.
@@ -53,6 +59,9 @@ impl From<Refusal> for u32 {
             Refusal::Depth => 8,
             Refusal::Room => 9,
             Refusal::Buffer => 10,
+            Refusal::Table => 14,
+            Refusal::Pairs => 15,
+            Refusal::CanonBuffer => 16,
         }
     }
 }
