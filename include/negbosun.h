@@ -7,8 +7,8 @@
    - It returns. It ends in a result, then `refused` is 0, or in one of the refusals below, then every other field is 0.
    - It is a function of its arguments: equal files, lengths and run limits give equal answers. What the buffers that are written held before does
      not matter.
-   - It reads and writes inside what is lent to it and nowhere else. `file` keeps its bytes.
-   - Any bytes may be given as a file, of any length; a length of 0 is allowed everywhere.
+   - It reads and writes inside what is lent to it and nowhere else. `file` keeps its bytes, and so does `table`.
+   - Any bytes may be given as a file or as a table, of any length; a length of 0 is allowed everywhere.
 
    The library has no memory of its own and calls nothing but the C library's functions on bytes (memset and its like). So it allocates nothing, does no
    input or output, and keeps nothing between calls; threads may call it at once, each on buffers of its own. It uses less than 256 KiB of stack.
@@ -17,7 +17,8 @@
    What is asked of the caller is what C cannot check:
 
    - A pointer points to as many elements as the length behind it says. It is not NULL, even where the length is 0, and a uint32_t pointer is aligned.
-   - The buffers that are written overlap neither each other nor `file`, and nobody else uses them during the call.
+   - The buffers that are written overlap neither each other nor `file` nor `table`, and nobody else uses them during the call. `file` and `table` may
+     overlap.
 
    Time. An ordinary script of 1,000 nodes takes under a millisecond. Yet a small file can take very long: a list of statements is walked again inside
    each list around it, and a right side of && or || is walked twice. With functions in one another, `var v = function () { ... };`, each further one
@@ -47,8 +48,11 @@ extern "C" {
 #define NEGBOSUN_MOST_ROOTS 256
 /* and each takes so many words. */
 #define NEGBOSUN_ROOT_WORDS 5
+/* A kind table has so many bytes, one for each parent kind and child kind from 1 to 48. */
+#define NEGBOSUN_TABLE_BYTES 2304
 
-/* The refusals, in checking order. Later versions may have further ones, with greater numbers: treat every `refused` but 0 as a refusal. */
+/* The refusals, in checking order, but that 14 and 15 are checked behind 1 and before 2. Later versions may have further ones, with greater numbers: treat
+   every `refused` but 0 as a refusal. */
 enum negbosun_refusal {
     /* runs outside 1 to 16, or under 16,384 words */
     NEGBOSUN_REFUSED_RUNS_OR_WORDS = 1,
@@ -60,7 +64,8 @@ enum negbosun_refusal {
     NEGBOSUN_REFUSED_LENGTHS = 4,
     /* the texts' ends fall, the last is not the byte count, or two texts are equal */
     NEGBOSUN_REFUSED_TEXTS = 5,
-    /* a node against the kinds, an unused field not 0, a text number too large, nodes missing or left over, over 200 deep */
+    /* a node against the kinds, an unused field not 0, a text number too large, nodes missing or left over, over 200 deep; under a lent kind table also
+       a node under a parent under which the table forbids it */
     NEGBOSUN_REFUSED_NODES = 6,
     /* over 256 different identifiers */
     NEGBOSUN_REFUSED_IDENTIFIERS = 7,
@@ -69,7 +74,11 @@ enum negbosun_refusal {
     /* while running: over 1,024 nodes, over 512 nodes of recorded values, over 256 live bindings and constants */
     NEGBOSUN_REFUSED_SIZE = 9,
     /* the buffer for the answer is too short */
-    NEGBOSUN_REFUSED_ROOM = 10
+    NEGBOSUN_REFUSED_ROOM = 10,
+    /* the lent kind table is not NEGBOSUN_TABLE_BYTES long, or a byte of it is above 1 */
+    NEGBOSUN_REFUSED_TABLE = 14,
+    /* the lent kind table allows a node under a parent under which the kinds forbid it */
+    NEGBOSUN_REFUSED_PAIRS = 15
 };
 
 /* The answer of negbosun_inline. */
@@ -139,6 +148,28 @@ struct negbosun_listed negbosun_roots(const uint8_t *file, size_t file_length, u
 
    Refusals 1 to 9, as above; 10 never, since no buffer is lent for the answer. The words are as above. */
 struct negbosun_binding negbosun_root(const uint8_t *file, size_t file_length, uint32_t *words, size_t word_count, uint32_t runs, uint32_t n);
+
+/* The three functions above under a mill's own kind table. The entry of a parent kind p and a child kind c is byte (p - 1) * 48 + (c - 1), 1 if a node of kind c
+   may stand under one of kind p at this mill and 0 if not; the numbers 0 and 1, and not the digits. docs/TREE.md has the table that the functions above go by;
+   a table that is lent may forbid more and allow no more.
+
+   table, table_length  the kind table, in bytes; the others as above
+
+   Refusals 14 and 15 come behind 1 and before all others. A file is then read exactly if the functions above read it and each node of the script stands under
+   a parent under which the table allows it; where one does not, and 2 to 5 do not apply, the refusal is 6. All else, what is kept and what is 0 included, is as
+   above, and after 14 and 15 it is as after 2: so what is not refused is answered as the functions above answer it, and lent the table that they go by, these
+   answer every file as those do.
+
+   Only the script as read is held to the table: a result may have a pair that it forbids. `var a = [1]; a;` becomes `var a; [1];`, also where a list
+   may not be a statement. */
+struct negbosun_inlined negbosun_inline_under(const uint8_t *file, size_t file_length, const uint8_t *table, size_t table_length, uint8_t *result,
+                                              size_t result_length, uint32_t *words, size_t word_count, uint32_t runs);
+
+struct negbosun_listed negbosun_roots_under(const uint8_t *file, size_t file_length, const uint8_t *table, size_t table_length, uint32_t *roots,
+                                            size_t root_words, uint32_t *words, size_t word_count, uint32_t runs);
+
+struct negbosun_binding negbosun_root_under(const uint8_t *file, size_t file_length, const uint8_t *table, size_t table_length, uint32_t *words,
+                                            size_t word_count, uint32_t runs, uint32_t n);
 
 #ifdef __cplusplus
 }

@@ -13,6 +13,7 @@ static size_t file_length;
 static uint8_t result[NEGBOSUN_MOST_BYTES + BEHIND];
 static uint32_t roots[ROOT_WORDS + BEHIND];
 static uint32_t words[NEGBOSUN_WORDS + BEHIND];
+static uint8_t table[NEGBOSUN_TABLE_BYTES + 1];
 static int passed, failed;
 
 static void check(int holds, const char *what) {
@@ -135,6 +136,35 @@ static void refusals(void) {
     check(lists_refusal(list_roots(0, 0, 0, 1), NEGBOSUN_REFUSED_RUNS_OR_WORDS), "no words are 1");
 }
 
+/* no pair is allowed, which only the empty script has none of */
+static void tables(void) {
+    memset(table, 0, sizeof table);
+    fill();
+    check(is_refusal(negbosun_inline_under(file, file_length, table, NEGBOSUN_TABLE_BYTES, result, sizeof result, words, NEGBOSUN_WORDS + BEHIND, 1),
+                     NEGBOSUN_REFUSED_NODES), "a forbidden pair is 6");
+    check(words_cleared(), "6 leaves cleared words");
+    for (size_t length = NEGBOSUN_TABLE_BYTES - 1; length <= NEGBOSUN_TABLE_BYTES + 1; length += 2) {
+        fill();
+        check(is_refusal(negbosun_inline_under(file, file_length, table, length, result, sizeof result, words, NEGBOSUN_WORDS + BEHIND, 1),
+                         NEGBOSUN_REFUSED_TABLE), "a table of another length is 14");
+        check(words_cleared(), "14 leaves cleared words");
+    }
+    fill();
+    check(is_refusal(negbosun_inline_under(file, 0, table, 0, result, 0, words, NEGBOSUN_WORDS, 1), NEGBOSUN_REFUSED_TABLE), "no table is 14, before 2");
+    fill();
+    check(is_refusal(negbosun_inline_under(file, 0, table, 0, result, 0, words, NEGBOSUN_WORDS - 1, 1), NEGBOSUN_REFUSED_RUNS_OR_WORDS), "1 before 14");
+    check(all_are(words, sizeof words, BYTE), "1 keeps the words");
+    /* a script under a script */
+    table[0] = 1;
+    fill();
+    check(lists_refusal(negbosun_roots_under(file, file_length, table, NEGBOSUN_TABLE_BYTES, roots, ROOT_WORDS, words, NEGBOSUN_WORDS + BEHIND, 1),
+                        NEGBOSUN_REFUSED_PAIRS), "a pair that nothing allows is 15");
+    check(words_cleared(), "15 leaves cleared words");
+    table[NEGBOSUN_TABLE_BYTES - 1] = 2;
+    check(is_none(negbosun_root_under(file, file_length, table, NEGBOSUN_TABLE_BYTES, words, NEGBOSUN_WORDS, 1, 0), NEGBOSUN_REFUSED_TABLE), "14 before 15");
+    check(table[0] == 1 && all_are(table + 1, NEGBOSUN_TABLE_BYTES - 2, 0) && table[NEGBOSUN_TABLE_BYTES - 1] == 2, "the table is kept");
+}
+
 int main(int count, char **given) {
     FILE *input = count == 2 ? fopen(given[1], "rb") : NULL;
     if (input == NULL) {
@@ -148,6 +178,7 @@ int main(int count, char **given) {
     lists();
     numbers();
     refusals();
+    tables();
     printf("%d passed, %d failed\n", passed, failed);
     return failed != 0;
 }

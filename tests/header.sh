@@ -28,7 +28,7 @@ same_number() {
 }
 
 rust() {
-    sed -n "s/^pub const $1: [a-z0-9]* = \(.*\);\$/\1/p" caller/src/lib.rs | tr -d _
+    cat caller/src/lib.rs caller/src/kind_table.rs | sed -n "s/^pub const $1: [a-z0-9]* = \(.*\);\$/\1/p" | tr -d _
 }
 
 version() {
@@ -56,7 +56,7 @@ for standard in c++11 c++17 c++20; do
 done
 one "alone in C" alone gcc -std=c99 -x c
 one "alone in C++" alone g++ -std=c++11 -x c++
-for name in MOST_RUNS WORDS MOST_BYTES MOST_ROOTS ROOT_WORDS; do
+for name in MOST_RUNS WORDS MOST_BYTES MOST_ROOTS ROOT_WORDS TABLE_BYTES; do
     one "$name" same_number "NEGBOSUN_$name" "$(rust "$name")"
 done
 one "version" grep -q "^#define NEGBOSUN_VERSION \"$(version)\"\$" include/negbosun.h

@@ -123,6 +123,12 @@ help_there() {
     from_there negbosun-script --help >"$out/help" && grep -q "^Usage: negbosun-script " "$out/help" && grep -q " /usr/share/doc/negbosun/MILLERS.md " "$out/help"
 }
 
+# Under the sample kind table: the script has neither `for` nor `new`.
+kinds_there() {
+    local examples=$root/usr/share/doc/negbosun/examples
+    from_there negbosun-script --accept --kinds "$examples/without_for_and_new.kinds" "$examples/tide.js" >"$out/tide.js" && cmp "$out/tide.js" samples/results/tide.js
+}
+
 limited_there() {
     from_there negbosun-script --accept --runs 1 "$root/usr/share/doc/negbosun/examples/tide.js" >"$out/tide.js" && [ -s "$out/tide.js" ]
 }
@@ -175,6 +181,7 @@ if [ -d /usr/share/nodejs/acorn ] && [ -d /usr/share/nodejs/eslint-scope ] && [ 
     one "script" script_there
     one "script with a run limit" limited_there
     one "script's help" help_there
+    one "script under a kind table" kinds_there
 else
     echo "script: skipped, Debian's JavaScript libraries are absent (script/setup)"
 fi

@@ -1,7 +1,8 @@
 /* Calls the C functions of crates/pass. A line of standard input is `inline HEX ROOM WORDS RUNS`, `roots HEX ROOM WORDS RUNS` or `root HEX N
    WORDS RUNS`: a file's bytes (`-` for none), the length of the buffer for the answer (bytes, or words of root bindings) or the number of a root
-   binding, the number of working words and the run limit. For each it prints `REFUSED LENGTH RUNS CHANGED WRITTEN KEPT STATE STACK`: the numbers of the answer (0 0 for the
-   runs and mark of `roots`; of `root` whether there is one as the length, and its five words as what was written), what was written, in hex digits (`-` for nothing), whether all behind it and the file are as they were, the
+   binding, the number of working words and the run limit. A sixth word is a kind table's bytes (`-` for none): then it is the function under a lent table that
+   is called. For each it prints `REFUSED LENGTH RUNS CHANGED WRITTEN KEPT STATE STACK`: the numbers of the answer (0 0 for the
+   runs and mark of `roots`; of `root` whether there is one as the length, and its five words as what was written), what was written, in hex digits (`-` for nothing), whether all behind it, the file and the table are as they were, the
    working words: `same`, `clear` (the first 16,384 are 0, the others as they were) or `other`, and how many bytes of stack were used.
    Each call has a painted stack of 256 KiB with a guard below it. */
 #include <pthread.h>
@@ -20,6 +21,9 @@ struct call {
     char what;
     const uint8_t *file;
     size_t file_length;
+    /* NULL where no table is lent */
+    const uint8_t *table;
+    size_t table_length;
     uint8_t *result;
     size_t room;
     size_t number;
@@ -33,22 +37,43 @@ struct call {
 
 static uint8_t *stack;
 
+static struct negbosun_binding root_of(struct call *c) {
+    if (c->table) {
+        return negbosun_root_under(c->file, c->file_length, c->table, c->table_length, c->words, c->count, c->runs, (uint32_t)c->number);
+    }
+    return negbosun_root(c->file, c->file_length, c->words, c->count, c->runs, (uint32_t)c->number);
+}
+
+static struct negbosun_listed roots_of(struct call *c) {
+    if (c->table) {
+        return negbosun_roots_under(c->file, c->file_length, c->table, c->table_length, (uint32_t *)c->result, c->room, c->words, c->count, c->runs);
+    }
+    return negbosun_roots(c->file, c->file_length, (uint32_t *)c->result, c->room, c->words, c->count, c->runs);
+}
+
+static struct negbosun_inlined inlined_of(struct call *c) {
+    if (c->table) {
+        return negbosun_inline_under(c->file, c->file_length, c->table, c->table_length, c->result, c->room, c->words, c->count, c->runs);
+    }
+    return negbosun_inline(c->file, c->file_length, c->result, c->room, c->words, c->count, c->runs);
+}
+
 static void *on_stack(void *given) {
     struct call *c = given;
     uint8_t here;
     c->top = &here;
     if (c->what == 'n') {
-        struct negbosun_binding r = negbosun_root(c->file, c->file_length, c->words, c->count, c->runs, (uint32_t)c->number);
+        struct negbosun_binding r = root_of(c);
         uint32_t all[NEGBOSUN_ROOT_WORDS] = {r.text, (uint32_t)r.context, (uint32_t)(r.context >> 32), r.prevented, r.count};
         c->answer = (struct negbosun_inlined){r.refused, r.found, 0, 0};
         c->written = sizeof all * (size_t)r.found;
         memcpy(c->result, all, c->written);
     } else if (c->what == 'r') {
-        struct negbosun_listed r = negbosun_roots(c->file, c->file_length, (uint32_t *)c->result, c->room, c->words, c->count, c->runs);
+        struct negbosun_listed r = roots_of(c);
         c->answer = (struct negbosun_inlined){r.refused, r.count, 0, 0};
         c->written = sizeof(uint32_t) * NEGBOSUN_ROOT_WORDS * r.count;
     } else {
-        c->answer = negbosun_inline(c->file, c->file_length, c->result, c->room, c->words, c->count, c->runs);
+        c->answer = inlined_of(c);
         c->written = c->answer.length;
     }
     return NULL;
@@ -72,8 +97,8 @@ static size_t call_on_stack(struct call *c) {
     return (size_t)(c->top - lowest);
 }
 
-static void show(const struct call *c, size_t all, const uint8_t *before, size_t used) {
-    size_t kept = memcmp(before, c->file, c->file_length) == 0;
+static void show(const struct call *c, size_t all, const uint8_t *before, const uint8_t *lent, size_t used) {
+    size_t kept = memcmp(before, c->file, c->file_length) == 0 && (!c->table || memcmp(lent, c->table, c->table_length) == 0);
     for (size_t i = c->written; i < all; i++) {
         kept &= c->result[i] == byte_at(i);
     }
@@ -86,7 +111,16 @@ static void show(const struct call *c, size_t all, const uint8_t *before, size_t
     fflush(stdout);
 }
 
-static void run(const char *what, const char *hex, size_t room, size_t count, uint32_t runs) {
+/* the bytes of hex digits, and a copy of them */
+static size_t twice(const char *hex, uint8_t **one, uint8_t **other) {
+    *one = malloc(strlen(hex) + 1);
+    *other = malloc(strlen(hex) + 1);
+    size_t n = unhex(hex, *one);
+    memcpy(*other, *one, n);
+    return n;
+}
+
+static void run(const char *what, const char *hex, size_t room, size_t count, uint32_t runs, const char *kinds) {
     /* `i` the result, `r` all root bindings, `n` the one of a number, for whose words there is room */
     char asks = strcmp(what, "root") == 0 ? 'n' : what[0];
     size_t number = room;
@@ -94,22 +128,24 @@ static void run(const char *what, const char *hex, size_t room, size_t count, ui
         room = 4;
     }
     size_t all = room * (asks == 'i' ? 1 : 4) + GUARD;
-    uint8_t *file = malloc(strlen(hex) + 1), *before = malloc(strlen(hex) + 1);
+    uint8_t *file, *before, *table = NULL, *lent = NULL;
     uint8_t *result = malloc(all);
     uint32_t *words = malloc((count + GUARD) * sizeof *words);
-    size_t n = unhex(hex, file);
-    memcpy(before, file, n);
+    size_t n = twice(hex, &file, &before);
+    size_t entries = kinds ? twice(kinds, &table, &lent) : 0;
     for (size_t i = 0; i < all; i++) {
         result[i] = byte_at(i);
     }
     for (size_t i = 0; i < count + GUARD; i++) {
         words[i] = word_at(i);
     }
-    struct call c = {asks, file, n, result, room, number, words, count, runs, {0, 0, 0, 0}, 0, NULL};
+    struct call c = {asks, file, n, table, entries, result, room, number, words, count, runs, {0, 0, 0, 0}, 0, NULL};
     size_t used = call_on_stack(&c);
-    show(&c, all, before, used);
+    show(&c, all, before, lent, used);
     free(file);
     free(before);
+    free(table);
+    free(lent);
     free(result);
     free(words);
 }
@@ -123,14 +159,14 @@ int main(void) {
     }
     stack = memory + PAGE;
     while (getline(&line, &size, stdin) > 0) {
-        char *words[5];
-        for (int i = 0; i < 5; i++) {
-            words[i] = strtok(i ? NULL : line, " ");
-            if (words[i] == NULL) {
+        char *words[6];
+        for (int i = 0; i < 6; i++) {
+            words[i] = strtok(i ? NULL : line, " \n");
+            if (words[i] == NULL && i < 5) {
                 return 1;
             }
         }
-        run(words[0], words[1], strtoul(words[2], NULL, 10), strtoul(words[3], NULL, 10), (uint32_t)strtoul(words[4], NULL, 10));
+        run(words[0], words[1], strtoul(words[2], NULL, 10), strtoul(words[3], NULL, 10), (uint32_t)strtoul(words[4], NULL, 10), words[5]);
     }
     free(line);
     return 0;

@@ -32,9 +32,10 @@ class Port:
         self.process = subprocess.Popen([driver], stdin=subprocess.PIPE, stdout=subprocess.PIPE, text=True)
         self.calls, self.stack = 0, 0
 
-    def call(self, what, file, room, words=WORDS, runs=16):
-        """The four numbers of an answer, what was written, whether the rest is kept, and the words' state."""
-        self.process.stdin.write("%s %s %d %d %d\n" % (what, file.hex() or "-", room, words, runs))
+    def call(self, what, file, room, words=WORDS, runs=16, table=None):
+        """The four numbers of an answer, what was written, whether the rest is kept, and the words' state; under a kind table, if one is lent."""
+        lent = "" if table is None else " " + (table.hex() or "-")
+        self.process.stdin.write("%s %s %d %d %d%s\n" % (what, file.hex() or "-", room, words, runs, lent))
         self.process.stdin.flush()
         line = self.process.stdout.readline().split()
         if len(line) != 8:

@@ -1,6 +1,6 @@
 #!/usr/bin/env bash
 # The port beside the original: the stored vectors, rows 1 and 10 with their buffers, paired copies, stack and program through
-# tests/port.py; the Rust caller's own tests, clippy and documentation; and, where the original's sources are there, a quick round of both in one process.
+# tests/port.py, lent kind tables through tests/lent.py; the Rust caller's own tests, clippy and documentation; and, where the original's sources are there, a quick round of both in one process.
 # Without cargo or without the sources it says what is passed over. The last line counts.
 set -u
 cd "$(dirname "$0")/.." || exit 1
@@ -11,6 +11,7 @@ need_library || finish
 need_program || finish
 one "driver" gcc -O1 -Wall -Wextra -Werror -o "$out/driver" tests/port.c "$library" -pthread || finish
 count "port" python3 -B tests/port.py "$out/driver" target/bin/negbosun
+count "lent kind tables" python3 -B tests/lent.py "$out/driver"
 
 if ! command -v cargo >/dev/null 2>&1; then
     echo "caller: skipped, no cargo"

@@ -56,4 +56,39 @@ extern "C" {
         runs: u32,
         n: u32,
     ) -> Binding;
+
+    pub(crate) fn negbosun_inline_under(
+        file: *const u8,
+        file_length: usize,
+        table: *const u8,
+        table_length: usize,
+        result: *mut u8,
+        result_length: usize,
+        words: *mut u32,
+        word_count: usize,
+        runs: u32,
+    ) -> Inlined;
+
+    pub(crate) fn negbosun_roots_under(
+        file: *const u8,
+        file_length: usize,
+        table: *const u8,
+        table_length: usize,
+        roots: *mut u32,
+        root_words: usize,
+        words: *mut u32,
+        word_count: usize,
+        runs: u32,
+    ) -> Roots;
+
+    pub(crate) fn negbosun_root_under(
+        file: *const u8,
+        file_length: usize,
+        table: *const u8,
+        table_length: usize,
+        words: *mut u32,
+        word_count: usize,
+        runs: u32,
+        n: u32,
+    ) -> Binding;
 }

@@ -1,7 +1,7 @@
 //! What a refused file has where a limit is, with the count.
 
 use crate::header::{Header, MOST_NODES, MOST_TEXTS, MOST_TEXT_BYTES};
-use crate::{places, Refusal, TreeFile};
+use crate::{places, KindTable, Refusal, TreeFile};
 use std::collections::{HashMap, HashSet};
 
 /// A count with a comma before each three digits.
@@ -141,11 +141,33 @@ impl Refusal {
             Refusal::Counts => Header::read(file).and_then(counts),
             Refusal::Lengths => Header::read(file).and_then(|header| lengths(header, file.len())),
             Refusal::Texts => tree().and_then(texts),
-            Refusal::Nodes => tree().and_then(places::fault),
+            Refusal::Nodes => tree().and_then(|tree| places::fault(tree, None)),
             Refusal::Identifiers => tree().map(identifiers),
             Refusal::Depth => tree().map(depth_as_read),
             Refusal::Size => tree().map(size_as_read),
-            Refusal::RunsOrWords | Refusal::Room | Refusal::Unlisted(_) => None,
+            Refusal::RunsOrWords
+            | Refusal::Room
+            | Refusal::Table
+            | Refusal::Pairs
+            | Refusal::Unlisted(_) => None,
+        }
+    }
+
+    /// The same of a file that was refused under a kind table: "node 12 (kind 36) under node 11 (kind 4), which the kind table forbids"; of
+    /// [`Refusal::Pairs`] the first pair that the table allows too much.
+    #[must_use]
+    pub fn found_under(self, file: &[u8], table: &KindTable) -> Option<String> {
+        match self {
+            Refusal::Nodes => {
+                let tree = TreeFile::new(file).ok()?;
+                places::fault(tree, Some(table))
+            }
+            Refusal::Pairs => {
+                let (parent, child) = table.too_wide()?;
+                let (line, column) = (parent.number(), child.number());
+                Some(format!("1 on line {line} in column {column}: kind {column} stands nowhere under kind {line}"))
+            }
+            _ => self.found(file),
         }
     }
 }

@@ -1,12 +1,12 @@
 //! The variable inliner for gate scripts, called from Rust.
 //!
-//! The pass itself is written and proved in Rattle (crates/pass) and comes as a static library with three C functions. This crate
+//! The pass itself is written and proved in Rattle (crates/pass) and comes as a static library with six C functions. This crate
 //! declares them once and puts safe functions over them. A script goes in and comes out as a *tree file*; docs/TREE.md has its format.
 //!
 //! [`inline`] is all that most callers need; [`Inliner`] keeps its memory between files; [`inline_into`], [`roots_into`] and [`root_of`]
-//! are the three C functions over the caller's own buffers; [`TreeFile`] shows a tree file's nodes and texts, [`Kind`] what each node is.
-//! Scripts may take values apart by patterns: `{today, before}` as a parameter stands in a file as [`Kind::ObjectPattern`], written out as
-//! `{today: today, before: before}`.
+//! are C functions over the caller's own buffers; each has a twin, `.._under`, which takes a mill's own [`KindTable`]; [`TreeFile`] shows
+//! a tree file's nodes and texts, [`Kind`] what each node is. Scripts may take values apart by patterns: `{today, before}` as a parameter
+//! stands in a file as [`Kind::ObjectPattern`], written out as `{today: today, before: before}`.
 //!
 //! ```
 //! use negbosun::{inline, Kind, Node, Refusal, MOST_RUNS};
@@ -51,12 +51,14 @@ mod entries;
 mod found;
 mod header;
 mod kind;
+mod kind_table;
 mod places;
 mod refusal;
 mod tree;
 
 pub use answer::{printed, Inlined, Root, RootBinding, Roots};
 pub use kind::Kind;
+pub use kind_table::{KindTable, KindTableError, TABLE_BYTES};
 pub use refusal::Refusal;
 pub use tree::{Node, Nodes, TreeFile};
 
@@ -85,6 +87,42 @@ pub struct Done {
     pub changed: bool,
 }
 
+impl entries::Inlined {
+    fn done(&self) -> Result<Done, Refusal> {
+        match Refusal::from_number(self.refused) {
+            Some(refusal) => Err(refusal),
+            None => Ok(Done {
+                length: self.length,
+                runs: self.runs,
+                changed: self.changed != 0,
+            }),
+        }
+    }
+}
+
+impl entries::Roots {
+    fn counted(&self) -> Result<usize, Refusal> {
+        match Refusal::from_number(self.refused) {
+            Some(refusal) => Err(refusal),
+            None => Ok(self.count),
+        }
+    }
+}
+
+impl entries::Binding {
+    fn found(&self) -> Result<Option<RootBinding>, Refusal> {
+        match Refusal::from_number(self.refused) {
+            Some(refusal) => Err(refusal),
+            None => Ok((self.found != 0).then_some(RootBinding {
+                text: self.text,
+                context: self.context,
+                prevented: self.prevented != 0,
+                count: self.count,
+            })),
+        }
+    }
+}
+
 /// Runs the pass on a tree file, at most `runs` times, and writes the result's file into `result`.
 ///
 /// All arguments are allowed; what will not do is refused. [`MOST_BYTES`] bytes of room always suffice, and [`WORDS`] words are
@@ -93,7 +131,7 @@ pub struct Done {
 ///
 /// # Errors
 ///
-/// Any of [`Refusal::ALL`], the first that applies. A refusal leaves `result` as it was.
+/// Any of [`Refusal::ALL`], the first that applies, but those of a kind table. A refusal leaves `result` as it was.
 pub fn inline_into(
     file: &[u8],
     result: &mut [u8],
@@ -113,14 +151,39 @@ pub fn inline_into(
             runs,
         )
     };
-    match Refusal::from_number(answer.refused) {
-        Some(refusal) => Err(refusal),
-        None => Ok(Done {
-            length: answer.length,
-            runs: answer.runs,
-            changed: answer.changed != 0,
-        }),
-    }
+    answer.done()
+}
+
+/// The same under a mill's own kind table: a file is read exactly if it is read without one and the table allows each node of the script
+/// under its parent. Only the script as read is held to the table: `var a = [1]; a;` becomes `var a; [1];`, also where `[1]` may not stand there.
+///
+/// # Errors
+///
+/// [`Refusal::Pairs`] where the table allows what the kinds forbid, before all but [`Refusal::RunsOrWords`]; [`Refusal::Nodes`] also where the
+/// table forbids a node under its parent; the others are those of [`inline_into`]. A refusal leaves `result` as it was.
+pub fn inline_into_under(
+    file: &[u8],
+    table: &KindTable,
+    result: &mut [u8],
+    words: &mut [u32],
+    runs: u32,
+) -> Result<Done, Refusal> {
+    let lent = table.as_bytes();
+    // SAFETY: as in `inline_into`, with four slices.
+    let answer = unsafe {
+        entries::negbosun_inline_under(
+            file.as_ptr(),
+            file.len(),
+            lent.as_ptr(),
+            lent.len(),
+            result.as_mut_ptr(),
+            result.len(),
+            words.as_mut_ptr(),
+            words.len(),
+            runs,
+        )
+    };
+    answer.done()
 }
 
 /// Runs the same pass and writes the root bindings instead, the oldest first: text number, the context's low and high half, the prevented mark
@@ -148,10 +211,37 @@ pub fn roots_into(
             runs,
         )
     };
-    match Refusal::from_number(answer.refused) {
-        Some(refusal) => Err(refusal),
-        None => Ok(answer.count),
-    }
+    answer.counted()
+}
+
+/// The same under a mill's own kind table.
+///
+/// # Errors
+///
+/// Those of [`inline_into_under`]; [`Refusal::Room`] if the root bindings do not fit. A refusal leaves `roots` as it was.
+pub fn roots_into_under(
+    file: &[u8],
+    table: &KindTable,
+    roots: &mut [[u32; ROOT_WORDS]],
+    words: &mut [u32],
+    runs: u32,
+) -> Result<usize, Refusal> {
+    let (lent, flat) = (table.as_bytes(), roots.as_flattened_mut());
+    // SAFETY: as in `inline_into`, with four slices.
+    let answer = unsafe {
+        entries::negbosun_roots_under(
+            file.as_ptr(),
+            file.len(),
+            lent.as_ptr(),
+            lent.len(),
+            flat.as_mut_ptr(),
+            flat.len(),
+            words.as_mut_ptr(),
+            words.len(),
+            runs,
+        )
+    };
+    answer.counted()
 }
 
 /// Runs the same pass and tells its n-th root binding, counted from 0 in the order of [`roots_into`], or that there is none. Any `n` will
@@ -177,15 +267,36 @@ pub fn root_of(
             n,
         )
     };
-    match Refusal::from_number(answer.refused) {
-        Some(refusal) => Err(refusal),
-        None => Ok((answer.found != 0).then_some(RootBinding {
-            text: answer.text,
-            context: answer.context,
-            prevented: answer.prevented != 0,
-            count: answer.count,
-        })),
-    }
+    answer.found()
+}
+
+/// The same under a mill's own kind table.
+///
+/// # Errors
+///
+/// Those of [`inline_into_under`] but [`Refusal::Room`].
+pub fn root_of_under(
+    file: &[u8],
+    table: &KindTable,
+    words: &mut [u32],
+    runs: u32,
+    n: u32,
+) -> Result<Option<RootBinding>, Refusal> {
+    let lent = table.as_bytes();
+    // SAFETY: as in `inline_into`, with three slices.
+    let answer = unsafe {
+        entries::negbosun_root_under(
+            file.as_ptr(),
+            file.len(),
+            lent.as_ptr(),
+            lent.len(),
+            words.as_mut_ptr(),
+            words.len(),
+            runs,
+            n,
+        )
+    };
+    answer.found()
 }
 
 /// The pass with memory of its own, for many files one after another.
@@ -223,16 +334,36 @@ impl Inliner {
     ///
     /// # Errors
     ///
-    /// Any of [`Refusal::ALL`] but [`Refusal::Room`].
+    /// Any of [`Refusal::ALL`] but [`Refusal::Room`] and those of a kind table.
     pub fn inline(&mut self, file: &[u8], runs: u32) -> Result<Inlined, Refusal> {
         let done = inline_into(file, &mut self.result, &mut self.words, runs)?;
         let count = roots_into(file, &mut self.roots, &mut self.words, runs)?;
-        Ok(Inlined {
+        Ok(self.inlined(done, count))
+    }
+
+    /// The same under a mill's own kind table, as [`inline_into_under`] has it.
+    ///
+    /// # Errors
+    ///
+    /// Those of [`inline_into_under`] but [`Refusal::Room`].
+    pub fn inline_under(
+        &mut self,
+        file: &[u8],
+        table: &KindTable,
+        runs: u32,
+    ) -> Result<Inlined, Refusal> {
+        let done = inline_into_under(file, table, &mut self.result, &mut self.words, runs)?;
+        let count = roots_into_under(file, table, &mut self.roots, &mut self.words, runs)?;
+        Ok(self.inlined(done, count))
+    }
+
+    fn inlined(&self, done: Done, count: usize) -> Inlined {
+        Inlined {
             file: written(&self.result, done.length),
             runs: done.runs,
             changed: done.changed,
             roots: written(&self.roots, count),
-        })
+        }
     }
 }
 
@@ -243,4 +374,13 @@ impl Inliner {
 /// As there.
 pub fn inline(file: &[u8], runs: u32) -> Result<Inlined, Refusal> {
     Inliner::new().inline(file, runs)
+}
+
+/// [`Inliner::inline_under`] for a single file.
+///
+/// # Errors
+///
+/// As there.
+pub fn inline_under(file: &[u8], table: &KindTable, runs: u32) -> Result<Inlined, Refusal> {
+    Inliner::new().inline_under(file, table, runs)
 }

@@ -2,7 +2,7 @@
 
 use crate::found::grouped;
 use crate::tree::Fields;
-use crate::{Kind, TreeFile};
+use crate::{Kind, KindTable, TreeFile};
 
 const DEEPEST: usize = 200;
 
@@ -187,6 +187,24 @@ fn row(node: Fields) -> Row {
     }
 }
 
+/// Whether a node of one kind may stand anywhere under one of another.
+pub(crate) fn stands(parent: u8, child: u8) -> bool {
+    let node = |kind, form, children| Fields {
+        kind,
+        form,
+        children,
+        text: 0,
+        bits: 0,
+    };
+    let child = node(child, 0, 1);
+    let formed = (0..forms(parent)).filter(|form| parent != 16 || *form > 0);
+    // Among four children are a first, a last and those between; a head takes a declaration of one declarator.
+    let rows = formed.flat_map(|form| (1..=4).map(move |count| (form, count)));
+    rows.filter_map(|(form, count)| row(node(parent, form, count)).places(count))
+        .flatten()
+        .any(|place| place.takes(child))
+}
+
 /// What is wrong with the fields of a node, its children aside.
 fn wrong_field(node: Fields, texts: usize) -> Option<String> {
     let kind = Kind::from_number(node.kind);
@@ -206,22 +224,22 @@ fn wrong_field(node: Fields, texts: usize) -> Option<String> {
     (!has_bits && node.bits != 0).then(|| "with a context or bits, where 0 belongs".into())
 }
 
-/// A node by its number from 1 on.
-fn named(number: usize, node: Fields) -> String {
-    format!("node {number} (kind {})", node.kind)
+/// A node by its number from 1 on, and its kind.
+fn named(number: usize, kind: u8) -> String {
+    format!("node {number} (kind {kind})")
 }
 
-/// The first place where the nodes are no script; none where they are one.
-pub(crate) fn fault(tree: TreeFile) -> Option<String> {
+/// The first place where the nodes are no script, or where a table forbids one; none where there is no such place.
+pub(crate) fn fault(tree: TreeFile, table: Option<&KindTable>) -> Option<String> {
     let texts = tree.texts().len();
     let count = tree.nodes().len();
-    // Places still to be filled, the next one last, each with its depth.
-    let mut open = vec![(Place::Script, 1)];
+    // Places still to be filled, the next one last, each with its depth and with the node that it is under.
+    let mut open = vec![(Place::Script, 1, None)];
     for (number, node) in (1..).zip(tree.nodes().map(crate::Node::fields)) {
-        let Some((place, depth)) = open.pop() else {
+        let Some((place, depth, under)) = open.pop() else {
             return Some(format!("{} nodes left over", count + 1 - number));
         };
-        let node_is = named(number, node);
+        let node_is = named(number, node.kind);
         if depth > DEEPEST {
             return Some(format!("{node_is} {depth} deep, at most {DEEPEST}"));
         }
@@ -230,6 +248,15 @@ pub(crate) fn fault(tree: TreeFile) -> Option<String> {
         }
         if !place.takes(node) {
             return Some(format!("{node_is} where {} belongs", place.words()));
+        }
+        if let (Some(table), Some((parent, above))) = (table, under) {
+            let [above, kind] = [above, node.kind].map(Kind::from_number);
+            if !table.allows(above, kind) {
+                let above = named(parent, above.number());
+                return Some(format!(
+                    "{node_is} under {above}, which the kind table forbids"
+                ));
+            }
         }
         let follow = count - number;
         if open.len() + node.children > follow {
@@ -241,7 +268,13 @@ pub(crate) fn fault(tree: TreeFile) -> Option<String> {
         let Some(places) = row(node).places(node.children) else {
             return Some(format!("{node_is} with {} children", node.children));
         };
-        open.extend(places.into_iter().rev().map(|place| (place, depth + 1)));
+        let under = Some((number, node.kind));
+        open.extend(
+            places
+                .into_iter()
+                .rev()
+                .map(|place| (place, depth + 1, under)),
+        );
     }
     None
 }

@@ -30,14 +30,20 @@ pub enum Refusal {
     Size,
     /// 10: The buffer is shorter than what is to be written.
     Room,
+    /// 14: The lent kind table is not 2,304 bytes, each 0 or 1. A [`KindTable`](crate::KindTable) always is.
+    Table,
+    /// 15: The lent kind table allows a pair that the kinds forbid.
+    Pairs,
     /// A number that this version of the crate has no name for. The library that it was made for answers none.
     Unlisted(u32),
 }
 
 impl Refusal {
-    /// The ten that have a name, in checking order.
-    pub const ALL: [Refusal; 10] = [
+    /// The twelve that have a name, in checking order.
+    pub const ALL: [Refusal; 12] = [
         Refusal::RunsOrWords,
+        Refusal::Table,
+        Refusal::Pairs,
         Refusal::Header,
         Refusal::Counts,
         Refusal::Lengths,
@@ -63,6 +69,8 @@ impl Refusal {
             Refusal::Depth => 8,
             Refusal::Size => 9,
             Refusal::Room => 10,
+            Refusal::Table => 14,
+            Refusal::Pairs => 15,
             Refusal::Unlisted(number) => number,
         }
     }
@@ -88,7 +96,7 @@ impl Refusal {
             Refusal::Texts => "the ends of the file's texts fall, the last one is not the byte count, or two texts are equal",
             Refusal::Nodes => {
                 "a node of the file is not allowed where it stands, an unused field is not 0, a text number is too large, \
-                 nodes are missing or left over, or the tree is over 200 deep"
+                 nodes are missing or left over, the tree is over 200 deep, or a lent kind table forbids a node under its parent"
             }
             Refusal::Identifiers => "the script has over 256 different identifiers",
             Refusal::Depth => {
@@ -100,6 +108,8 @@ impl Refusal {
                  or over 256 bindings and constants were live"
             }
             Refusal::Room => "the buffer for the result is shorter than the result",
+            Refusal::Table => "the kind table is not 2,304 bytes, each of them 0 or 1",
+            Refusal::Pairs => "the kind table allows a node under a parent that the kinds forbid",
             Refusal::Unlisted(_) => "the library is a later one and has a refusal that this version has no words for",
         }
     }
@@ -118,9 +128,9 @@ mod tests {
     use super::Refusal;
 
     #[test]
-    fn numbers_are_one_to_ten_in_order() {
-        let numbers: Vec<u32> = Refusal::ALL.iter().map(|r| r.number()).collect();
-        assert_eq!(numbers, (1..=10).collect::<Vec<u32>>());
+    fn numbers_are_in_checking_order() {
+        let numbers = Refusal::ALL.map(Refusal::number);
+        assert_eq!(numbers, [1, 14, 15, 2, 3, 4, 5, 6, 7, 8, 9, 10]);
         for refusal in Refusal::ALL {
             assert_eq!(Refusal::from_number(refusal.number()), Some(refusal));
         }
@@ -142,7 +152,7 @@ mod tests {
         said.push(Refusal::Unlisted(11).words());
         said.sort_unstable();
         said.dedup();
-        assert_eq!(said.len(), 11);
+        assert_eq!(said.len(), 13);
         assert!(Refusal::Room.to_string().starts_with("refusal 10: "));
     }
 }

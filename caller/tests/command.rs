@@ -182,3 +182,58 @@ fn names_that_are_no_text_and_outputs_that_are_full_are_told() {
         assert!(text(&output.stderr).contains("standard output"));
     }
 }
+
+#[test]
+fn a_kind_table_is_lent_by_its_file() {
+    let folder = std::env::temp_dir().join(format!("negbosun-kinds-{}", std::process::id()));
+    std::fs::create_dir_all(&folder).expect("a folder");
+    let write = |name: &str, bytes: &[u8]| {
+        let path = folder.join(name);
+        std::fs::write(&path, bytes).expect("a table");
+        path.to_str().expect("a name").to_owned()
+    };
+    let whole = negbosun::KindTable::whole();
+    let lines = write("lines", whole.to_string().as_bytes());
+    let bytes = write("bytes", whole.as_bytes());
+    let none = write("none", &[0; negbosun::TABLE_BYTES]);
+    let wide = write("wide", &[1; negbosun::TABLE_BYTES]);
+    let wrong = write("wrong", whole.to_string().replacen('1', "7", 1).as_bytes());
+    let seven = files::seven();
+    let plain = run(&[], &seven);
+    for table in [&lines, &bytes] {
+        assert_eq!(run(&["--kinds", table], &seven).stdout, plain.stdout);
+    }
+    let output = run(&["--kinds", &none], &seven);
+    assert_eq!(
+        (output.status.code(), text(&output.stdout)),
+        (Some(1), "refused 6\n")
+    );
+    let said = "; it has node 2 (kind 5) under node 1 (kind 1), which the kind table forbids\n";
+    assert!(
+        text(&output.stderr).ends_with(said),
+        "{}",
+        text(&output.stderr)
+    );
+    assert_eq!(run(&["--kinds", &none], &empty()).status.code(), Some(0));
+    let output = run(&[&format!("--kinds={wide}")], b"");
+    assert_eq!(
+        (output.status.code(), text(&output.stdout)),
+        (Some(1), "refused 15\n")
+    );
+    let output = run(&["--kinds", &wrong], &seven);
+    assert_eq!((output.status.code(), text(&output.stdout)), (Some(3), ""));
+    let said = ": no kind table: line 1, column 2: `7`, where 0 or 1 belongs\n";
+    assert!(
+        text(&output.stderr).ends_with(said),
+        "{}",
+        text(&output.stderr)
+    );
+    assert_eq!(run(&["--kinds", "no/such"], &seven).status.code(), Some(3));
+    assert_eq!(run(&["--kinds"], &seven).status.code(), Some(2));
+    let batch = run(
+        &["--batch", "--kinds", &none],
+        format!("{EMPTY}\n").as_bytes(),
+    );
+    assert_eq!(batch.status.code(), Some(0));
+    std::fs::remove_dir_all(&folder).expect("its end");
+}

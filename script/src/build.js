@@ -1,8 +1,8 @@
 // A script's text through the pass: tree, tree file, the port's answer.
 'use strict';
 
-const { runPort } = require('./port');
-const { refusalTrouble } = require('./refusals');
+const { checkKinds, runPort } = require('./port');
+const { refusalTrouble, tableTrouble } = require('./refusals');
 const { treeOfText, withinDepth } = require('./to_tree');
 const { writeTreeFile, textsOf } = require('./tree_file');
 
@@ -13,7 +13,8 @@ function build(text, options) {
   const root = treeOfText(text);
   return withinDepth(text, () => {
     const answer = answerTo(root, options);
-    if (answer.refused) throw refusalTrouble(answer.refused, root, (other) => answerTo(other, options).refused);
+    if (answer.refused) throw tableTrouble(answer.refused, root, options.kinds) || refusalTrouble(answer.refused, root, (other) => answerTo(other, options).refused);
+    checkKinds(root, options.kinds);
     return { root, answer };
   });
 }

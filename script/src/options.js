@@ -5,6 +5,7 @@ const { parseArgs } = require('util');
 const { TITLES } = require('../guard/classify');
 const { DEFAULT_LEVEL, LEVELS, levelOf } = require('../same/levels');
 const many = require('./many_options');
+const { readKindTable } = require('./kind_table');
 const { DOCS, NAME } = require('./name');
 const { MOST_RUNS } = require('./port');
 const { WORDS } = require('./refusals');
@@ -49,6 +50,7 @@ The guard, the second opinion:
   --no-guard        do not run script and result beside each other; the verdict is by what is shown alone
 
 The pass:
+  --kinds FILE      the mill's own kind table, 48 lines of 48 digits (samples/without_for_and_new.kinds): what it forbids is refused
   --runs N          at most N runs, 1 to ${MOST_RUNS} (${MOST_RUNS})
 ${many.LIMITS}  --port PROGRAM    the program that does it (NEGBOSUN_PORT, or target/bin/negbosun)
 
@@ -61,7 +63,7 @@ of the tool itself. Classes are those of ${DOCS}/DIFFERENCES.md. ${DOCS}/MILLERS
 `;
 
 const FLAGS = ['tree', 'lines', 'compare', 'check', 'no-guard', 'keep-shown', 'unshown', 'help', ...many.FLAGS];
-const VALUES = ['out', 'runs', 'trials', 'seed', 'port', 'accept', 'host', 'samples', ...many.VALUES];
+const VALUES = ['out', 'runs', 'trials', 'seed', 'port', 'accept', 'host', 'samples', 'kinds', ...many.VALUES];
 const SHORT = { help: { type: 'boolean', short: 'h' } };
 const MOST_TRIALS = 100000;
 const LAST_CLASS = Math.max(...Object.keys(TITLES));
@@ -124,6 +126,7 @@ function readOptions(list) {
     output: kinds[0] || 'result',
     out: values.out === '-' ? undefined : values.out,
     runs: values.runs === undefined ? undefined : runLimit(values.runs),
+    kinds: values.kinds === undefined ? undefined : readKindTable(values.kinds),
     accepted: acceptedClasses(values.accept),
     acceptsAll: values.accept === '',
     level: hostLevel(values.host),

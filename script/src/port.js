@@ -8,15 +8,17 @@ const { rootsOfLines, treeOfLines } = require('./tree_file');
 const { PortTrouble, trouble } = require('./trouble');
 
 const DEFAULT_PORT = path.join(__dirname, '..', '..', 'target', 'bin', 'negbosun');
-// The program takes no run limit; the Rust caller's tool over the same C functions does.
+// The program takes no run limit and no kind table; the Rust caller's tool over the same C functions does.
 const LIMITED_PORT = path.join(__dirname, '..', '..', 'caller', 'target', 'release', 'negbosun-inline');
 const MOST_RUNS = 16;
 const LONGEST_ANSWER = 1 << 24;
+const TOOL = 'build caller/ (cargo build --release), whose tool does';
 // An ordinary script takes some thousandths of a second.
 const SECONDS = 30;
 
 const takesLimit = () => fs.existsSync(LIMITED_PORT);
-const portPath = (named, runs) => named || process.env.NEGBOSUN_PORT || (runs !== undefined && takesLimit() ? LIMITED_PORT : DEFAULT_PORT);
+const isPlain = ({ runs, kinds }) => runs === undefined && kinds === undefined;
+const portPath = (options) => options.port || process.env.NEGBOSUN_PORT || (!isPlain(options) && takesLimit() ? LIMITED_PORT : DEFAULT_PORT);
 
 // Some scripts take the pass very long: each function inside a function's value doubles the time.
 const tooLong = (seconds) => trouble(null, `the pass did not end within ${seconds} ${seconds === 1 ? 'second' : 'seconds'}`,
@@ -24,26 +26,34 @@ const tooLong = (seconds) => trouble(null, `the pass did not end within ${second
 
 const WORDS = { EACCES: 'this is no program that may be run', ENOEXEC: 'this is no program that can be run' };
 
-// Without a limit the program is called without arguments, as document 01 has it.
-function portOutput(bytes, { port, runs, seconds = SECONDS }) {
-  const command = portPath(port, runs);
+// Without a limit or a table the program is called without arguments, as document 01 has it.
+const argumentsFor = ({ runs, kinds }) => [...(runs === undefined ? [] : ['--runs', String(runs)]), ...(kinds === undefined ? [] : ['--kinds', kinds.file])];
+
+function portOutput(bytes, options) {
+  const { seconds = SECONDS } = options;
+  const command = portPath(options);
   if (!fs.existsSync(command)) {
     const words = `the program that does the pass is not there: ${command}; build it by tools/build negbosun, or name it by --port or NEGBOSUN_PORT`;
     throw Object.assign(new PortTrouble(words), { isAbsent: true });
   }
-  const list = runs === undefined ? [] : ['--runs', String(runs)];
-  const { stdout, stderr, error } = spawnSync(path.resolve(command), list, { input: bytes, encoding: 'utf8', maxBuffer: LONGEST_ANSWER, timeout: 1000 * seconds, killSignal: 'SIGKILL' });
+  const { stdout, stderr, error } = spawnSync(path.resolve(command), argumentsFor(options), { input: bytes, encoding: 'utf8', maxBuffer: LONGEST_ANSWER, timeout: 1000 * seconds, killSignal: 'SIGKILL' });
   if (error && error.code === 'ETIMEDOUT') throw tooLong(seconds);
   if (error && error.code !== 'EPIPE') throw new PortTrouble(`${command}: ${WORDS[error.code] || error.message}`);
   if (!/^(refused \d+|ok runs \d+ changed [01] nodes \d+)$/m.test(stdout)) {
-    throw new PortTrouble(`${command} is not the program that does the pass: it gave no such answer${stderr ? `, but: ${stderr.trim()}` : ''}`);
+    const hint = isPlain(options) ? '' : `; if it takes no run limit and no kind table, ${TOOL}`;
+    throw new PortTrouble(`${command} is not the program that does the pass: it gave no such answer${stderr ? `, but: ${stderr.trim()}` : ''}${hint}`);
   }
   return stdout;
 }
 
 // A port that passes over its arguments makes 16 runs; what ended by itself within the limit is the same either way.
 function checkLimit(done, runs) {
-  if (runs !== undefined && done > runs) throw new PortTrouble(`the program that does the pass takes no run limit: ${done} runs were made; build caller/ (cargo build --release), whose tool does`);
+  if (runs !== undefined && done > runs) throw new PortTrouble(`the program that does the pass takes no run limit: ${done} runs were made; ${TOOL}`);
+}
+
+// A port that passes over its arguments reads what the table forbids.
+function checkKinds(root, kinds) {
+  if (kinds !== undefined && kinds.firstForbidden(root)) throw new PortTrouble(`the program that does the pass takes no kind table; ${TOOL}`);
 }
 
 // The answer to a tree file: a refusal's number, or lines, runs, mark, the result's tree and the variables of the script's top.
@@ -57,4 +67,4 @@ function runPort(bytes, texts, options) {
   return { refused: 0, lines, runs: done, changed, tree: treeOfLines(rest.slice(0, count), texts), roots: rootsOfLines(rest.slice(count), texts) };
 }
 
-module.exports = { runPort, takesLimit, MOST_RUNS, SECONDS };
+module.exports = { checkKinds, runPort, takesLimit, MOST_RUNS, SECONDS };

@@ -1,10 +1,11 @@
-// The ten refusals in plain words, with the place in the text where one can be told.
+// The refusals in plain words, with the place in the text where one can be told.
 'use strict';
 
 const { K, NAMED, TEXTED, identityOf, isStatement, preorder } = require('./kinds');
+const { forbiddenWords } = require('./kind_table');
 const { LIMITS, figure, limitText, limitsOf } = require('./limits');
 const { MOST, namesItself, rightSidesIn, scopesIn, valuesIn } = require('./running');
-const { ScriptTrouble, trouble } = require('./trouble');
+const { ScriptTrouble, UsageTrouble, trouble } = require('./trouble');
 
 const WORDS = {
   1: 'the run limit is not from 1 to 16, or the port has too little room to work in',
@@ -18,6 +19,8 @@ const WORDS = {
     + 'over 32 scopes were open in one another, or over 12 right sides of && and ||',
   9: 'while running, the script grew over 1,024 nodes, recorded values over 512 nodes, or recorded variables over 256',
   10: 'the result is longer than the room that the port was given for it',
+  14: 'the kind table is not 2,304 bytes, each of them 0 or 1',
+  15: 'the kind table allows something where no script may have it',
 };
 
 // The node at which a tree first passes one of row 3's limits.
@@ -133,4 +136,14 @@ function refusalTrouble(number, root, refusalOf) {
   return trouble(node ? node.at.loc.start : null, `refusal ${number}: ${detail}`, HINTS[number] || null);
 }
 
-module.exports = { HINTS, refusalTrouble, WORDS };
+const NOT_AT_THIS_MILL = 'the mill\'s kind table forbids it; write it in another way';
+
+// What a lent kind table is to blame for: what it forbids in the script, with its place, or that it is no table; null where it is not.
+function tableTrouble(number, root, kinds) {
+  if (kinds === undefined) return null;
+  if (number === 14 || number === 15) return new UsageTrouble(`--kinds ${kinds.file}: refusal ${number}: ${WORDS[number]}`);
+  const found = number === 6 ? kinds.firstForbidden(root) : null;
+  return found && trouble(found.node.at.loc.start, `refusal 6: ${forbiddenWords(kinds, found)}`, NOT_AT_THIS_MILL);
+}
+
+module.exports = { HINTS, refusalTrouble, tableTrouble, WORDS };

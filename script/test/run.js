@@ -5,6 +5,7 @@ const { counts } = require('./harness');
 const { testInBrowser } = require('./browser');
 const { testContexts, testErrors, testPrinting, testRoundTrips, testTreeOfSample } = require('./without_port');
 const { testOutputs, testPlaces } = require('./outputs');
+const { testKindTables, testKindsCommand } = require('./kinds');
 const { testOwnText } = require('./own_text');
 const { testPages } = require('./pages');
 const { testStreams } = require('./streams');
@@ -17,6 +18,7 @@ testPrinting();
 testContexts();
 testErrors();
 testPlaces();
+testKindTables();
 testRules();
 testUnknownKinds();
 if (process.env.NEGBOSUN_PORT) {
@@ -30,6 +32,7 @@ if (process.env.NEGBOSUN_PORT) {
   testGuard();
   testGuardReaches();
   testCommand();
+  testKindsCommand();
   testOwnText();
   testOutputs();
   testStreams();

@@ -43,7 +43,7 @@ module _ {bs w w₁ : List ℕ} {a : Result Header Refusal} (R : ReadIs bs w w�
   told-err y m e t = subst (λ (z : Result Header Refusal). Told bs y z) e t
 
   after : (x : Read) → leb 16384 (length w) ≡ true → read bs ≡ x → After bs w w₁ x
-  after x e q = subst (After bs w w₁) q (subst (ReadWords bs w w₁) e R.words)
+  after x e q = subst (After bs w w₁) q (subst (ReadWords (read bs) bs w w₁) e R.words)
 
   pub not-read : {r : List ℕ} (m : Refusal) → a ≡ Err m → CopyIs bs r r w w₁ (numbers (refused (number m)))
   not-read {r} m h = go (leb 16384 (length w)) (read bs) refl refl
@@ -52,7 +52,7 @@ module _ {bs w w₁ : List ℕ} {a : Result Header Refusal} (R : ReadIs bs w w�
       same j k z = cc
 
       go : (p : Bool) (x : Read) → leb 16384 (length w) ≡ p → read bs ≡ x → CopyIs bs r r w w₁ (numbers (refused (number m)))
-      go false x e q = copy_is bs r w (refused 1) false (ends bs r w false x e q) e (same 1 (number m) (told-err (bad 1) m h (by false x e q))) refl (subst (ReadWords bs w w₁) e R.words)
+      go false x e q = copy_is bs r w (refused 1) false (ends bs r w false x e q) e (same 1 (number m) (told-err (bad 1) m h (by false x e q))) refl (subst (ReadWords (read bs) bs w w₁) e R.words)
       go true (bad k) e q = copy_is bs r w (refused k) true (ends bs r w true (bad k) e q) e (same k (number m) (told-err (bad k) m h (by true (bad k) e q))) refl (after (bad k) e q)
       go true (script s) e q = let z = told-err (script s) m h (by true (script s) e q) in cc
 

@@ -1,3 +1,4 @@
 pub mod Names
 pub mod Cores
 pub mod Readings
+pub mod Tables

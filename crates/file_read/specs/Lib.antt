@@ -2,3 +2,4 @@ pub mod Idents
 pub mod Head
 pub mod Load
 pub mod Reading
+pub mod Table

@@ -5,3 +5,4 @@ pub mod header;
 mod idents;
 mod load;
 pub mod read;
+mod table;

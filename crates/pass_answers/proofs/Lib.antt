@@ -4,3 +4,5 @@ pub mod Long
 pub mod Again
 pub mod Assigns
 pub mod Sizes
+pub mod Today
+pub mod Under

@@ -10,13 +10,17 @@ use lib.Dec.{leb, eqb}
 use lib.ListN.{length, take, drop, length-take}
 use Rattle.def_file.specs.Read.{Read, bad, number, u32, header, parts, read}
 use Rattle.laws_roundtrip.proofs.Header.{row3, row4, headed, and-true}
+use Rattle.def_kinds.specs.Lent.{is_table, within}
+use Rattle.def_under.specs.Reading.{parts_under, read_under, constant, lent}
+use Rattle.def_under.specs.Entry.{pass_under, entry_under}
 use Rattle.def_pass.specs.Script.{Root, pass_read, pass_file}
 use Rattle.def_pass.specs.Entry.{Entry, refused, entry_read, entry}
 use Rattle.pass_roots.specs.Listing as lists
 use Rattle.pass_roots.specs.Nth.{nth}
 use Rattle.pass_answers.specs.Entry.{enough}
 use Rattle.pass_answers.specs.Roots.{said, over_roots, stopped, given}
-use Rattle.pass_answers.specs.Long.{cut_at, CutAlike}
+use Rattle.pass_answers.specs.Under.{over_under}
+use Rattle.pass_answers.specs.Long.{cut_at, CutAlike, CutAlikeUnder}
 
 -- a field that is kept whole
 number-take : (k m : ℕ) (bs : List ℕ) → k ≤ m → number k (take m bs) ≡ number k bs
@@ -57,16 +61,26 @@ refused-long bs x l =
     enough-bytes = le-leb 32 (length bs) (omega (arith, l))
 
 -- so that reading sees no more than the first 21,537 bytes of it
-cut-read : (m : ℕ) (bs : List ℕ) → 21537 ≤ m → 21537 ≤ length bs → read (take m bs) ≡ read bs
-unfolding read
-cut-read m bs k l =
+cut-header : (m : ℕ) (bs : List ℕ) (x y : Read) → 21537 ≤ m → 21537 ≤ length bs → header (take m bs) x ≡ header bs y
+cut-header m bs x y k l =
     let cs = take m bs in
-    refused-long cs (parts (u32 cs 8) (u32 cs 16) (u32 cs 28) cs) (omega (arith, length-take m bs))
+    refused-long cs x (omega (arith, length-take m bs))
     ∙ ap (λ (v : ℕ). long v (u32 cs 8) (u32 cs 16) (u32 cs 28)) (field-take 4 0 m bs (omega arith))
     ∙ ap (λ (n : ℕ). long (u32 bs 0) n (u32 cs 16) (u32 cs 28)) (field-take 4 8 m bs (omega arith))
     ∙ ap (λ (t : ℕ). long (u32 bs 0) (u32 bs 8) t (u32 cs 28)) (field-take 4 16 m bs (omega arith))
     ∙ ap (λ (b : ℕ). long (u32 bs 0) (u32 bs 8) (u32 bs 16) b) (field-take 4 28 m bs (omega arith))
-    ∙ sym (refused-long bs (parts (u32 bs 8) (u32 bs 16) (u32 bs 28) bs) l)
+    ∙ sym (refused-long bs y l)
+
+cut-read : (m : ℕ) (bs : List ℕ) → 21537 ≤ m → 21537 ≤ length bs → read (take m bs) ≡ read bs
+unfolding read
+cut-read m bs k l = let cs = take m bs in cut-header m bs (parts (u32 cs 8) (u32 cs 16) (u32 cs 28) cs) (parts (u32 bs 8) (u32 bs 16) (u32 bs 28) bs) k l
+
+cut-lent : (T : List ℕ) (m : ℕ) (bs : List ℕ) → 21537 ≤ m → 21537 ≤ length bs → lent T (take m bs) ≡ lent T bs
+unfolding lent read_under
+cut-lent T m bs k l =
+    let cs = take m bs in
+    ap {B = Read} (λ (x : Read). elim (is_table T) [ false ↦ bad 14 | true ↦ elim (within T constant) [ false ↦ bad 15 | true ↦ x ] ])
+    (cut-header m bs (parts_under T (u32 cs 8) (u32 cs 16) (u32 cs 28) cs) (parts_under T (u32 bs 8) (u32 bs 16) (u32 bs 28) bs) k l)
 
 cut-entry : (runs words : ℕ) (bs : List ℕ) (room m : ℕ) → 21537 ≤ m → 21537 ≤ length bs → entry runs words (take m bs) room ≡ entry runs words bs room
 unfolding entry
@@ -82,4 +96,20 @@ cut-alike runs words bs room n l = (
   cut-entry runs words bs room cut_at (omega arith) l,
   cut-over lists.refused (lists.in_room room) runs words bs cut_at (omega arith) l,
   cut-over stopped (λ rs. given (nth n rs)) runs words bs cut_at (omega arith) l,
+)
+
+-- under a lent table
+cut-entry_under : (runs words : ℕ) (T bs : List ℕ) (room m : ℕ) → 21537 ≤ m → 21537 ≤ length bs → entry_under runs words T (take m bs) room ≡ entry_under runs words T bs room
+unfolding entry_under
+cut-entry_under runs words T bs room m k l = ap {B = Entry} (λ (x : Read). elim (enough runs words) [ false ↦ refused 1 | true ↦ entry_read runs room x ]) (cut-lent T m bs k l)
+
+cut-over_under : {Z : Type 0} (stop : ℕ → Z) (of : List Root → Z) (runs words : ℕ) (T bs : List ℕ) (m : ℕ) → 21537 ≤ m → 21537 ≤ length bs → over_under stop of runs words T (take m bs) ≡ over_under stop of runs words T bs
+unfolding over_under pass_under
+cut-over_under {Z} stop of runs words T bs m k l = ap {B = Z} (λ (x : Read). elim (enough runs words) [ false ↦ stop 1 | true ↦ said stop of (pass_read runs x) ]) (cut-lent T m bs k l)
+
+pub cut-alike-under : CutAlikeUnder
+cut-alike-under runs words T bs room n l = (
+  cut-entry_under runs words T bs room cut_at (omega arith) l,
+  cut-over_under lists.refused (lists.in_room room) runs words T bs cut_at (omega arith) l,
+  cut-over_under stopped (λ rs. given (nth n rs)) runs words T bs cut_at (omega arith) l,
 )

@@ -40,7 +40,7 @@ r-tree-pass n none = (omega arith, omega arith)
 r-tree-pass n (some t) = r-runs (Walk.runs n 0 (flagged t) (Walk.start t)) (runs-low n 0 (flagged t) (Walk.start t))
 
 -- a script's answer
-abbrev Answers : Answer → Type 0
+abbrev pub Answers : Answer → Type 0
 Answers (no! n) = (2 ≤ n) × (n ≤ 9)
 Answers (yes! k c xs rs) = Unit {0}
 
@@ -48,12 +48,12 @@ r-answer : (s : Script) (o : Walk.Outcome) → Ends o → Answers (answer s o)
 r-answer s (Walk.refused n) h = (omega (arith, h.0), h.1)
 r-answer s (Walk.result k c t ms) h = tt
 
-r-pass : (n : ℕ) (s : Script) → Answers (pass n s)
+pub r-pass : (n : ℕ) (s : Script) → Answers (pass n s)
 unfolding pass
 r-pass n s = r-answer s (pass_tree n (core_tree s)) (r-tree-pass n (core_tree s))
 
 -- reading
-abbrev Reads : Read → Type 0
+abbrev pub Reads : Read → Type 0
 Reads (bad n) = (2 ≤ n) × (n ≤ 7)
 Reads (script s) = Unit {0}
 
@@ -61,7 +61,7 @@ r-test : (b : Bool) (n : ℕ) (x : Read) → (2 ≤ n) × (n ≤ 7) → Reads x 
 r-test true n x h k = k
 r-test false n x h k = h
 
-r-read : (bs : List ℕ) → Reads (read bs)
+pub r-read : (bs : List ℕ) → Reads (read bs)
 unfolding read
 r-read bs =
     let n = u32 bs 8 in
@@ -77,7 +77,7 @@ r-read bs =
     (r-test (nodes_ok s) 6 _ (omega arith, omega arith) (r-test (leb (length (idents s)) 256) 7 (script s) (omega arith, omega arith) tt)))))
 
 -- the C functions
-r-written : (room : ℕ) (s : Script) (x : Answer) → Answers x → EntryRow (written room s x)
+pub r-written : (room : ℕ) (s : Script) (x : Answer) → Answers x → EntryRow (written room s x)
 r-written room s (no! n) h = (omega (arith, h.0), omega (arith, h.1))
 r-written room s (yes! k c xs rs) h = go (leb (length (file_of s xs)) room)
   where
@@ -85,7 +85,7 @@ r-written room s (yes! k c xs rs) h = go (leb (length (file_of s xs)) room)
     go true = tt
     go false = (omega arith, omega arith)
 
-r-room : (room : ℕ) (rs : List Root) → ListingRow (lists.in_room room rs)
+pub r-room : (room : ℕ) (rs : List Root) → ListingRow (lists.in_room room rs)
 r-room room rs = go (leb (5 * length rs) room)
   where
     go : (p : Bool) → ListingRow (elim p [ false ↦ lists.refused 10 | true ↦ lists.listed rs ])

@@ -6,3 +6,6 @@ pub mod Rows
 pub mod Again
 pub mod Assigns
 pub mod Sizes
+pub mod Under
+pub mod Today
+pub mod DemandUnder

@@ -5,6 +5,7 @@
 
 ghost use Rattle.pass_answers.specs.Entry.{InlineIs};
 ghost use Rattle.pass_answers.specs.Roots.{RootsIs, RootIs};
+ghost use Rattle.pass_answers.specs.Under.{InlineUnderIs, RootsUnderIs, RootUnderIs};
 
 use pass_answers::{Inlined, RootBinding, Roots};
 
@@ -41,4 +42,46 @@ pub extern "C" fn negbosun_root(file: &[u8], words: &mut [u32], runs: u32, n: u3
     ensures { RootIs file.now words.old words.new runs n result }
 {
     pass::negbosun_root(file, words, runs, n)
+}
+
+// Rows 1 to 10, with 14 and 15 behind 1, under the kind table that is lent. What is written is the result's file.
+#[unsafe(no_mangle)]
+pub extern "C" fn negbosun_inline_under(
+    file: &[u8],
+    table: &[u8],
+    res: &mut [u8],
+    words: &mut [u32],
+    runs: u32,
+) -> Inlined
+    ensures { InlineUnderIs table.now file.now res.old res.new words.old words.new runs result }
+{
+    pass::negbosun_inline_under(file, table, res, words, runs)
+}
+
+// The same rows, of the pass over the file. What is written are the root bindings, as by `negbosun_roots`.
+#[unsafe(no_mangle)]
+pub extern "C" fn negbosun_roots_under(
+    file: &[u8],
+    table: &[u8],
+    roots: &mut [u32],
+    words: &mut [u32],
+    runs: u32,
+) -> Roots
+    ensures { RootsUnderIs table.now file.now roots.old roots.new words.old words.new runs result }
+{
+    pass::negbosun_roots_under(file, table, roots, words, runs)
+}
+
+// The same but row 10, which cannot be met. The answer is the n-th root binding, as that of `negbosun_root`.
+#[unsafe(no_mangle)]
+pub extern "C" fn negbosun_root_under(
+    file: &[u8],
+    table: &[u8],
+    words: &mut [u32],
+    runs: u32,
+    n: u32,
+) -> RootBinding
+    ensures { RootUnderIs table.now file.now words.old words.new runs n result }
+{
+    pass::negbosun_root_under(file, table, words, runs, n)
 }

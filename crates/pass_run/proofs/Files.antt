@@ -21,17 +21,17 @@ use Rattle.laws_roundtrip.proofs.Nodes.{nodes-length}
 use Rattle.laws_roundtrip.proofs.Round.{Found, found}
 use Rattle.file_read.specs.declared.header.Header.{Header}
 use Rattle.std.specs.Prelude.{Result, Ok, Err}
-use Rattle.std.specs.Result.{is_ok, is_err}
+use Rattle.std.specs.Result.{is_err}
 use Rattle.refusal.specs.declared.Refusal.{Refusal}
 use Rattle.refusal.specs.Number.{number}
 use Rattle.file_read.specs.Idents.{numbered, ids_of, Listed}
 use Rattle.file_read.specs.Load.{Kept}
-use Rattle.file_read.specs.Reading.{Told, After, WordsAre, ReadIs}
+use Rattle.file_read.specs.Reading.{Told, After, WordsAre, ReadsAs}
 use Rattle.file_read.proofs.Cores.{core-lit, core-id, core-plain, place-final, ids_more}
 use Rattle.file_copy.proofs.Again.{place-enter}
 use Rattle.file_copy.proofs.Ends.{WasRead}
 use Rattle.def_pass.specs.Walk.{St}
-use Rattle.laws_flat.specs.WalkF.{OutcomeF, refused_f, runs_f}
+use Rattle.laws_flat.specs.WalkF.{runs_f}
 use Rattle.laws_flat.specs.PassF.{start_f, targets_l, flagged_l}
 use Rattle.laws_flat.proofs.File.{planted-ok}
 use Rattle.words_scopes.specs.State.{Named, Names}
@@ -136,14 +136,14 @@ module _ {w u : List ℕ} {n : ℕ} (L : Listed w n) (e : Same w u) where
   unfolding ids_of
   ids-still bs = rw e.count (tab-ext (get_or w 4 0) (λ i. numbered bs (get_or u (15504 + i) 0)) (λ i. numbered bs (get_or w (15504 + i) 0)) (λ i l. ap (λ (m : ℕ). numbered bs m) (e.each i (omega (arith, L.few)))))
 
--- the pass over it
-module _ {bs w w₁ u v : List ℕ} {x : Result Ran Refusal} (n : ℕ) (W : WasRead bs w w₁) (S : Started w₁ u) (R : RunsIs u v x (runs_f n 0 (abs u))) where
+-- the pass over it, x being what was read
+module _ {bs w w₁ u v : List ℕ} {x : Read} {r : Result Ran Refusal} (n : ℕ) (same_read : x ≡ read bs) (W : WasRead bs w w₁) (S : Started w₁ u) (R : RunsIs u v r (runs_f n 0 (abs u))) where
   begins : abs u ≡ begin W.script
   begins =
       ap₂ {C = Flat St} (λ (xs : List Core) (s : St). record { nodes = xs; rest = s }) (S.nodes ∙ ap (λ (xs : List Core). flagged_l xs) W.held.tree) (S.is ∙ ap₂ (λ (n : ℕ) (xs : List Core). start_f n (targets_l xs)) W.held.count W.held.tree)
 
-  ends : outcome x v ≡ read_runs n (read bs)
-  ends = R.is ∙ ap (λ (st : Flat St). runs_f n 0 st) begins ∙ ap (read_runs n) (sym W.is)
+  ends : outcome r v ≡ read_runs n x
+  ends = R.is ∙ ap (λ (st : Flat St). runs_f n 0 st) begins ∙ ap (read_runs n) (sym (same_read ∙ W.is))
 
   same : Same w₁ v
   same = record {
@@ -155,43 +155,43 @@ module _ {bs w w₁ u v : List ℕ} {x : Result Ran Refusal} (n : ℕ) (W : WasR
   kept : Kept w v
   kept = record { size = same.size ∙ W.kept.size; rest = R.ok.rest ∙ S.rest ∙ W.kept.rest }
 
-  finished : Final bs w v
-  finished = record { script = W.script; is = W.is; planted = R.ok.planted; ids = ids-still W.held.listed same bs ∙ W.held.ids; listed = listed-still W.held.listed same; kept = kept }
+  finished : Final x bs w v
+  finished = record { script = W.script; found = same_read ∙ W.is; is = W.is; planted = R.ok.planted; ids = ids-still W.held.listed same bs ∙ W.held.ids; listed = listed-still W.held.listed same; kept = kept }
 
   -- the words are cleared after a refusal
-  pub ran : is_err x ≡ false → FileIs bs w v n x
-  ran h = record { is = ends; words = go x h }
+  pub ran : is_err r ≡ false → FileIs x bs w v n r
+  ran h = record { is = ends; words = go r h }
     where
-      go : (r : Result Ran Refusal) → is_err r ≡ false → Leaves bs w v r
+      go : (r : Result Ran Refusal) → is_err r ≡ false → Leaves x bs w v r
       go (Ok r) h = finished
       go (Err r) h = cc
 
-  pub stopped : {z : List ℕ} → is_err x ≡ true → Cleared v z → FileIs bs w z n x
-  stopped {z} h C = record { is = told x h ∙ ends; words = go x h }
+  pub stopped : {z : List ℕ} → is_err r ≡ true → Cleared v z → FileIs x bs w z n r
+  stopped {z} h C = record { is = told r h ∙ ends; words = go r h }
     where
       told : (r : Result Ran Refusal) → is_err r ≡ true → outcome r z ≡ outcome r v
       told (Ok r) h = cc
       told (Err r) h = refl
 
-      go : (r : Result Ran Refusal) → is_err r ≡ true → Leaves bs w z r
+      go : (r : Result Ran Refusal) → is_err r ≡ true → Leaves x bs w z r
       go (Ok r) h = cc
       go (Err r) h = record { size = C.size ∙ kept.size; here = C.here; rest = C.rest ∙ kept.rest }
 
--- rows 2 to 7
-pub not-read : {bs w w₁ : List ℕ} {a : Result Header Refusal} (n : ℕ) (m : Refusal) → 16384 ≤ length w → ReadIs bs w w₁ a → a ≡ Err m → FileIs bs w w₁ n (Err m)
-not-read {bs} {w} {w₁} {a} n m l R z = go (read bs) refl
+-- not read
+pub not-read : {bs w w₁ : List ℕ} {x : Read} {a : Result Header Refusal} (n : ℕ) (m : Refusal) → 16384 ≤ length w → ReadsAs x bs w w₁ a → a ≡ Err m → FileIs x bs w w₁ n (Err m)
+not-read {bs} {w} {w₁} {x} {a} n m l R z = go x refl
   where
     long : leb 16384 (length w) ≡ true
     long = le-leb 16384 (length w) l
 
-    told-so : read bs ≡ bad (number m)
+    told-so : x ≡ bad (number m)
     told-so =
-        let t : Told bs (elim (leb 16384 (length w)) [ false ↦ bad 1 | true ↦ read bs ]) (Err m) = subst (λ (r : Result Header Refusal). Told bs (elim (leb 16384 (length w)) [ false ↦ bad 1 | true ↦ read bs ]) r) z R.answer in
-        sym (ap (λ (p : Bool). elim p [ false ↦ bad 1 | true ↦ read bs ]) long) ∙ t
+        let t : Told bs (elim (leb 16384 (length w)) [ false ↦ bad 1 | true ↦ x ]) (Err m) = subst (λ (r : Result Header Refusal). Told bs (elim (leb 16384 (length w)) [ false ↦ bad 1 | true ↦ x ]) r) z R.answer in
+        sym (ap {B = Read} (λ (p : Bool). elim p [ false ↦ bad 1 | true ↦ x ]) long) ∙ t
 
-    after : (x : Read) → read bs ≡ x → After bs w w₁ x
-    after x q = subst (After bs w w₁) q (subst (WordsAre bs w w₁) long R.words)
+    after : (y : Read) → x ≡ y → After bs w w₁ y
+    after y q = subst (After bs w w₁) q (subst (WordsAre x bs w w₁) long R.words)
 
-    go : (x : Read) → read bs ≡ x → FileIs bs w w₁ n (Err m)
+    go : (y : Read) → x ≡ y → FileIs x bs w w₁ n (Err m)
     go (bad k) q = record { is = ap (read_runs n) (sym told-so); words = after (bad k) q }
     go (script s) q = let e = sym q ∙ told-so in cc

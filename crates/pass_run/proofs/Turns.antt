@@ -16,7 +16,6 @@ use Rattle.words_state.proofs.Fields.{ok-self, ok-then}
 use Rattle.std.specs.Prelude.{Result, Ok, Err}
 use Rattle.refusal.specs.declared.Refusal.{Refusal}
 use Rattle.scope.specs.Steps.{done_of, Did}
-use Rattle.pass_run.specs.declared.Ran.{Ran}
 use Rattle.pass_run.specs.Run.{RunsIs}
 
 -- the state after a field was set

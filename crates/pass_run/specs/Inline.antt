@@ -19,24 +19,25 @@ use Rattle.pass_run.specs.Run.{outcome}
 abbrev pub begin : Script → Flat St
 begin s = record { nodes = flagged_l (core_nodes s); rest = start_f (length s.nodes) (targets_l (core_nodes s)) }
 
--- rows 2 to 7, then the runs
+-- a refusal, or the runs
 abbrev pub read_runs : ℕ → Read → OutcomeF
 read_runs n (bad m) = refused_f m
 read_runs n (script s) = runs_f n 0 (begin s)
 
--- the words hold a result of the script that was read, and list its identifiers
-pub record Final (bs w u : List ℕ) : Type 0 where
+-- the words hold a result of the script that was read, under a table or without one, and list its identifiers; x is what was read
+pub record Final (x : Read) (bs w u : List ℕ) : Type 0 where
   pub script : Script
+  pub found : x ≡ Read.script script
   pub is : read bs ≡ Read.script script
   pub planted : Planted u
   pub ids : ids_of bs u ≡ idents script
   pub listed : Listed u (length script.nodes)
   pub kept : Kept w u
 
-abbrev pub Leaves : List ℕ → List ℕ → List ℕ → Result Ran Refusal → Type 0
-Leaves bs w u (Ok r) = Final bs w u
-Leaves bs w u (Err r) = Cleared w u
+abbrev pub Leaves : Read → List ℕ → List ℕ → List ℕ → Result Ran Refusal → Type 0
+Leaves x bs w u (Ok r) = Final x bs w u
+Leaves x bs w u (Err r) = Cleared w u
 
-pub record FileIs (bs w u : List ℕ) (n : ℕ) (r : Result Ran Refusal) : Type 0 where
-  pub is : outcome r u ≡ read_runs n (read bs)
-  pub words : Leaves bs w u r
+pub record FileIs (x : Read) (bs w u : List ℕ) (n : ℕ) (r : Result Ran Refusal) : Type 0 where
+  pub is : outcome r u ≡ read_runs n x
+  pub words : Leaves x bs w u r

@@ -3,7 +3,7 @@
 mod options;
 mod timed;
 
-use negbosun::{printed, Refusal, MOST_BYTES};
+use negbosun::{printed, KindTable, Refusal, MOST_BYTES, TABLE_BYTES};
 use options::{Options, Wish, USAGE};
 use std::ffi::OsStr;
 use std::fs::File;
@@ -24,16 +24,24 @@ impl Trouble {
         Trouble(NOT_READ, format!("{what}: {error}"))
     }
 
-    /// The condition, and what the file has there. How long a file is that was not read to its end, nobody knows.
-    fn refused(name: &str, refusal: Refusal, file: &[u8], runs: u32) -> Trouble {
+    /// The condition, and what the file has there, or the kind table. How long a file is that was not read to its end, nobody knows.
+    fn refused(
+        name: &str,
+        refusal: Refusal,
+        file: &[u8],
+        options: &Options,
+        table: Option<&KindTable>,
+    ) -> Trouble {
+        let known = match table {
+            Some(table) => refusal.found_under(file, table),
+            None => refusal.found(file),
+        };
         let found = match refusal {
             Refusal::Lengths if file.len() > MOST_BYTES => {
                 "; it has over 21,536 bytes, the most that a file can have".into()
             }
-            Refusal::RunsOrWords => format!("; --runs is {runs}"),
-            _ => refusal
-                .found(file)
-                .map_or(String::new(), |found| format!("; it has {found}")),
+            Refusal::RunsOrWords => format!("; --runs is {}", options.runs),
+            _ => known.map_or(String::new(), |found| format!("; it has {found}")),
         };
         let advice = match refusal {
             Refusal::Header => {
@@ -86,20 +94,41 @@ fn read(path: Option<&OsStr>) -> io::Result<Vec<u8>> {
     }
 }
 
-fn timed(options: &Options) -> Result<Timed, Trouble> {
-    Timed::new(options.limit).map_err(|error| Trouble::io("no thread", &error))
+/// A kind table: the 2,304 bytes, or the lines that the program `kind_table` prints.
+fn kinds(path: &OsStr) -> Result<KindTable, Trouble> {
+    let name = path.to_string_lossy();
+    let bytes = std::fs::read(path).map_err(|error| Trouble::io(&name, &error))?;
+    let is_text = bytes.iter().any(|byte| *byte > 1) || bytes.len() != TABLE_BYTES;
+    let table = if is_text {
+        String::from_utf8_lossy(&bytes).parse()
+    } else {
+        KindTable::from_bytes(&bytes)
+    };
+    table.map_err(|error| Trouble(NOT_READ, format!("{name}: no kind table: {error}")))
+}
+
+fn lent(options: &Options) -> Result<Option<KindTable>, Trouble> {
+    options.kinds.as_deref().map(kinds).transpose()
+}
+
+fn timed(options: &Options, table: Option<KindTable>) -> Result<Timed, Trouble> {
+    Timed::new(options.limit, table).map_err(|error| Trouble::io("no thread", &error))
 }
 
 fn single(options: &Options) -> Result<u8, Trouble> {
     let path = options.path.as_deref().filter(|path| *path != "-");
     let name = path.map_or("standard input".into(), OsStr::to_string_lossy);
+    let table = lent(options)?;
     let file = read(path).map_err(|error| Trouble::io(&name, &error))?;
-    let answer = timed(options)?.answer(file.clone(), options.runs);
+    let answer = timed(options, table.clone())?.answer(file.clone(), options.runs);
     let answer = answer.ok_or_else(|| Trouble::too_long(&name, options))?;
     print(&printed(&answer))?;
     match answer {
         Ok(_) => Ok(0),
-        Err(refusal) => Err(Trouble::refused(&name, refusal, &file, options.runs)),
+        Err(refusal) => {
+            let table = table.as_ref();
+            Err(Trouble::refused(&name, refusal, &file, options, table))
+        }
     }
 }
 
@@ -132,7 +161,7 @@ fn batch(options: &Options) -> Result<u8, Trouble> {
     let input = |error: io::Error| Trouble::io("standard input", &error);
     let output = |error: io::Error| Trouble::io("standard output", &error);
     let mut out = BufWriter::new(io::stdout().lock());
-    let timed = timed(options)?;
+    let timed = timed(options, lent(options)?)?;
     for (number, line) in (1..).zip(io::stdin().lock().lines()) {
         let text = match request(&line.map_err(input)?, options.runs) {
             Ok((file, runs)) => timed.answer(file, runs).map(|answer| printed(&answer)),

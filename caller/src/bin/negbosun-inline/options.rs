@@ -11,6 +11,7 @@ Runs the pass on a tree file, or on standard input, and prints its result: a hea
 binding. A refusal is printed as `refused N`, and said in plain words on standard error.
 
   --runs N              at most N runs, 1 to 16 (16)
+  --kinds FILE          a mill's own kind table, 48 lines of 48 digits or 2,304 bytes: what it forbids is refused
   --time-limit SECONDS  stop if the pass takes longer (30; 0: no limit)
   --batch               standard input has a line `HEX` or `HEX RUNS` for each file; each is answered at once, with a blank line behind
   -h, --help            this text
@@ -26,6 +27,8 @@ pub struct Options {
     /// None: as long as it takes.
     pub limit: Option<Duration>,
     pub batch: bool,
+    /// The file of a kind table.
+    pub kinds: Option<OsString>,
     pub path: Option<OsString>,
 }
 
@@ -42,11 +45,16 @@ struct Words<I> {
 }
 
 impl<I: Iterator<Item = OsString>> Words<I> {
-    fn number<N: std::str::FromStr>(&mut self, option: &str) -> Result<N, String> {
+    /// An option's value: what is joined to it, or the next word.
+    fn value(&mut self, option: &str, what: &str) -> Result<OsString, String> {
         let next = self.joined.take().map(OsString::from);
-        let text = next
-            .or_else(|| self.rest.next())
-            .ok_or(format!("{option} needs a number"))?
+        next.or_else(|| self.rest.next())
+            .ok_or(format!("{option} needs {what}"))
+    }
+
+    fn number<N: std::str::FromStr>(&mut self, option: &str) -> Result<N, String> {
+        let text = self
+            .value(option, "a number")?
             .to_string_lossy()
             .into_owned();
         text.parse()
@@ -72,6 +80,7 @@ impl Default for Options {
             runs: MOST_RUNS,
             limit: Some(Duration::from_secs(SECONDS)),
             batch: false,
+            kinds: None,
             path: None,
         }
     }
@@ -102,6 +111,7 @@ fn take<I: Iterator<Item = OsString>>(
         "--runs" => options.runs = words.number(name)?,
         "--time-limit" => options.limit_to(words.number(name)?),
         "--batch" => options.batch = true,
+        "--kinds" => options.kinds = Some(words.value(name, "a file")?),
         _ => return Err(format!("{name}: unknown option")),
     }
     match words.joined.take() {

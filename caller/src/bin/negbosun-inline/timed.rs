@@ -1,6 +1,6 @@
 //! The pass in a thread of its own, so that whoever waits for an answer can stop waiting.
 
-use negbosun::{Inlined, Inliner, Refusal};
+use negbosun::{Inlined, Inliner, KindTable, Refusal};
 use std::io;
 use std::sync::mpsc::{channel, Receiver, Sender};
 use std::thread;
@@ -16,13 +16,18 @@ pub struct Timed {
 }
 
 impl Timed {
-    pub fn new(limit: Option<Duration>) -> io::Result<Timed> {
+    /// Under that kind table, if one is lent.
+    pub fn new(limit: Option<Duration>, table: Option<KindTable>) -> io::Result<Timed> {
         let (files, given) = channel::<(Vec<u8>, u32)>();
         let (answer, answers) = channel();
         thread::Builder::new().spawn(move || {
             let mut inliner = Inliner::new();
             for (file, runs) in given {
-                if answer.send(inliner.inline(&file, runs)).is_err() {
+                let made = match &table {
+                    Some(table) => inliner.inline_under(&file, table, runs),
+                    None => inliner.inline(&file, runs),
+                };
+                if answer.send(made).is_err() {
                     return;
                 }
             }

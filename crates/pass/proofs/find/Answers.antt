@@ -1,22 +1,6 @@
--- The whole pass, and the root binding of a number. Assumes nothing.
-use Rattle.std.proofs.lemmas.Result.{err_from_is_err_and}
-use Rattle.pass.proofs.Entries.{ran-enough, ran-file, final}
-use Rattle.pass.proofs.Listings.{known, no-nth, nth-row}
+-- The pass with the root binding of a number under the constant table is that without one. Assumes nothing.
+use Rattle.pass.proofs.Own.{own-find}
 use Rattle.pass.proofs.find.Goals as goal
 
-pub root_at-root-requires : goal.root_at-root-requires
-root_at-root-requires c = let f = final (ran-file c.run.ensures.refused c.run.ensures.ran c.in_ok-run.was) c.in_ok-run.was in (f.planted.good, known f)
-
-pub clear-requires : goal.clear-requires
-clear-requires c = (final (ran-file c.run.ensures.refused c.run.ensures.ran c.in_ok-run.was) c.in_ok-run.was).listed.long
-
 pub returns : goal.returns
-returns c =
-    let f = ran-file c.run.ensures.refused c.run.ensures.ran c.in_ok-run.was in
-    let e = ran-enough c.run.ensures.refused c.run.ensures.ran c.in_ok-run.was in
-    nth-row f c.in_ok-run.was c.args.n c.root_at-root.ensures c.clear.ensures e
-
-pub returns-in_err-run : goal.returns-in_err-run
-returns-in_err-run c =
-    let p = err_from_is_err_and c.from_residual.result c.from_residual.ensures.1 in
-    rw (p.1, p.2) (no-nth c.run.ensures.refused c.run.ensures.ran c.args.n _ c.in_err-run.was)
+returns c = own-find c.find_under.ensures

@@ -1,25 +1,6 @@
--- The whole pass, with its result written. Assumes nothing.
-use Rattle.std.proofs.lemmas.Result.{err_from_is_err_and}
-use Rattle.pass.proofs.Entries.{ran-enough, ran-file, refused-row, final, wrote-row, short-row}
+-- The whole pass under the constant table is that without one. Assumes nothing.
+use Rattle.pass.proofs.Own.{own-inline}
 use Rattle.pass.proofs.inline.Goals as goal
 
-pub clear-requires : goal.clear-requires
-clear-requires c = let f = ran-file c.run.ensures.refused c.run.ensures.ran c.in_ok-ran.was in (final f c.in_ok-ran.was).listed.long
-
 pub returns : goal.returns
-returns c =
-    let f = ran-file c.run.ensures.refused c.run.ensures.ran c.in_ok-ran.was in
-    let e = ran-enough c.run.ensures.refused c.run.ensures.ran c.in_ok-ran.was in
-    wrote-row f c.in_ok-ran.was (λ i. (c.type_inv.file i).fits) c.write-written.ensures c.clear.ensures e _ c.in_ok-written.was
-
-pub returns-in_err-written : goal.returns-in_err-written
-returns-in_err-written c =
-    let f = ran-file c.run.ensures.refused c.run.ensures.ran c.in_ok-ran.was in
-    let e = ran-enough c.run.ensures.refused c.run.ensures.ran c.in_ok-ran.was in
-    let p = err_from_is_err_and c.from_residual-in_err-written.result c.from_residual-in_err-written.ensures.1 in
-    rw (p.1, p.2) (short-row f c.in_ok-ran.was (λ i. (c.type_inv.file i).fits) c.write-written.ensures c.clear.ensures e _ c.in_err-written.was)
-
-pub returns-in_err-ran : goal.returns-in_err-ran
-returns-in_err-ran c =
-    let p = err_from_is_err_and c.from_residual.result c.from_residual.ensures.1 in
-    rw (p.1, p.2) (refused-row c.run.ensures.refused c.run.ensures.ran _ c.in_err-ran.was)
+returns c = own-inline c.inline_under.ensures

@@ -6,25 +6,28 @@ use Rattle.file_read.proofs.read.check.Goals as goal
 use Rattle.file_read.proofs.read.check.Goals.{then-not-rising-via-then-not-rising, then-not-rising-via-else-not-rising+then-not-distinct}
 
 pub returns-in_err-h : goal.returns-in_err-h
-returns-in_err-h c = let e = err_from_is_err_and c.from_residual.result c.from_residual.ensures.1 in rw (e.1, e.2) (read-not c.in_err-h.ensures)
+returns-in_err-h c = let e = err_from_is_err_and c.from_residual.result c.from_residual.ensures.1 in rw (e.1, e.2) (read-not c.args.table.now c.in_err-h.ensures)
 
 pub returns-then-not-rising : goal.returns-then-not-rising
 returns-then-not-rising c =
+    let T = c.args.table.now in
     let H = c.in_ok-h.ensures in
     let at = c.places-at.ensures in
     elim c.then-not-rising.branch [
-      | then-not-rising-via-then-not-rising w ↦ falls H (rises-as H at c.rising.ensures w.if-not-rising.true)
-      | then-not-rising-via-else-not-rising+then-not-distinct w ↦ twice H (rises-as H at c.rising.ensures w.if-not-rising.false) (distinct-as H at w.distinct.ensures w.if-not-distinct.true)
+      | then-not-rising-via-then-not-rising w ↦ falls T H (rises-as T H at c.rising.ensures w.if-not-rising.true)
+      | then-not-rising-via-else-not-rising+then-not-distinct w ↦ twice T H (rises-as T H at c.rising.ensures w.if-not-rising.false) (distinct-as T H at w.distinct.ensures w.if-not-distinct.true)
     ]
 
-pub returns-then-not-nodes_ok : goal.returns-then-not-nodes_ok
-returns-then-not-nodes_ok c =
+pub returns-then-not-nodes_ok_under : goal.returns-then-not-nodes_ok_under
+returns-then-not-nodes_ok_under c =
+    let T = c.args.table.now in
     let H = c.in_ok-h.ensures in
     let at = c.places-at.ensures in
-    not-nodes H (rises-as H at c.rising.ensures c.if-not-rising.false) (distinct-as H at c.distinct.ensures c.if-not-distinct.false) (sym c.nodes_ok.ensures ∙ c.if-not-nodes_ok.true)
+    not-nodes T H (rises-as T H at c.rising.ensures c.if-not-rising.false) (distinct-as T H at c.distinct.ensures c.if-not-distinct.false) (sym c.nodes_ok_under.ensures ∙ c.if-not-nodes_ok_under.true)
 
 pub returns : goal.returns
 returns c =
+    let T = c.args.table.now in
     let H = c.in_ok-h.ensures in
     let at = c.places-at.ensures in
-    passed H (rises-as H at c.rising.ensures c.if-not-rising.false) (distinct-as H at c.distinct.ensures c.if-not-distinct.false) (sym c.nodes_ok.ensures ∙ c.if-not-nodes_ok.false)
+    passed T H (rises-as T H at c.rising.ensures c.if-not-rising.false) (distinct-as T H at c.distinct.ensures c.if-not-distinct.false) (sym c.nodes_ok_under.ensures ∙ c.if-not-nodes_ok_under.false)

@@ -1,0 +1,4 @@
+pub mod Reading
+pub mod Entry
+pub mod Laws
+pub mod Examples
