@@ -51,8 +51,8 @@ extern "C" {
 /* A kind table has so many bytes, one for each parent kind and child kind from 1 to 48. */
 #define NEGBOSUN_TABLE_BYTES 2304
 
-/* The refusals, in checking order, but that 14 and 15 are checked behind 1 and before 2. Later versions may have further ones, with greater numbers: treat
-   every `refused` but 0 as a refusal. */
+/* The refusals, by their numbers. A function checks those that it has in this order, but 14 and 15 behind 1 and before 2. Later versions may have further
+   ones, with greater numbers: treat every `refused` but 0 as a refusal. */
 enum negbosun_refusal {
     /* runs outside 1 to 16, or under 16,384 words */
     NEGBOSUN_REFUSED_RUNS_OR_WORDS = 1,
@@ -78,7 +78,9 @@ enum negbosun_refusal {
     /* the lent kind table is not NEGBOSUN_TABLE_BYTES long, or a byte of it is above 1 */
     NEGBOSUN_REFUSED_TABLE = 14,
     /* the lent kind table allows a node under a parent under which the kinds forbid it */
-    NEGBOSUN_REFUSED_PAIRS = 15
+    NEGBOSUN_REFUSED_PAIRS = 15,
+    /* the buffer for the canonical file is too short */
+    NEGBOSUN_REFUSED_CANON_ROOM = 16
 };
 
 /* The answer of negbosun_inline. */
@@ -115,6 +117,14 @@ struct negbosun_binding {
     uint32_t prevented;
     /* how many identifiers were replaced by its value, in all runs, modulo 4,294,967,296 */
     uint32_t count;
+};
+
+/* The answer of negbosun_canon. */
+struct negbosun_written {
+    /* a refusal's number, or 0 */
+    uint32_t refused;
+    /* the canonical file's length in bytes, at most the buffer's */
+    size_t length;
 };
 
 /* Runs the pass on a tree file, at most `runs` times, and writes the result's tree file from the beginning of `result`.
@@ -170,6 +180,26 @@ struct negbosun_listed negbosun_roots_under(const uint8_t *file, size_t file_len
 
 struct negbosun_binding negbosun_root_under(const uint8_t *file, size_t file_length, const uint8_t *table, size_t table_length, uint32_t *words,
                                             size_t word_count, uint32_t runs, uint32_t n);
+
+/* Writes the canonical file of a tree file's script, the one file of that script, from the beginning of `result`: its texts stand in the order of their
+   first use by nodes, none that no node uses, and its contexts are numbered from 0 in the order of their first use by names; all else is as it was. The
+   bits of a number are no context.
+
+   file, file_length      the tree file, in bytes
+   result, result_length  room for the canonical file, in bytes; file_length bytes always suffice, and so do NEGBOSUN_MOST_BYTES
+   words, word_count      as above
+
+   Refusals 1 to 7, of which 1 asks for the words alone here, then 16. What is kept and what is 0 afterwards is as with negbosun_inline. No kind table is
+   lent: a canonical file has the kinds of the given one at the same places.
+
+   Of this function it is proved, too:
+
+   - Two files have canonical files of equal bytes exactly when they differ only in text numbering, in unused texts, and by a one-to-one change of contexts.
+   - A canonical file is a readable file, no longer than the given one, and its own canonical file.
+   - The pass on it gives the same refusal, or the same runs and mark and a result whose canonical file has the same bytes, with the same run limit,
+     unless one of the two is refused by 10. */
+struct negbosun_written negbosun_canon(const uint8_t *file, size_t file_length, uint8_t *result, size_t result_length, uint32_t *words,
+                                       size_t word_count);
 
 #ifdef __cplusplus
 }

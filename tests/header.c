@@ -72,6 +72,8 @@ static void layout(void) {
     check(offsetof(struct negbosun_binding, context) == 8, "its context is at 8");
     check(offsetof(struct negbosun_binding, prevented) == 20, "its mark is at 20");
     check(offsetof(struct negbosun_binding, count) == 24, "its count is at 24");
+    check(sizeof(struct negbosun_written) == 16, "the answer of the writer has 16");
+    check(offsetof(struct negbosun_written, length) == 8, "its length is at 8");
 }
 
 static void results(void) {
@@ -122,6 +124,32 @@ static void numbers(void) {
     check(is_none(root_of(file_length, NEGBOSUN_WORDS - 1, 1, 0), NEGBOSUN_REFUSED_RUNS_OR_WORDS), "a word less is 1");
     check(all_are(words, sizeof words, BYTE), "1 keeps the words");
     check(is_none(root_of(file_length - 1, NEGBOSUN_WORDS, 1, 0), NEGBOSUN_REFUSED_LENGTHS), "a byte less is 4");
+}
+
+static struct negbosun_written canon_file(const uint8_t *given, size_t length, size_t room, size_t count) {
+    fill();
+    return negbosun_canon(given, length, result, room, words, count);
+}
+
+static int writes_refusal(struct negbosun_written answer, uint32_t number) {
+    return answer.refused == number && answer.length == 0 && all_are(result, sizeof result, BYTE);
+}
+
+static void canonical(void) {
+    static uint8_t one[NEGBOSUN_MOST_BYTES];
+    struct negbosun_written done = canon_file(file, file_length, file_length, NEGBOSUN_WORDS + BEHIND), again;
+    check(done.refused == 0 && done.length >= 48 && done.length <= file_length, "the file has a canonical file, which is no longer");
+    check(all_are(result + done.length, sizeof result - done.length, BYTE), "the bytes behind it are kept");
+    check(words_cleared(), "it leaves cleared words");
+    memcpy(one, result, done.length);
+    again = canon_file(one, done.length, sizeof result, NEGBOSUN_WORDS);
+    check(again.refused == 0 && again.length == done.length && memcmp(one, result, done.length) == 0, "it is its own");
+    check(writes_refusal(canon_file(file, file_length, done.length - 1, NEGBOSUN_WORDS + BEHIND), NEGBOSUN_REFUSED_CANON_ROOM), "one byte below is 16");
+    check(words_cleared(), "16 leaves cleared words");
+    check(writes_refusal(canon_file(file, file_length, sizeof result, NEGBOSUN_WORDS - 1), NEGBOSUN_REFUSED_RUNS_OR_WORDS), "a word less is 1");
+    check(all_are(words, sizeof words, BYTE), "1 keeps the words");
+    check(writes_refusal(canon_file(file, file_length - 1, 0, NEGBOSUN_WORDS), NEGBOSUN_REFUSED_LENGTHS), "a byte less is 4, before 16");
+    check(writes_refusal(canon_file(file, 0, 0, NEGBOSUN_WORDS), NEGBOSUN_REFUSED_HEADER), "no bytes are 2, before 16");
 }
 
 static void refusals(void) {
@@ -177,6 +205,7 @@ int main(int count, char **given) {
     results();
     lists();
     numbers();
+    canonical();
     refusals();
     tables();
     printf("%d passed, %d failed\n", passed, failed);

@@ -133,6 +133,12 @@ limited_there() {
     from_there negbosun-script --accept --runs 1 "$root/usr/share/doc/negbosun/examples/tide.js" >"$out/tide.js" && [ -s "$out/tide.js" ]
 }
 
+# The sample's canonical file is of one script with the sample.
+canon_there() {
+    local sample=$root/usr/share/doc/negbosun/examples/tide.tree
+    from_there negbosun-inline canon "$sample" >"$out/one.tree" && from_there negbosun-inline same "$out/one.tree" "$sample"
+}
+
 # Only the database of packages is left.
 nothing_left() {
     [ -z "$(find "$root" -path "$root/var/lib/dpkg" -prune -o -type f -print -o -type l -print -o -path "$root/usr" -print | tee /dev/stderr)" ]
@@ -167,6 +173,7 @@ one "installed" dpkg_there --install "$deb" || finish
 one "verified" dpkg_there --verify negbosun
 one "program" same_output crates/negbosun/stdout negbosun
 one "tool's output" same_output crates/negbosun/stdout negbosun-inline
+one "canonical file" canon_there
 one "version" grep -qx "negbosun-inline $version" <(from_there negbosun-inline --version)
 if command -v pkg-config >/dev/null 2>&1; then
     one "pkg-config's version" [ "$(pkg_config --modversion)" = "$version" ]

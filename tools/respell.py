@@ -24,10 +24,10 @@ DATA = re.compile(r"(?m)^(?:abbrev )?(?:pub )?data .*?where\n((?:  .*\n)+)")
 LEMMAS = {
     "file_copy/proofs/Again.antt": ["node_at"],
     "file_preorder/proofs/+children_declarator_node/Proof.antt": ["node_at"],
+    "laws_pass/proofs/ReadsAgain.antt": ["one_more"],
     "laws_pass/proofs/TreeLaws.antt": ["in_scope", "put_const"],
     "laws_roundtrip/proofs/Header.antt": ["head_bytes"],
     "laws_roundtrip/proofs/Round.antt": ["head_bytes"],
-    "pass_answers/proofs/Again.antt": ["one_more"],
     "pass_run/proofs/Turns.antt": ["told_of"],
     "scope_define/proofs/Declares.antt": ["no_value"],
     "scope_find/proofs/Facts.antt": ["in_scope"],

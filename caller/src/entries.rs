@@ -1,4 +1,4 @@
-//! The C functions of crates/pass, declared here and nowhere else. A slice is passed as its first element and its length.
+//! The C functions of `crates/pass_c`, declared here and nowhere else. A slice is passed as its first element and its length.
 
 /// A refusal's number; or 0, the result's length, the runs done, and 1 if the last one left the mark.
 #[repr(C)]
@@ -25,6 +25,13 @@ pub(crate) struct Binding {
     pub text: u32,
     pub prevented: u32,
     pub count: u32,
+}
+
+/// A refusal's number; or 0, and how many bytes were written.
+#[repr(C)]
+pub(crate) struct Written {
+    pub refused: u32,
+    pub length: usize,
 }
 
 extern "C" {
@@ -91,4 +98,13 @@ extern "C" {
         runs: u32,
         n: u32,
     ) -> Binding;
+
+    pub(crate) fn negbosun_canon(
+        file: *const u8,
+        file_length: usize,
+        result: *mut u8,
+        result_length: usize,
+        words: *mut u32,
+        word_count: usize,
+    ) -> Written;
 }

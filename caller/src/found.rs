@@ -132,7 +132,7 @@ fn size_as_read(tree: TreeFile) -> String {
 
 impl Refusal {
     /// What the file that was so refused has where the limit is: "1,240 nodes, at most 1,024". Rows 8 and 9 are met while running; what the script has before
-    /// its first run is told of them. Rows 1 and 10 are no matter of the file.
+    /// its first run is told of them. Rows 1, 10 and 16 are no matter of the file, and 14 and 15 are one of the kind table.
     #[must_use]
     pub fn found(self, file: &[u8]) -> Option<String> {
         let tree = || TreeFile::new(file).ok();
@@ -149,6 +149,7 @@ impl Refusal {
             | Refusal::Room
             | Refusal::Table
             | Refusal::Pairs
+            | Refusal::CanonRoom
             | Refusal::Unlisted(_) => None,
         }
     }

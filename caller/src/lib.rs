@@ -1,12 +1,13 @@
 //! The variable inliner for gate scripts, called from Rust.
 //!
-//! The pass itself is written and proved in Rattle (crates/pass) and comes as a static library with six C functions. This crate
+//! The pass itself is written and proved in Rattle (crates/pass) and comes as a static library with seven C functions. This crate
 //! declares them once and puts safe functions over them. A script goes in and comes out as a *tree file*; docs/TREE.md has its format.
 //!
-//! [`inline`] is all that most callers need; [`Inliner`] keeps its memory between files; [`inline_into`], [`roots_into`] and [`root_of`]
-//! are C functions over the caller's own buffers; each has a twin, `.._under`, which takes a mill's own [`KindTable`]; [`TreeFile`] shows
-//! a tree file's nodes and texts, [`Kind`] what each node is. Scripts may take values apart by patterns: `{today, before}` as a parameter
-//! stands in a file as [`Kind::ObjectPattern`], written out as `{today: today, before: before}`.
+//! [`inline`] is all that most callers need; [`canon`] writes the one file of a script, by which an archive tells scripts apart;
+//! [`Inliner`] keeps its memory between files; [`inline_into`], [`roots_into`], [`root_of`] and [`canon_into`] are C functions over the
+//! caller's own buffers; each of the first three has a twin, `.._under`, which takes a mill's own [`KindTable`]; [`TreeFile`] shows a tree
+//! file's nodes and texts, [`Kind`] what each node is. Scripts may take values apart by patterns: `{today, before}` as a parameter stands
+//! in a file as [`Kind::ObjectPattern`], written out as `{today: today, before: before}`.
 //!
 //! ```
 //! use negbosun::{inline, Kind, Node, Refusal, MOST_RUNS};
@@ -131,7 +132,7 @@ impl entries::Binding {
 ///
 /// # Errors
 ///
-/// Any of [`Refusal::ALL`], the first that applies, but those of a kind table. A refusal leaves `result` as it was.
+/// Refusals 1 to 10, the first that applies. A refusal leaves `result` as it was.
 pub fn inline_into(
     file: &[u8],
     result: &mut [u8],
@@ -299,6 +300,36 @@ pub fn root_of_under(
     answer.found()
 }
 
+/// Writes the one file of a tree file's script into `result`, and answers its length: its texts stand in the order of their first use by
+/// nodes, none that no node uses, and its contexts are numbered from 0 in the order of their first use; all else is as it was.
+///
+/// Two files have equal canonical files exactly when they differ only in text numbering, in unused texts, and by a one-to-one change of
+/// contexts. A canonical file is a readable file, no longer than the given one, and its own canonical file. The pass on it gives the same
+/// refusal, or the same runs and mark and a result of the same canonical file, unless one of both is [`Refusal::Room`].
+///
+/// The words are as with [`inline_into`]; [`Refusal::RunsOrWords`] asks here for the words alone.
+///
+/// # Errors
+///
+/// Refusals 1 to 7, the first that applies, then [`Refusal::CanonRoom`]. A refusal leaves `result` as it was.
+pub fn canon_into(file: &[u8], result: &mut [u8], words: &mut [u32]) -> Result<usize, Refusal> {
+    // SAFETY: as in `inline_into`.
+    let answer = unsafe {
+        entries::negbosun_canon(
+            file.as_ptr(),
+            file.len(),
+            result.as_mut_ptr(),
+            result.len(),
+            words.as_mut_ptr(),
+            words.len(),
+        )
+    };
+    match Refusal::from_number(answer.refused) {
+        Some(refusal) => Err(refusal),
+        None => Ok(answer.length),
+    }
+}
+
 /// The pass with memory of its own, for many files one after another.
 #[derive(Clone, Debug)]
 pub struct Inliner {
@@ -334,7 +365,7 @@ impl Inliner {
     ///
     /// # Errors
     ///
-    /// Any of [`Refusal::ALL`] but [`Refusal::Room`] and those of a kind table.
+    /// Refusals 1 to 9.
     pub fn inline(&mut self, file: &[u8], runs: u32) -> Result<Inlined, Refusal> {
         let done = inline_into(file, &mut self.result, &mut self.words, runs)?;
         let count = roots_into(file, &mut self.roots, &mut self.words, runs)?;
@@ -365,6 +396,16 @@ impl Inliner {
             roots: written(&self.roots, count),
         }
     }
+
+    /// The one file of the file's script, as [`canon_into`] writes it.
+    ///
+    /// # Errors
+    ///
+    /// Refusals 2 to 7.
+    pub fn canon(&mut self, file: &[u8]) -> Result<Vec<u8>, Refusal> {
+        let length = canon_into(file, &mut self.result, &mut self.words)?;
+        Ok(written(&self.result, length))
+    }
 }
 
 /// [`Inliner::inline`] for a single file.
@@ -383,4 +424,29 @@ pub fn inline(file: &[u8], runs: u32) -> Result<Inlined, Refusal> {
 /// As there.
 pub fn inline_under(file: &[u8], table: &KindTable, runs: u32) -> Result<Inlined, Refusal> {
     Inliner::new().inline_under(file, table, runs)
+}
+
+/// [`Inliner::canon`] for a single file.
+///
+/// ```
+/// use negbosun::{canon, Refusal};
+///
+/// // The empty script with a text that no node uses, `a`: a header of eight fields, a node of kind 1, the end of the text and its byte.
+/// let header: [u32; 8] = [1, 53, 1, 32, 1, 48, 52, 1];
+/// let mut file: Vec<u8> = header.iter().flat_map(|field| field.to_le_bytes()).collect();
+/// file.extend([1, 0, 0, 0, 0, 0, 0, 0, 0, 0, 0, 0, 0, 0, 0, 0]);
+/// file.extend([1, 0, 0, 0, b'a']);
+///
+/// let one = canon(&file)?;
+/// assert_eq!(one.len(), 48);
+/// assert_eq!(canon(&one)?, one);
+/// assert_eq!(canon(b"no tree file"), Err(Refusal::Header));
+/// # Ok::<(), Refusal>(())
+/// ```
+///
+/// # Errors
+///
+/// As there.
+pub fn canon(file: &[u8]) -> Result<Vec<u8>, Refusal> {
+    Inliner::new().canon(file)
 }

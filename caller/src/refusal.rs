@@ -1,4 +1,4 @@
-//! The refusals, in checking order.
+//! The refusals, by their numbers.
 
 use std::error::Error;
 use std::fmt;
@@ -34,16 +34,16 @@ pub enum Refusal {
     Table,
     /// 15: The lent kind table allows a pair that the kinds forbid.
     Pairs,
+    /// 16: The buffer is shorter than the canonical file.
+    CanonRoom,
     /// A number that this version of the crate has no name for. The library that it was made for answers none.
     Unlisted(u32),
 }
 
 impl Refusal {
-    /// The twelve that have a name, in checking order.
-    pub const ALL: [Refusal; 12] = [
+    /// The thirteen that have a name, by their numbers; those of one function are checked in this order, but 14 and 15 behind 1.
+    pub const ALL: [Refusal; 13] = [
         Refusal::RunsOrWords,
-        Refusal::Table,
-        Refusal::Pairs,
         Refusal::Header,
         Refusal::Counts,
         Refusal::Lengths,
@@ -53,6 +53,9 @@ impl Refusal {
         Refusal::Depth,
         Refusal::Size,
         Refusal::Room,
+        Refusal::Table,
+        Refusal::Pairs,
+        Refusal::CanonRoom,
     ];
 
     /// The number that the library answers.
@@ -71,6 +74,7 @@ impl Refusal {
             Refusal::Room => 10,
             Refusal::Table => 14,
             Refusal::Pairs => 15,
+            Refusal::CanonRoom => 16,
             Refusal::Unlisted(number) => number,
         }
     }
@@ -110,6 +114,7 @@ impl Refusal {
             Refusal::Room => "the buffer for the result is shorter than the result",
             Refusal::Table => "the kind table is not 2,304 bytes, each of them 0 or 1",
             Refusal::Pairs => "the kind table allows a node under a parent that the kinds forbid",
+            Refusal::CanonRoom => "the buffer for the canonical file is shorter than that file",
             Refusal::Unlisted(_) => "the library is a later one and has a refusal that this version has no words for",
         }
     }
@@ -128,9 +133,9 @@ mod tests {
     use super::Refusal;
 
     #[test]
-    fn numbers_are_in_checking_order() {
+    fn numbers_are_in_order() {
         let numbers = Refusal::ALL.map(Refusal::number);
-        assert_eq!(numbers, [1, 14, 15, 2, 3, 4, 5, 6, 7, 8, 9, 10]);
+        assert_eq!(numbers, [1, 2, 3, 4, 5, 6, 7, 8, 9, 10, 14, 15, 16]);
         for refusal in Refusal::ALL {
             assert_eq!(Refusal::from_number(refusal.number()), Some(refusal));
         }
@@ -152,7 +157,8 @@ mod tests {
         said.push(Refusal::Unlisted(11).words());
         said.sort_unstable();
         said.dedup();
-        assert_eq!(said.len(), 13);
+        assert_eq!(said.len(), 14);
         assert!(Refusal::Room.to_string().starts_with("refusal 10: "));
+        assert!(Refusal::CanonRoom.to_string().starts_with("refusal 16: "));
     }
 }

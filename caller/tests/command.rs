@@ -237,3 +237,97 @@ fn a_kind_table_is_lent_by_its_file() {
     assert_eq!(batch.status.code(), Some(0));
     std::fs::remove_dir_all(&folder).expect("its end");
 }
+
+fn path(name: &str, bytes: &[u8]) -> String {
+    let folder = std::path::Path::new(env!("CARGO_TARGET_TMPDIR"));
+    let path = folder.join(format!("{name}.{}.tree", std::process::id()));
+    std::fs::write(&path, bytes).expect("a file");
+    path.to_str().expect("a name").to_owned()
+}
+
+/// `x; y;` by text numbers and contexts.
+fn names(texts: &[&str], [t, u]: [u32; 2], [b, c]: [u64; 2]) -> Vec<u8> {
+    let nodes = [
+        (1, 0, 2, 0, 0),
+        (4, 0, 1, 0, 0),
+        (21, 0, 0, t, b),
+        (4, 0, 1, 0, 0),
+        (21, 0, 0, u, c),
+    ];
+    files::tree_file(&nodes, texts)
+}
+
+#[test]
+fn the_one_file_of_a_script_is_written() {
+    let file = names(&["a", "y", "x"], [2, 1], [5, 7]);
+    let one = names(&["x", "y"], [0, 1], [0, 1]);
+    for output in [
+        run(&["canon", &path("canon", &file)], b""),
+        run(&["canon"], &file),
+        run(&["canon", "-"], &one),
+    ] {
+        assert_eq!((output.status.code(), &output.stdout), (Some(0), &one));
+        assert!(output.stderr.is_empty());
+    }
+    let output = run(&["canon"], b"var a = 1;");
+    assert_eq!((output.status.code(), text(&output.stdout)), (Some(1), ""));
+    assert!(text(&output.stderr).contains("standard input: refusal 2:"));
+}
+
+#[test]
+fn two_files_of_one_script_and_of_two_are_told_apart() {
+    let one = path("one", &names(&["a", "y", "x"], [2, 1], [5, 7]));
+    let again = path("again", &names(&["x", "y"], [0, 1], [7, 5]));
+    let merged = path("merged", &names(&["x", "y"], [0, 1], [7, 7]));
+    let output = run(&["same", &one, &again], b"");
+    assert_eq!(
+        (output.status.code(), text(&output.stdout)),
+        (Some(0), format!("{one} and {again}: one script\n").as_str())
+    );
+    let output = run(
+        &["same", &one, "-"],
+        &names(&["y", "x"], [1, 0], [0, u64::MAX]),
+    );
+    assert_eq!(
+        (output.status.code(), text(&output.stdout)),
+        (
+            Some(0),
+            format!("{one} and standard input: one script\n").as_str()
+        )
+    );
+    let output = run(&["same", &one, &merged], b"");
+    let words = format!("{one} and {merged}: two scripts, which differ from node 5 on\n");
+    assert_eq!(
+        (output.status.code(), text(&output.stdout)),
+        (Some(1), words.as_str())
+    );
+    let output = run(&["same", &one, "no/such/file"], b"");
+    assert_eq!((output.status.code(), text(&output.stdout)), (Some(3), ""));
+    assert!(text(&output.stderr).contains("no/such/file"));
+    let broken = path("broken", b"no tree file");
+    let output = run(&["same", &broken, &one], b"");
+    assert_eq!((output.status.code(), text(&output.stdout)), (Some(3), ""));
+    assert!(text(&output.stderr).contains("refusal 2:"));
+}
+
+#[test]
+fn subcommands_ask_for_their_files() {
+    for arguments in [
+        &["canon", "a", "b"][..],
+        &["canon", "--runs", "1"],
+        &["same"],
+        &["same", "a"],
+        &["same", "a", "b", "c"],
+        &["same", "-", "-"],
+        &["same", "--batch", "a", "b"],
+    ] {
+        let output = run(arguments, b"");
+        assert_eq!(output.status.code(), Some(2), "{arguments:?}");
+        assert!(text(&output.stderr).contains("usage:"));
+    }
+    for arguments in [&["canon", "--help"][..], &["same", "a", "-h"]] {
+        let output = run(arguments, b"");
+        assert_eq!(output.status.code(), Some(0), "{arguments:?}");
+        assert!(text(&output.stdout).contains("negbosun-inline same FILE FILE"));
+    }
+}

@@ -4,9 +4,9 @@
 const { checkKinds, runPort } = require('./port');
 const { refusalTrouble, tableTrouble } = require('./refusals');
 const { treeOfText, withinDepth } = require('./to_tree');
-const { writeTreeFile, textsOf } = require('./tree_file');
+const { writeTreeFile, meaningOf } = require('./tree_file');
 
-const answerTo = (root, options) => runPort(writeTreeFile(root), [...textsOf(root).keys()], options);
+const answerTo = (root, options) => runPort(writeTreeFile(root), meaningOf(root), options);
 
 // The script's tree and the port's answer, or a trouble with its place.
 function build(text, options) {

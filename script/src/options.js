@@ -29,7 +29,7 @@ What is written:
   --compare         script and result line by line, with each replaced name and each emptied declaration
   --check           go through many files: a line for each, a summary, an exit status
   --out FILE        write there instead of to standard output (-), whole or not at all
-${many.WRITTEN}  --tree            the script's tree file alone
+${many.WRITTEN}  --tree            the script's one tree file alone
   --lines           the lines of the program that does the pass
 
 When it is written:

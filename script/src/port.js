@@ -56,15 +56,15 @@ function checkKinds(root, kinds) {
   if (kinds !== undefined && kinds.firstForbidden(root)) throw new PortTrouble(`the program that does the pass takes no kind table; ${TOOL}`);
 }
 
-// The answer to a tree file: a refusal's number, or lines, runs, mark, the result's tree and the variables of the script's top.
-function runPort(bytes, texts, options) {
+// The answer to a tree file, whose numbers have that meaning: a refusal's number, or lines, runs, mark, the result's tree and the variables of the script's top.
+function runPort(bytes, meaning, options) {
   const lines = portOutput(bytes, options);
   const refusal = /^refused (\d+)$/m.exec(lines);
   if (refusal) return { refused: Number(refusal[1]), lines };
   const [head, ...rest] = lines.trimEnd().split('\n');
   const [, done, changed, count] = /^ok runs (\d+) changed ([01]) nodes (\d+)$/.exec(head).map(Number);
   checkLimit(done, options.runs);
-  return { refused: 0, lines, runs: done, changed, tree: treeOfLines(rest.slice(0, count), texts), roots: rootsOfLines(rest.slice(count), texts) };
+  return { refused: 0, lines, runs: done, changed, tree: treeOfLines(rest.slice(0, count), meaning), roots: rootsOfLines(rest.slice(count), meaning) };
 }
 
 module.exports = { checkKinds, runPort, takesLimit, MOST_RUNS, SECONDS };

@@ -4,7 +4,7 @@
 const { spawnSync } = require('child_process');
 const { build } = require('../src/build');
 const { treeOfText } = require('../src/to_tree');
-const { textsOf, treeOfLines, writeTreeFile } = require('../src/tree_file');
+const { meaningOf, treeOfLines, writeTreeFile } = require('../src/tree_file');
 const { ScriptTrouble } = require('../src/trouble');
 
 const orNull = (act) => {
@@ -24,7 +24,7 @@ function one(text) {
 function answered(text, root, answer) {
   const [head, ...lines] = answer.split('\n');
   const count = /^ok runs \d+ changed [01] nodes (\d+)$/.exec(head);
-  return count && { text, root, result: treeOfLines(lines.slice(0, Number(count[1])), [...textsOf(root).keys()]) };
+  return count && { text, root, result: treeOfLines(lines.slice(0, Number(count[1])), meaningOf(root)) };
 }
 
 function batch(texts, program) {

@@ -5,7 +5,7 @@ const assert = require('assert');
 const fs = require('fs');
 const path = require('path');
 const { runBeside, subjectOf } = require('../guard/guard');
-const { K, NAMED, identityOf, preorder } = require('../src/kinds');
+const { K, NAMED, TEXTED, identityOf, preorder } = require('../src/kinds');
 const { textOfTree } = require('../src/result_text');
 const { treeOfText } = require('../src/to_tree');
 const { readTreeFile, writeTreeFile } = require('../src/tree_file');
@@ -25,6 +25,25 @@ function roundTrip(text) {
   assert.ok(writeTreeFile(treeOfText(printed)).equals(first), `other tree: ${text}`);
 }
 
+// A number comes for the first time only behind those before it, and `count` of them come.
+function inOrder(numbers, count) {
+  const first = [...new Set(numbers)];
+  assert.deepStrictEqual(first, first.map((_, index) => index));
+  assert.strictEqual(first.length, count ?? first.length);
+}
+
+// A script has one tree file: texts and contexts stand in the order of first use, each text is used, and how the tree numbers its scopes does not matter.
+function oneFile(text) {
+  const root = treeOfText(text);
+  const file = writeTreeFile(root);
+  const [nodeCount, textCount] = [file.readUInt32LE(8), file.readUInt32LE(16)];
+  const places = Array.from({ length: nodeCount }, (_, index) => 32 + 16 * index);
+  inOrder(places.filter((at) => TEXTED.has(file[at])).map((at) => file.readUInt32LE(at + 4)), textCount);
+  inOrder(places.filter((at) => NAMED.has(file[at])).map((at) => Number(file.readBigUInt64LE(at + 8))));
+  for (const node of preorder(root)) if (NAMED.has(node.kind)) node.bits = 1000n - node.bits;
+  assert.ok(writeTreeFile(root).equals(file), text);
+}
+
 function everyFormComes(scripts) {
   const forms = new Set(scripts.flatMap((text) => [...preorder(treeOfText(text))].map(({ kind, form }) => `${kind} ${form}`)));
   const kinds = new Set([...forms].map((form) => form.split(' ')[0]));
@@ -37,6 +56,7 @@ function testRoundTrips() {
   each('round trip of samples', samples(), (name) => roundTrip(sampleText(name)));
   each('round trip of random scripts', random, roundTrip);
   each('round trip of random gate scripts', seeds(300), (seed) => roundTrip(gateScript(seed)));
+  each('a script has one tree file', [...samples().map(sampleText), ...random.slice(0, 300)], oneFile);
   each('every kind and form comes in the random scripts', [random], everyFormComes);
 }
 

@@ -35,7 +35,7 @@ module _ (bs : List ℕ) where
     ident-none i h = rw (le-ltb i (get_or w 4 0) h) refl
 
 -- the bytes of one node more
-node-bytes-snoc : (xs : List Raw) (x : Raw) → node_bytes (xs ++ (x ∷ [])) ≡ node_bytes xs ++ raw_bytes x
+pub node-bytes-snoc : (xs : List Raw) (x : Raw) → node_bytes (xs ++ (x ∷ [])) ≡ node_bytes xs ++ raw_bytes x
 unfolding node_bytes
 node-bytes-snoc [] x = append-nil (raw_bytes x)
 node-bytes-snoc (y ∷ ys) x = ap (λ (r : List ℕ). raw_bytes y ++ r) (node-bytes-snoc ys x)

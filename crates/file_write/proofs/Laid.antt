@@ -23,7 +23,7 @@ use Rattle.file_write.specs.Back.{back_in}
 use Rattle.file_write.specs.Written.{Answer, refused, wrote, total, in_room, fitted, written, result_bytes, left, Wrote, Counted, none, behind}
 
 -- stores from the first place on
-sets-front : (l vs : List ℕ) (n : ℕ) → length vs ≡ n → n ≤ length l → sets l 0 vs ≡ vs ++ drop n l
+pub sets-front : (l vs : List ℕ) (n : ℕ) → length vs ≡ n → n ≤ length l → sets l 0 vs ≡ vs ++ drop n l
 sets-front l vs n e h = sets-eq vs l 0 (omega arith) ∙ ap (λ (k : ℕ). vs ++ drop k l) (zero-add (length vs) ∙ e)
 
 -- r is the buffer at entry, r₁ with the header in it, p the part from 32 on with the nodes in it, and r₃ with the texts copied

@@ -2,7 +2,7 @@
 #![tactic(auto)]
 
 mod nodes;
-mod put;
+pub mod put;
 
 ghost use Rattle.std.specs.Prelude.{length};
 ghost use Rattle.file_write.specs.Written.{Counted, Wrote, fitted, written, result_bytes};

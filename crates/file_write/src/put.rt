@@ -19,8 +19,8 @@ pub fn put_raw(b: &mut [u8], i: usize, x: Raw)
     put(b, i + 8, x.bits.to_le_bytes());
 }
 
-// A number of the header.
-fn put_number(b: &mut [u8], i: usize, n: usize)
+// A number of 4 bytes.
+pub fn put_number(b: &mut [u8], i: usize, n: usize)
     requires { (i + 4 ≤ length b.old) × (n ≤ 100000) }
     ensures { b.new ≡ sets b.old i (bytes 4 n) }
 {

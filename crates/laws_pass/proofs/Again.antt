@@ -49,7 +49,7 @@ fine t p x h =
     let h₄ = and_left (a && b && c && d) e h in
     record { fields = and_right (a && b) c (and_left (a && b && c) d h₄); form = and_right (a && b && c) d h₄; count = and_right (a && b && c && d) e h }
 
-all-fine : (t : ℕ) (xs : List Raw) (ps : List Place) → T (fills t ps xs) → All (Fine t) xs
+pub all-fine : (t : ℕ) (xs : List Raw) (ps : List Place) → T (fills t ps xs) → All (Fine t) xs
 unfolding fills
 all-fine t [] ps h = tt
 all-fine t (x ∷ xs) [] h = absurd h
@@ -68,23 +68,23 @@ get_d-all P [] n d h k = k
 get_d-all P (x ∷ xs) zero d h k = h.0
 get_d-all P (x ∷ xs) (suc n) d h k = get_d-all P xs n d h.1 k
 
-get_d-in : {A : Type 0} (P : A → Type 0) (xs : List A) (n : ℕ) (d : A) → All P xs → n < length xs → P (get_or xs n d)
+pub get_d-in : {A : Type 0} (P : A → Type 0) (xs : List A) (n : ℕ) (d : A) → All P xs → n < length xs → P (get_or xs n d)
 get_d-in P [] n d h l = absurd (omega (arith, l))
 get_d-in P (x ∷ xs) zero d h l = h.0
 get_d-in P (x ∷ xs) (suc n) d h l = get_d-in P xs n d h.1 (omega (arith, l))
 
 -- the text of a node that uses it
-abbrev Texted : ℕ → Raw → Type 0
+abbrev pub Texted : ℕ → Raw → Type 0
 Texted t x = T (ltb x.text t)
 
-texted : (t : ℕ) (x : Raw) → T (uses_text x.kind) → T (fields_ok t x) → Texted t x
+pub texted : (t : ℕ) (x : Raw) → T (uses_text x.kind) → T (fields_ok t x) → Texted t x
 texted t x u h = go (uses_text x.kind) (uses_bits x.kind || eqb x.bits 0) u h
   where
     go : (p q : Bool) → T p → T (pick p (ltb x.text t) (eqb x.text 0) && q) → Texted t x
     go true q u h = and_left (ltb x.text t) q h
     go false q u h = absurd u
 
-id-text : (k : ℕ) → T (eqb k 20 || eqb k 21) → T (uses_text k)
+pub id-text : (k : ℕ) → T (eqb k 20 || eqb k 21) → T (uses_text k)
 id-text k h = go (eqb k 20) (eqb k 21) h
   where
     go : (p q : Bool) → T (p || q) → T (p || q || eqb k 25 || eqb k 29 || eqb k 37 || eqb k 47)
@@ -135,23 +135,26 @@ lit-back k h = lit-kind k h (λ n. (c : Class) (m : ℕ) → T (allows c 22 0) �
 pub record Worded (s : Script) (k f a : ℕ) : Type 0 where
   pub word : T (has_text k) → T (uses_text (node_at s a).kind)
 
-worded-ident : (s : Script) (f a : ℕ) → Worded s 20 f a → Worded s 21 (unflagged f) a
+pub worded-ident : (s : Script) (f a : ℕ) → Worded s 20 f a → Worded s 21 (unflagged f) a
 worded-ident s f a h = record { word = λ t. absurd t }
 
-worded-void : (s : Script) → Worded s 30 0 0
+pub worded-void : (s : Script) → Worded s 30 0 0
 worded-void s = record { word = λ t. absurd t }
 
-worded-zero : (s : Script) → Worded s 22 0 0
+pub worded-zero : (s : Script) → Worded s 22 0 0
 worded-zero s = record { word = λ t. absurd t }
 
-abbrev WordedT : Script → Tree → Type 0
+abbrev pub WordedT : Script → Tree → Type 0
 WordedT s t = Keep.OkT (Worded s) (worded-ident s) (worded-void s) (worded-zero s) t
 
-abbrev WordedF : Script → Forest → Type 0
+abbrev pub WordedF : Script → Forest → Type 0
 WordedF s ts = Keep.OkF (Worded s) (worded-ident s) (worded-void s) (worded-zero s) ts
 
-abbrev WordedC : Script → Core → Type 0
+abbrev pub WordedC : Script → Core → Type 0
 WordedC s c = Worded s c.kind c.form c.num
+
+abbrev pub WordedOut : Script → Walk.Outcome → Type 0
+WordedOut s x = Keep.OkOut (Worded s) (worded-ident s) (worded-void s) (worded-zero s) x
 
 text-used : (k : ℕ) → T (has_text k) → T (uses_text k)
 text-used k h = go (eqb k 20) (eqb k 21) (eqb k 25) (eqb k 29) (eqb k 37) (eqb k 47) h
@@ -351,26 +354,34 @@ through r e d = go (nodes_ok r) (leb (length (idents r)) 256) e d
     go true false e d = absurd (subst T (sym d) tt)
     go false q e d = absurd (subst T (sym e) tt)
 
-pub result-fills : ResultFills
-unfolding pass
-result-fills n bs = go (read bs) (read_ok bs)
+-- the same of the result
+pub out-worded : (s : Script) → ReadOk s → (n : ℕ) → WordedOut s (pass_tree n (core_tree s))
+out-worded s o n = by (whole s o)
   where
-    first : (s : Script) (w : Whole s) → WordedT s w.tree
-    first s w = (subst (WordedF s) w.alone (nodes-worded s)).0
+    first : (w : Whole s) → WordedT s w.tree
+    first w = (subst (WordedF s) w.alone (nodes-worded s)).0
 
-    out : (s : Script) → ReadOk s → (x : Walk.Outcome) → ReadableOut x → NamedOut s x → Keep.OkOut (Worded s) (worded-ident s) (worded-void s) (worded-zero s) x → RefillsIn s (answer s x)
-    out s o (Walk.refused r) h nm wd = tt
-    out s o (Walk.result m c u ms) h nm wd =
+    by : Whole s → WordedOut s (pass_tree n (core_tree s))
+    by w = subst (λ (x : Option Tree). WordedOut s (pass_tree n x)) (sym w.is) (Keep.pass-ok (Worded s) (worded-ident s) (worded-void s) (worded-zero s) n w.tree (Keep.flag_ok (Worded s) (worded-ident s) (worded-void s) (worded-zero s) (λ f g a k. record { word = k.word }) (twice (kids w.tree)) w.tree (first w)))
+
+pub fills-again : (n : ℕ) (s : Script) → ReadOk s → RefillsIn s (pass n s)
+unfolding pass
+fills-again n s o = by (whole s o)
+  where
+    out : (x : Walk.Outcome) → ReadableOut x → NamedOut s x → WordedOut s x → RefillsIn s (answer s x)
+    out (Walk.refused r) h nm wd = tt
+    out (Walk.result m c u ms) h nm wd =
         let r = outcome s (map (back s) (flat u [])) in
         let six : T (nodes_ok r) = filled s o u h nm.0 wd.0 in
         let seven : T (leb (length (idents r)) 256) = named s o (flat u []) (flat-named s u [] nm.0 tt) in
         through r (is_true (nodes_ok r) six) (is_true (leb (length (idents r)) 256) seven)
 
-    by : (s : Script) → ReadOk s → (w : Whole s) → RefillsIn s (answer s (pass_tree n (core_tree s)))
-    by s o w =
-        let nm = subst (λ (x : Option Tree). NamedOut s (pass_tree n x)) w.is (out-named s n) in
-        subst (λ (x : Option Tree). RefillsIn s (answer s (pass_tree n x))) (sym w.is) (out s o (Walk.core_pass n w.tree) (result-readable n w.tree w.readable) nm (Keep.pass-ok (Worded s) (worded-ident s) (worded-void s) (worded-zero s) n w.tree (Keep.flag_ok (Worded s) (worded-ident s) (worded-void s) (worded-zero s) (λ f g a k. record { word = k.word }) (twice (kids w.tree)) w.tree (first s w))))
+    by : Whole s → RefillsIn s (answer s (pass_tree n (core_tree s)))
+    by w = out (pass_tree n (core_tree s)) (subst (λ (x : Option Tree). ReadableOut (pass_tree n x)) (sym w.is) (result-readable n w.tree w.readable)) (out-named s n) (out-worded s o n)
 
+pub result-fills : ResultFills
+result-fills n bs = go (read bs) (read_ok bs)
+  where
     go : (r : Read) → ReadsOk r → RefillsOf n r
     go (bad r) o = tt
-    go (script s) o = by s o (whole s o)
+    go (script s) o = fills-again n s o

@@ -202,19 +202,19 @@ core-count : (s : Script) (n : ℕ) (xs : List Raw) → length (core_from s n xs
 core-count s n [] = refl
 core-count s n (x ∷ xs) = ap suc (core-count s (suc n) xs)
 
--- a file that is read
+-- a file that is read; one that is not, by which rows
 pub record ReadOk (s : Script) : Type 0 where
   pub few : length s.nodes ≤ 1024
   pub shape : T (nodes_ok s)
   pub names : T (leb (length (idents s)) 256)
 
 abbrev pub ReadsOk : Read → Type 0
-ReadsOk (bad n) = Unit {0}
+ReadsOk (bad n) = (2 ≤ n) × (n ≤ 7)
 ReadsOk (script s) = ReadOk s
 
-test : (b : Bool) (n : ℕ) (x : Read) → (T b → ReadsOk x) → ReadsOk (elim b [ false ↦ bad n | true ↦ x ])
-test true n x h = h tt
-test false n x h = tt
+test : (b : Bool) (n : ℕ) (x : Read) → (2 ≤ n) × (n ≤ 7) → (T b → ReadsOk x) → ReadsOk (elim b [ false ↦ bad n | true ↦ x ])
+test true n x l h = h tt
+test false n x l h = l
 
 from-count : (n : ℕ) (bs : List ℕ) → length (nodes_from n bs) ≡ n
 unfolding nodes_from
@@ -230,11 +230,11 @@ read_ok bs =
     let ends = ends_from t (drop (32 + 16 * n) bs) in
     let texts = texts_from 0 ends (drop (32 + 16 * n + 4 * t) bs) in
     let s : Script = record { nodes = nodes_from n (drop 32 bs); texts = texts } in
-    test (leb 32 (length bs) && eqb (u32 bs 0) 1) 2 _ (λ h₂.
-    test (leb 1 n && leb n 1024 && leb t 256 && leb b 4096) 3 _ (λ h₃.
-    test (eqb (u32 bs 4) (length bs) && eqb (u32 bs 12) 32 && eqb (u32 bs 20) (32 + 16 * n) && eqb (u32 bs 24) (32 + 16 * n + 4 * t) && eqb (u32 bs 4) (32 + 16 * n + 4 * t + b)) 4 _ (λ h₄.
-    test (rising 0 ends b && distinct texts) 5 (checked s) (λ h₅.
-    test (nodes_ok s) 6 _ (λ h₆. test (leb (length (idents s)) 256) 7 (script s) (λ h₇.
+    test (leb 32 (length bs) && eqb (u32 bs 0) 1) 2 _ (omega arith, omega arith) (λ h₂.
+    test (leb 1 n && leb n 1024 && leb t 256 && leb b 4096) 3 _ (omega arith, omega arith) (λ h₃.
+    test (eqb (u32 bs 4) (length bs) && eqb (u32 bs 12) 32 && eqb (u32 bs 20) (32 + 16 * n) && eqb (u32 bs 24) (32 + 16 * n + 4 * t) && eqb (u32 bs 4) (32 + 16 * n + 4 * t + b)) 4 _ (omega arith, omega arith) (λ h₄.
+    test (rising 0 ends b && distinct texts) 5 (checked s) (omega arith, omega arith) (λ h₅.
+    test (nodes_ok s) 6 _ (omega arith, omega arith) (λ h₆. test (leb (length (idents s)) 256) 7 (script s) (omega arith, omega arith) (λ h₇.
     record { few = few n (drop 32 bs) (and_right (leb 1 n) (leb n 1024) (and_left (leb 1 n && leb n 1024) (leb t 256) (and_left (leb 1 n && leb n 1024 && leb t 256) (leb b 4096) h₃))); shape = h₆; names = h₇ }))))))
   where
     few : (n : ℕ) (bs : List ℕ) → T (leb n 1024) → length (nodes_from n bs) ≤ 1024

@@ -1,10 +1,12 @@
--- A result is a script that rows 6 and 7 let through again. Assumes nothing: these are definitions.
+-- A result is a script that rows 6 and 7 let through again, and its file is read again, as the result. Assumes nothing: these are definitions.
 use Rattle.std.specs.Prelude.{◌≡◌, List, map, ℕ}
 use Rattle.def_tree.specs.Tree.{Core}
 use Rattle.def_file.specs.declared.Raw.{Raw}
 use Rattle.def_file.specs.Script.{Script}
 use Rattle.def_file.specs.Read.{Read, bad, script, checked, read}
 use Rattle.def_pass.specs.Script.{Out, Answer, no!, yes!, back, pass_read}
+use Rattle.def_pass.specs.Paired.{file_of}
+use Rattle.laws_roundtrip.specs.Fits.{Bytes}
 
 abbrev pub raws_of : Script → List Core → List Raw
 raws_of s cs = map (λ (x : Out). x.raw) (map (back s) cs)
@@ -28,3 +30,16 @@ RefillsOf n (script s) = RefillsIn s (pass_read n (script s))
 -- of every file and run limit
 abbrev pub ResultFills : Type 0
 ResultFills = (n : ℕ) (bs : List ℕ) → RefillsOf n (read bs)
+
+-- its file
+abbrev pub AgainIn : Script → Answer → Type 0
+AgainIn s (no! n) = Unit {0}
+AgainIn s (yes! k c xs rs) = read (file_of s xs) ≡ script (outcome s xs)
+
+abbrev pub AgainOf : ℕ → Read → Type 0
+AgainOf n (bad r) = Unit {0}
+AgainOf n (script s) = AgainIn s (pass_read n (script s))
+
+-- of every file and run limit
+abbrev pub ReadsAgain : Type 0
+ReadsAgain = (n : ℕ) (bs : List ℕ) → Bytes bs → AgainOf n (read bs)

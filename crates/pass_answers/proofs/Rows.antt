@@ -3,13 +3,13 @@ use mathlib.Core.Path.{◌≡◌, ap}
 use mathlib.Core.Bool.{Bool, true, false, ◌&&◌}
 use mathlib.Core.Option.{Option, none, some}
 use mathlib.Core.List.{List}
-use Prim.Native.Nat.{ℕ, ◌+◌, ◌*◌, ◌≤◌}
+use Prim.Native.Nat.{ℕ, ◌*◌, ◌≤◌}
 use native.Mathlib.Omega.{arith}
-use lib.Dec.{eqb, leb}
-use lib.ListN.{length, drop}
+use lib.Dec.{leb}
+use lib.ListN.{length}
 use Rattle.def_pass.specs.Tree.{Tree}
-use Rattle.def_file.specs.Script.{Script, idents}
-use Rattle.def_file.specs.Read.{Read, bad, script, u32, ends_from, texts_from, nodes_from, rising, distinct, nodes_ok, checked, read}
+use Rattle.def_file.specs.Script.{Script}
+use Rattle.def_file.specs.Read.{Read, bad, script, read}
 use Rattle.def_pass.specs.Script.{Root, Answer, no!, yes!, answer, core_tree, pass_tree, pass, pass_read, pass_file}
 use Rattle.def_pass.specs.Entry.{Entry, refused, passed, written, entry_read, entry}
 use Rattle.def_pass.specs.Paired.{file_of}
@@ -23,6 +23,7 @@ use Rattle.pass_answers.specs.Entry.{numbers}
 use Rattle.pass_answers.specs.Rows.{EntryRow, ListingRow, NthRow, Rows, Result, Listed, Given, InlineZero, RootsZero, RootZero}
 use Rattle.def_pass.specs.Walk as Walk
 use Rattle.def_pass.specs.Twice.{flagged}
+use Rattle.laws_pass.proofs.FromFile.{ReadsOk, read_ok}
 use Rattle.laws_pass.proofs.Refusals.{Low, runs-low}
 
 -- runs
@@ -57,24 +58,12 @@ abbrev pub Reads : Read → Type 0
 Reads (bad n) = (2 ≤ n) × (n ≤ 7)
 Reads (script s) = Unit {0}
 
-r-test : (b : Bool) (n : ℕ) (x : Read) → (2 ≤ n) × (n ≤ 7) → Reads x → Reads (elim b [ false ↦ bad n | true ↦ x ])
-r-test true n x h k = k
-r-test false n x h k = h
-
 pub r-read : (bs : List ℕ) → Reads (read bs)
-unfolding read
-r-read bs =
-    let n = u32 bs 8 in
-    let t = u32 bs 16 in
-    let b = u32 bs 28 in
-    let ends = ends_from t (drop (32 + 16 * n) bs) in
-    let texts = texts_from 0 ends (drop (32 + 16 * n + 4 * t) bs) in
-    let s : Script = record { nodes = nodes_from n (drop 32 bs); texts = texts } in
-    r-test (leb 32 (length bs) && eqb (u32 bs 0) 1) 2 _ (omega arith, omega arith)
-    (r-test (leb 1 n && leb n 1024 && leb t 256 && leb b 4096) 3 _ (omega arith, omega arith)
-    (r-test (eqb (u32 bs 4) (length bs) && eqb (u32 bs 12) 32 && eqb (u32 bs 20) (32 + 16 * n) && eqb (u32 bs 24) (32 + 16 * n + 4 * t) && eqb (u32 bs 4) (32 + 16 * n + 4 * t + b)) 4 _ (omega arith, omega arith)
-    (r-test (rising 0 ends b && distinct texts) 5 (checked s) (omega arith, omega arith)
-    (r-test (nodes_ok s) 6 _ (omega arith, omega arith) (r-test (leb (length (idents s)) 256) 7 (script s) (omega arith, omega arith) tt)))))
+r-read bs = go (read bs) (read_ok bs)
+  where
+    go : (x : Read) → ReadsOk x → Reads x
+    go (bad n) h = h
+    go (script s) h = tt
 
 -- the C functions
 pub r-written : (room : ℕ) (s : Script) (x : Answer) → Answers x → EntryRow (written room s x)

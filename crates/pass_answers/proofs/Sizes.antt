@@ -1,35 +1,20 @@
 -- The sizes of a result: it is read again, with the script's texts. Assumes nothing.
 use mathlib.Core.Path.{◌≡◌, refl, ap}
-use mathlib.Core.List.{List, [], ◌∷◌, ◌++◌, map}
-use Prim.Native.Nat.{ℕ, suc, ◌+◌, ◌*◌}
+use mathlib.Core.List.{List, [], ◌∷◌, map}
+use Prim.Native.Nat.{ℕ, suc}
 use native.Mathlib.Omega.{arith}
-use lib.ListN.{length, drop, length-append}
+use lib.ListN.{length, drop}
 use Rattle.def_file.specs.Script.{Script}
 use Rattle.def_file.specs.Read.{Read, bad, script, read, u32}
-use Rattle.def_file.specs.Write.{head_bytes, node_bytes, end_bytes, text_bytes, file}
-use Rattle.laws_roundtrip.proofs.Nodes.{node-bytes-length, nodes-length}
-use Rattle.laws_roundtrip.proofs.Texts.{end-bytes-length}
+use Rattle.laws_roundtrip.proofs.Nodes.{nodes-length}
 use Rattle.laws_roundtrip.proofs.Round.{found, back}
 use Rattle.def_pass.specs.Script.{Out, Answer, no!, yes!, pass_read}
 use Rattle.def_pass.specs.Paired.{file_of}
-use Rattle.laws_pass.specs.Again.{outcome}
+use Rattle.laws_pass.specs.Again.{outcome, AgainIn, AgainOf}
 use Rattle.laws_pass.specs.Once.{FewIn, FewOf}
 use Rattle.laws_pass.proofs.Names.{roots_few}
-use Rattle.pass_answers.specs.Again.{AgainIn, AgainOf}
 use Rattle.pass_answers.specs.Sizes.{SizesIn, SizesOf, ResultSizes}
-use Rattle.pass_answers.proofs.Again.{reads-again}
-
--- a file's length, by its nodes and texts
-file-length : (s : Script) → length (file s) ≡ 32 + 16 * length s.nodes + 4 * length s.texts + length (text_bytes s.texts)
-unfolding file
-file-length s =
-    let n = length s.nodes in
-    let t = length s.texts in
-    let b = length (text_bytes s.texts) in
-    let f₁ = length-append (head_bytes n t b ++ node_bytes s.nodes ++ end_bytes 0 s.texts) (text_bytes s.texts) in
-    let f₂ = length-append (head_bytes n t b ++ node_bytes s.nodes) (end_bytes 0 s.texts) in
-    let f₃ = length-append (head_bytes n t b) (node_bytes s.nodes) in
-    omega (arith, f₁, f₂, f₃, node-bytes-length s.nodes, end-bytes-length 0 s.texts)
+use Rattle.laws_pass.proofs.ReadsAgain.{file-length, reads-again}
 
 out-count : (xs : List Out) → length (map (λ (x : Out). x.raw) xs) ≡ length xs
 out-count [] = refl

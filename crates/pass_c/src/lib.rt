@@ -1,12 +1,14 @@
-// The whole pass over a tree file for C callers: the functions of crates/pass, under their names and with their promises, in an archive. What they
-// answer are structs that C reads, so that a refusal and a flag are numbers in them. A static library exports what stands in its own crate, so that
-// the functions stand here again.
+// The whole pass over a tree file, and the one file of a script, for C callers: the functions of crates/pass and crates/file_canon, under their names
+// and with their promises, in an archive. What they answer are structs that C reads, so that a refusal and a flag are numbers in them. A static library
+// exports what stands in its own crate, so that the functions stand here again.
 #![tactic(auto)]
 
+ghost use Rattle.file_canon.specs.Canon.{CanonIs};
 ghost use Rattle.pass_answers.specs.Entry.{InlineIs};
 ghost use Rattle.pass_answers.specs.Roots.{RootsIs, RootIs};
 ghost use Rattle.pass_answers.specs.Under.{InlineUnderIs, RootsUnderIs, RootUnderIs};
 
+use file_copy::Copied;
 use pass_answers::{Inlined, RootBinding, Roots};
 
 // Rows 1 to 10. What is written is the result's file.
@@ -84,4 +86,12 @@ pub extern "C" fn negbosun_root_under(
     ensures { RootUnderIs table.now file.now words.old words.new runs n result }
 {
     pass::negbosun_root_under(file, table, words, runs, n)
+}
+
+// Rows 1 to 7, then 16. What is written is the file of the script's canonical form.
+#[unsafe(no_mangle)]
+pub extern "C" fn negbosun_canon(file: &[u8], res: &mut [u8], words: &mut [u32]) -> Copied
+    ensures { CanonIs file.now res.old res.new words.old words.new result }
+{
+    file_canon::negbosun_canon(file, res, words)
 }

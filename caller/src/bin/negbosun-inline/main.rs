@@ -1,5 +1,6 @@
-//! The pass on a tree file, from the command line.
+//! The pass on a tree file, and the one file of a script, from the command line.
 
+mod archive;
 mod options;
 mod timed;
 
@@ -67,11 +68,15 @@ fn say(line: &str) {
     let _ = writeln!(io::stderr(), "negbosun-inline: {line}");
 }
 
-fn print(text: &str) -> Result<(), Trouble> {
+fn put(bytes: &[u8]) -> Result<(), Trouble> {
     let mut out = io::stdout().lock();
-    out.write_all(text.as_bytes())
+    out.write_all(bytes)
         .and_then(|()| out.flush())
         .map_err(|error| Trouble::io("standard output", &error))
+}
+
+fn print(text: &str) -> Result<(), Trouble> {
+    put(text.as_bytes())
 }
 
 /// The first bytes, one more than any readable file has: a longer file is refused as these are.
@@ -92,6 +97,14 @@ fn read(path: Option<&OsStr>) -> io::Result<Vec<u8>> {
             Ok(file)
         }
     }
+}
+
+/// A file's name for people, and its bytes.
+fn named(path: Option<&OsStr>) -> Result<(String, Vec<u8>), Trouble> {
+    let path = path.filter(|path| *path != "-");
+    let name = path.map_or("standard input".into(), OsStr::to_string_lossy);
+    let file = read(path).map_err(|error| Trouble::io(&name, &error))?;
+    Ok((name.into_owned(), file))
 }
 
 /// A kind table: the 2,304 bytes, or the lines that the program `kind_table` prints.
@@ -116,10 +129,8 @@ fn timed(options: &Options, table: Option<KindTable>) -> Result<Timed, Trouble> 
 }
 
 fn single(options: &Options) -> Result<u8, Trouble> {
-    let path = options.path.as_deref().filter(|path| *path != "-");
-    let name = path.map_or("standard input".into(), OsStr::to_string_lossy);
     let table = lent(options)?;
-    let file = read(path).map_err(|error| Trouble::io(&name, &error))?;
+    let (name, file) = named(options.path.as_deref())?;
     let answer = timed(options, table.clone())?.answer(file.clone(), options.runs);
     let answer = answer.ok_or_else(|| Trouble::too_long(&name, options))?;
     print(&printed(&answer))?;
@@ -183,6 +194,8 @@ fn run() -> Result<u8, Trouble> {
         Wish::Version => {
             print(concat!("negbosun-inline ", env!("CARGO_PKG_VERSION"), "\n")).map(|()| 0)
         }
+        Wish::Canon(path) => archive::canon(path.as_deref()).map(|()| 0),
+        Wish::Same(one, two) => archive::same(&one, &two).map(|same| u8::from(!same)),
         Wish::Run(options) if options.batch => batch(&options),
         Wish::Run(options) => single(&options),
     }

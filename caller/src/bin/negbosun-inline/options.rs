@@ -6,6 +6,8 @@ use std::time::Duration;
 
 pub const USAGE: &str = "usage: negbosun-inline [OPTIONS] [FILE]
        negbosun-inline --batch [OPTIONS]
+       negbosun-inline canon [FILE]
+       negbosun-inline same FILE FILE
 
 Runs the pass on a tree file, or on standard input, and prints its result: a head line, a line for each node and one for each root
 binding. A refusal is printed as `refused N`, and said in plain words on standard error.
@@ -18,7 +20,16 @@ binding. A refusal is printed as `refused N`, and said in plain words on standar
   -V, --version         the version
 
 Exit status: 0 done, 1 refused, 2 bad usage, 3 a file could not be read or an answer not written, 4 stopped by the time limit.
---batch counts no refusals. Time can double with each function inside another, so that a small file may take hours.";
+--batch counts no refusals. Time can double with each function inside another, so that a small file may take hours.
+
+canon writes the one file of the file's script to standard output: texts in the order of their first use, none without use, contexts
+numbered from 0 in the order of their first use. The exit status is as above.
+
+same says whether two files hold one script: whether they differ only in how texts and contexts are numbered and in texts without use.
+Exit status: 0 one script, 1 two scripts, 2 bad usage, 3 a file could not be read, is no readable tree file, or the answer could not be written.
+
+Neither takes an option, nor a kind table: both read a file by the kinds alone. A file called canon or same is ./canon or ./same here;
+- is standard input.";
 
 const SECONDS: u64 = 30;
 
@@ -36,6 +47,10 @@ pub enum Wish {
     Help,
     Version,
     Run(Options),
+    /// The one file of a script.
+    Canon(Option<OsString>),
+    /// Whether two files hold one.
+    Same(OsString, OsString),
 }
 
 /// The words of the command line, options in both spellings: `--runs N` and `--runs=N`.
@@ -120,7 +135,45 @@ fn take<I: Iterator<Item = OsString>>(
     }
 }
 
+/// The files of a subcommand, which has no options but help and version.
+fn files(words: &[OsString]) -> Result<&[OsString], Result<Wish, String>> {
+    match words.iter().find_map(option) {
+        None => Ok(words),
+        Some((name, _)) if name == "-h" || name == "--help" => Err(Ok(Wish::Help)),
+        Some((name, _)) if name == "-V" || name == "--version" => Err(Ok(Wish::Version)),
+        Some((name, _)) => Err(Err(format!("{name}: unknown option"))),
+    }
+}
+
+fn canon(words: &[OsString]) -> Result<Wish, String> {
+    match files(words) {
+        Ok([]) => Ok(Wish::Canon(None)),
+        Ok([file]) => Ok(Wish::Canon(Some(file.clone()))),
+        Ok(_) => Err("one file at a time".into()),
+        Err(other) => other,
+    }
+}
+
+fn same(words: &[OsString]) -> Result<Wish, String> {
+    match files(words) {
+        Ok([one, two]) if one == "-" && two == "-" => Err("standard input is one file".into()),
+        Ok([one, two]) => Ok(Wish::Same(one.clone(), two.clone())),
+        Ok(_) => Err("same needs two files".into()),
+        Err(other) => other,
+    }
+}
+
+/// What the words of the command line ask for.
 pub fn read(given: impl Iterator<Item = OsString>) -> Result<Wish, String> {
+    let words: Vec<OsString> = given.collect();
+    match words.split_first() {
+        Some((first, rest)) if first == "canon" => canon(rest),
+        Some((first, rest)) if first == "same" => same(rest),
+        _ => run(words.into_iter()),
+    }
+}
+
+fn run(given: impl Iterator<Item = OsString>) -> Result<Wish, String> {
     let mut words = Words {
         rest: given,
         joined: None,

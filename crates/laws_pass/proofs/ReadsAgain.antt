@@ -1,12 +1,12 @@
--- The file of a result is read again, as the result. Assumes nothing.
+-- The file of a result is read again, as the result; and how long a file is. Assumes nothing.
 use mathlib.Core.Path.{◌≡◌, refl, sym, ap, subst}
 use mathlib.Core.Bool.{Bool, true, false, ◌&&◌, ◌||◌, not}
 use mathlib.Core.Option.{Option}
 use mathlib.Core.List.{List, [], ◌∷◌, ◌++◌, map}
-use Prim.Native.Nat.{ℕ, zero, suc, ◌+◌, ◌≤◌, ◌<◌}
+use Prim.Native.Nat.{ℕ, zero, suc, ◌+◌, ◌*◌, ◌≤◌, ◌<◌}
 use native.Mathlib.Omega.{arith}
 use lib.Dec.{eqb, leb}
-use lib.ListN.{length, get_or}
+use lib.ListN.{length, get_or, length-append}
 use borrow.Author.Tests.{leb-true}
 use Rattle.def_tree.specs.Base.{pick, to_nat}
 use Rattle.def_tree.specs.Tree.{Core, length_f, take_f, drop_f, plant, flat, flats}
@@ -15,20 +15,22 @@ use Rattle.def_file.specs.Script.{Script, is_lit, has_id, known, enter, enter_al
 use Rattle.def_file.specs.Read.{Read, bad, script, checked, nodes_ok, read}
 use Rattle.def_file.specs.Core.{has_text, core_node, core_from, core_nodes, Out, ident_at, back}
 use Rattle.laws_roundtrip.specs.Fits.{Narrow, Fits}
+use Rattle.def_file.specs.Write.{head_bytes, node_bytes, end_bytes, text_bytes, file}
+use Rattle.laws_roundtrip.proofs.Nodes.{node-bytes-length}
+use Rattle.laws_roundtrip.proofs.Texts.{end-bytes-length}
 use Rattle.laws_roundtrip.proofs.Header.{passed}
 use Rattle.laws_roundtrip.proofs.Round.{fits_read, again}
 use Rattle.def_pass.specs.Tree.{Tree, Forest, node, nil, cons, count, counts, kids}
 use Rattle.def_pass.specs.Twice.{unflagged, twice}
 use Rattle.def_pass.specs.Walk as Walk
 use Rattle.def_pass.specs.Script.{core_tree, pass_tree, pass, answer}
-use Rattle.laws_pass.specs.Again.{raws_of, outcome, RefillsIn, RefillsOf}
+use Rattle.laws_pass.specs.Again.{raws_of, outcome, RefillsIn, AgainIn, AgainOf, ReadsAgain}
 use Rattle.laws_pass.specs.Readable.{Readable, ReadableOut}
 use Rattle.laws_pass.proofs.Keep.{All, all_append}
 use Rattle.laws_pass.proofs.Keep as Keep
-use Rattle.laws_pass.proofs.FromFile.{ReadsOk, read_ok, Whole, whole}
+use Rattle.laws_pass.proofs.FromFile.{ReadOk, ReadsOk, read_ok, Whole, whole}
 use Rattle.laws_pass.proofs.Readable.{result-readable}
-use Rattle.laws_pass.proofs.Again.{result-fills}
-use Rattle.pass_answers.specs.Again.{AgainIn, AgainOf, ReadsAgain}
+use Rattle.laws_pass.proofs.Again.{fills-again}
 
 get_d-all : {A : Type 0} (P : A → Type 0) (xs : List A) (n : ℕ) (d : A) → All P xs → P d → P (get_or xs n d)
 get_d-all P [] n d h k = k
@@ -205,20 +207,36 @@ nodes-byte : (s : Script) → Fits s → All ByteC (core_nodes s)
 unfolding core_nodes
 nodes-byte s f = cores-byte s 1 s.nodes (all_get_d Narrow s.nodes f.narrow)
 
-pub reads-again : ReadsAgain
+-- the result of a script that is read
+pub again-in : (n : ℕ) (s : Script) → Fits s → ReadOk s → AgainIn s (pass n s)
 unfolding pass
-reads-again n bs y = go (read bs) refl (read_ok bs) (result-fills n bs)
+again-in n s f o = by (whole s o)
   where
-    out : (s : Script) → Fits s → (x : Walk.Outcome) → ReadableOut x → Keep.OkOut Byte byte-ident byte-void byte-zero x → RefillsIn s (answer s x) → AgainIn s (answer s x)
-    out s f (Walk.refused r) h b e = tt
-    out s f (Walk.result m c u ms) h b e = again (outcome s (map (back s) (flat u []))) (fits-again s f u h b.0 e)
+    out : (x : Walk.Outcome) → ReadableOut x → Keep.OkOut Byte byte-ident byte-void byte-zero x → RefillsIn s (answer s x) → AgainIn s (answer s x)
+    out (Walk.refused r) h b e = tt
+    out (Walk.result m c u ms) h b e = again (outcome s (map (back s) (flat u []))) (fits-again s f u h b.0 e)
 
-    tree-byte : (s : Script) → Fits s → (w : Whole s) → ByteT w.tree
-    tree-byte s f w = (subst ByteF w.alone (plant-byte (core_nodes s) (nodes-byte s f))).0
+    tree-byte : (w : Whole s) → ByteT w.tree
+    tree-byte w = (subst ByteF w.alone (plant-byte (core_nodes s) (nodes-byte s f))).0
 
-    by : (s : Script) → Fits s → (w : Whole s) → RefillsIn s (answer s (pass_tree n (core_tree s))) → AgainIn s (answer s (pass_tree n (core_tree s)))
-    by s f w e = subst (λ (x : Option Tree). AgainIn s (answer s (pass_tree n x))) (sym w.is) (out s f (Walk.core_pass n w.tree) (result-readable n w.tree w.readable) (Keep.pass-ok Byte byte-ident byte-void byte-zero n w.tree (Keep.flag_ok Byte byte-ident byte-void byte-zero byte-form (twice (kids w.tree)) w.tree (tree-byte s f w))) (subst (λ (x : Option Tree). RefillsIn s (answer s (pass_tree n x))) w.is e))
+    by : Whole s → AgainIn s (answer s (pass_tree n (core_tree s)))
+    by w = subst (λ (x : Option Tree). AgainIn s (answer s (pass_tree n x))) (sym w.is) (out (Walk.core_pass n w.tree) (result-readable n w.tree w.readable) (Keep.pass-ok Byte byte-ident byte-void byte-zero n w.tree (Keep.flag_ok Byte byte-ident byte-void byte-zero byte-form (twice (kids w.tree)) w.tree (tree-byte w))) (subst (λ (x : Option Tree). RefillsIn s (answer s (pass_tree n x))) w.is (fills-again n s o)))
 
-    go : (r : Read) → read bs ≡ r → ReadsOk r → RefillsOf n r → AgainOf n r
-    go (bad r) q o e = tt
-    go (script s) q o e = by s (fits_read bs s y q) (whole s o) e
+pub reads-again : ReadsAgain
+reads-again n bs y = go (read bs) refl (read_ok bs)
+  where
+    go : (r : Read) → read bs ≡ r → ReadsOk r → AgainOf n r
+    go (bad r) q o = tt
+    go (script s) q o = again-in n s (fits_read bs s y q) o
+
+-- a file's length, by its nodes and texts
+pub file-length : (s : Script) → length (file s) ≡ 32 + 16 * length s.nodes + 4 * length s.texts + length (text_bytes s.texts)
+unfolding file
+file-length s =
+    let n = length s.nodes in
+    let t = length s.texts in
+    let b = length (text_bytes s.texts) in
+    let f₁ = length-append (head_bytes n t b ++ node_bytes s.nodes ++ end_bytes 0 s.texts) (text_bytes s.texts) in
+    let f₂ = length-append (head_bytes n t b ++ node_bytes s.nodes) (end_bytes 0 s.texts) in
+    let f₃ = length-append (head_bytes n t b) (node_bytes s.nodes) in
+    omega (arith, f₁, f₂, f₃, node-bytes-length s.nodes, end-bytes-length 0 s.texts)

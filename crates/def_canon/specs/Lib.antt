@@ -1,0 +1,4 @@
+pub mod Canon
+pub mod Entry
+pub mod Differ
+pub mod Examples

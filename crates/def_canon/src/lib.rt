@@ -1,0 +1,2 @@
+// One file for one script: definitions only, under specs/.
+#![tactic(auto)]

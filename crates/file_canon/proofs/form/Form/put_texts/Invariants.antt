@@ -1,0 +1,11 @@
+-- The first i texts. Assumes nothing.
+use Rattle.std.proofs.Common.{◌≡◌, ◌+◌, length, take}
+use Rattle.std.proofs.lemmas.List.Edits.{sets}
+use Rattle.def_file.specs.Write.{text_bytes}
+use Rattle.file_canon.specs.Form.{form_of}
+use Rattle.file_canon.proofs.form.Form.put_texts.Given as goal
+
+abbrev pub invariant-loop-i : goal.invariant-loop-i
+invariant-loop-i l =
+    (l.end ≡ l.p + length (text_bytes (take l.i (form_of l.self.file.now l.self.header).texts)))
+    × (l.res ≡ sets l.initial.res l.p (text_bytes (take l.i (form_of l.self.file.now l.self.header).texts)))

@@ -1,0 +1,27 @@
+-- What the writer of canonical files answers, and what it leaves in both buffers: what `canon_entry` says. Assumes nothing: these are definitions.
+use Rattle.std.specs.Prelude.{◌≡◌, List, ◌++◌, ℕ, leb, length, drop, Result}
+use Rattle.refusal.specs.declared.Refusal.{Refusal}
+use Rattle.file_write.specs.Written.{Answer, refused as not_written, wrote as written, says}
+use Rattle.file_copy.specs.declared.Copied.{Copied}
+use Rattle.file_copy.specs.Copy.{numbers, WordsAre}
+use Rattle.def_canon.specs.Entry.{Writing, refused, wrote, canon_entry}
+
+-- the refusal's number, or the length of what was written
+abbrev pub told : Writing → Answer
+told (refused n) = not_written n
+told (wrote out) = written (length out)
+
+-- the buffer r: a refusal keeps it, and the bytes behind what was written stay
+abbrev pub left : List ℕ → Writing → List ℕ
+left r (refused n) = r
+left r (wrote out) = out ++ drop (length out) r
+
+pub record Wrote (r r' : List ℕ) (x : Writing) (a : Result ℕ Refusal) : Type 0 where
+  pub is : says a ≡ told x
+  pub leaves : r' ≡ left r x
+
+-- the words: row 1 keeps them; after all else the first 16,384 are 0 and those past them kept
+pub record CanonIs (bs r r' w w' : List ℕ) (c : Copied) : Type 0 where
+  pub answer : c ≡ numbers (told (canon_entry (length w) bs (length r)))
+  pub result : r' ≡ left r (canon_entry (length w) bs (length r))
+  pub words : WordsAre w w' (leb 16384 (length w))

@@ -1,0 +1,7 @@
+pub mod Uses
+pub mod Weights
+pub mod Texts
+pub mod Same
+pub mod Form
+pub mod Laws
+pub mod Commutes
