@@ -41,13 +41,13 @@ class Around {
   unary(node, place) {
     const op = UNARY[node.form];
     const value = op === 'delete' || op === 'typeof' ? null : this.expression(node.children[0], place);
-    return value && this.check.operators.unary(op, value);
+    return value && this.check.operators.unary(op, value, this.check.isOwn(node.children[0]));
   }
 
   binary(node, place) {
     const op = BINARY[node.form];
     const [a, b] = LOGICAL.has(op) ? [] : node.children.map((child) => this.expression(child, place));
-    return a && b ? this.check.operators.binary(op, a, b) : null;
+    return a && b ? this.check.operators.binary(op, a, b, node.children.some((child) => this.check.isOwn(child))) : null;
   }
 }
 

@@ -10,6 +10,7 @@ const { VALUES } = require('./expressions');
 const { LEVELS, levelOf } = require('./levels');
 const { Operators } = require('./operators');
 const { Order } = require('./order');
+const { Own } = require('./own');
 const { hasMisplaced } = require('./patterns');
 const { lateWords, lineOf, notNextWords, otherValueWords } = require('./reasons');
 const { Regions } = require('./regions');
@@ -66,6 +67,8 @@ class Check {
     this.values = new Values();
     this.operators = new Operators(this.values, this.assumes, this.keeps);
     this.variables = new Variables(this.root, emptied, this.assumes, this.keeps);
+    this.own = this.assumes.plain ? new Own(this.root, this.variables) : null;
+    if (this.own && this.keeps('asked-names') && this.own.asksNames) this.assumes = { ...this.assumes, nameless: false };
     this.order = new Order(this.variables);
     for (const v of this.variables.all()) v.stable = this.order.isStable(v);
     this.regions = new Regions(emptied);
@@ -80,6 +83,11 @@ class Check {
   isReplaced(node) { return this.replaced.has(node); }
 
   numberOf(node) { return this.numbers.get(node) ?? 0; }
+
+  // At level `plain` the host's values are plain, and the host sets none of its methods; the script may do otherwise with what is its own.
+  isOwn(node) { return this.own !== null && this.keeps('own-objects') && this.own.mayBeObject(node); }
+
+  keepsMethod(name) { return this.own === null || !this.keeps('set-methods') || this.own.keepsMethod(name); }
 
   serial(prefix) { return `${prefix}${++this.last}`; }
 

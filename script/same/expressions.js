@@ -47,10 +47,13 @@ function identifier(run, node, position) {
   if (node.text === 'undefined') return run.values.undefined();
   if (CONSTANT_NAMES.has(node.text)) return run.values.make('number', 'constant', node.text);
   if (node.text === 'arguments' && isArgumentsObject(run)) return run.values.make(null, 'arguments');
-  const steady = run.assumes.steady && position !== 'value' && !run.variables.hostWritten.has(node.text);
+  const steady = position !== 'value' && isSteady(run, node.text) && !run.variables.hostWritten.has(node.text);
   if (steady || !run.keeps('host-read')) return run.values.make(null, 'host', node.text);
   return run.emit(node, ['host', node.text]);
 }
+
+// Whether a name of the host is there and stays what it is; the script itself may set it by way of the global object.
+const isSteady = (run, name) => run.assumes.steady && !run.variables.isReachable(name);
 
 // At the script's top `arguments` is a name like others, and a script may set it.
 function isArgumentsObject(run) {
@@ -76,7 +79,7 @@ function unary(run, node) {
   if (op === 'delete') return remove(run, node, child);
   if (op === 'typeof' && isUnknownHostName(child)) return run.emit(node, ['typeof', child.text], { type: 'string' });
   const a = valueOf(run, node.children[0]);
-  return run.check.operators.unary(op, a) ?? run.emit(node, ['unary', op, a]);
+  return run.check.operators.unary(op, a, run.check.isOwn(node.children[0])) ?? run.emit(node, ['unary', op, a]);
 }
 
 function remove(run, node, child) {
@@ -93,7 +96,8 @@ function reference(run, node) {
 }
 
 function operate(run, node, op, a, b) {
-  return run.check.operators.binary(op, a, b) ?? run.emit(node, ['binary', op, a, b], { type: COMPARISONS.has(op) ? 'boolean' : null });
+  const isOwn = node.children.some((child) => run.check.isOwn(child));
+  return run.check.operators.binary(op, a, b, isOwn) ?? run.emit(node, ['binary', op, a, b], { type: COMPARISONS.has(op) ? 'boolean' : null });
 }
 
 function binary(run, node) {
@@ -106,7 +110,7 @@ function binary(run, node) {
 // The old value as a number, and the new one: a number or big integer, so no code runs and nothing fails.
 function stepped(run, node, old) {
   const isNumber = run.values.typeOf(old) === 'number';
-  const number = isNumber ? old : run.check.operators.unary('+', old) ?? run.emit(node, ['numeric', old]);
+  const number = isNumber ? old : run.check.operators.unary('+', old, run.check.isOwn(node.children[0])) ?? run.emit(node, ['numeric', old]);
   const type = run.values.typeOf(number) === 'number' ? 'number' : null;
   return [number, run.values.make(type, 'step', node.form & 1, number)];
 }
@@ -133,7 +137,7 @@ function assign(run, node) {
 
 // Whether the host's name exists is asked before the value is computed.
 function resolve(run, target) {
-  if (target.bits === 0n && !run.assumes.steady) run.emit(target, ['resolve', target.text]);
+  if (target.bits === 0n && !isSteady(run, target.text)) run.emit(target, ['resolve', target.text]);
 }
 
 // A default comes in where its part is undefined, and may not be evaluated.
@@ -178,7 +182,7 @@ function readTarget(run, target) {
 
 // A key that may be an object becomes a text before the value is computed in some editions of ECMA-262, after it in others.
 function keyed(run, target, [, , key]) {
-  const plain = target.kind === K.member || run.values.isPrimitive(key) || run.assumes.plain;
+  const plain = target.kind === K.member || run.values.isPrimitive(key) || (run.assumes.plain && !run.check.isOwn(target.children[1]));
   if (!plain && run.keeps('key')) run.emit(target, ['key', key]);
 }
 
@@ -208,7 +212,7 @@ function call(run, node) {
 function method(run, callee) {
   const place = reference(run, callee);
   const [kind, object] = place;
-  const steady = run.assumes.steady && kind === K.member && run.values.heads.get(object) === 'host';
+  const steady = run.assumes.steady && kind === K.member && run.values.heads.get(object) === 'host' && run.check.keepsMethod(callee.text);
   return [object, steady ? run.values.make(null, 'method', ...place) : run.emit(callee, ['method', ...place])];
 }
 

@@ -1,4 +1,4 @@
-// Operators that run no code and cannot fail on what is known of their operands; null for the others.
+// Operators that run no code and cannot fail on what is known of their operands; null for the others. `isOwn`: an operand may be an object of the script's own.
 'use strict';
 
 const COMPARISONS = new Set(['==', '!=', '===', '!==', '<', '<=', '>', '>=', 'in', 'instanceof']);
@@ -10,20 +10,20 @@ class Operators {
     this.free = assumes.plain || !keeps('operators');
   }
 
-  unary(op, a) {
+  unary(op, a, isOwn = false) {
     if (op === 'void') return this.values.undefined();
     if (op === '!') return this.values.make('boolean', '!', a);
     if (op === 'typeof') return this.values.make('string', 'typeof', a);
     if (this.values.isPrimitive(a)) return this.values.make('number', 'unary', op, a);
-    return this.free ? this.values.make(null, 'unary', op, a) : null;
+    return this.free && !isOwn ? this.values.make(null, 'unary', op, a) : null;
   }
 
-  binary(op, a, b) {
+  binary(op, a, b, isOwn = false) {
     if (op === 'in' || op === 'instanceof') return null;
     const primitive = this.values.isPrimitive(a) && this.values.isPrimitive(b);
     const strict = op === '===' || op === '!==';
     const empty = (op === '==' || op === '!=') && (this.values.isNullish(a) || this.values.isNullish(b));
-    if (!primitive && !strict && !empty && !this.free) return null;
+    if (!primitive && !strict && !empty && (!this.free || isOwn)) return null;
     return this.values.make(this.typeOf(op, a, b, primitive), 'binary', op, a, b);
   }
 

@@ -22,6 +22,7 @@ const WORDS = {
   'write constant': ([, id]) => `the write of the constant \`${nameOf(id)}\``,
   begun: ([, id]) => `the read of \`${nameOf(id)}\`, which may not have begun,`,
   begin: ([, id]) => `the beginning of \`${nameOf(id)}\``,
+  declared: ([, id]) => `the declaration of the function \`${nameOf(id)}\``,
   unary: ([, op]) => `\`${op}\` on what may be an object`,
   binary: ([, op]) => `\`${op}\` on what may be an object`,
   key: () => 'a key that may be an object',

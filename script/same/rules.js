@@ -2,12 +2,12 @@
 // without the rule that script's wrong result would be shown.
 'use strict';
 
-const RULES = `read once order all branch-events allocation operators key host-read method
-foreign captured-write try-write outside-write
+const RULES = `read once order all branch-events allocation operators own-objects key host-read method set-methods
+foreign captured-write try-write outside-write block-function
 uninitialised begin taken-apart one-by-one
 loop catch finally join
 arguments own-arguments stable loop-var initialised reached given-before emptied-around
-moved-function scope function-name renamed
+moved-function scope function-name asked-names renamed
 directive eval global-object open read-by-host called-early head-value`.split(/\s+/);
 
 // `without` is for the tests alone: the rules that are left out.

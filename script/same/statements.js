@@ -36,6 +36,13 @@ function block(run, node, after) {
   run.closeScope(node);
 }
 
+// In sloppy mode a block's function of the script's top becomes a global one where its declaration stands.
+function declaredInBlock(run, node) {
+  const isTop = run.fn.kind === K.script && run.variables.parents.get(node).kind !== K.script;
+  const isSeen = !run.assumes.unread || run.variables.isReachable(node.children[0].text);
+  if (isTop && isSeen && run.keeps('block-function')) onBoth(run, () => run.emit(node, ['declared', identityOf(node.children[0])], { code: false }));
+}
+
 const onBoth = (run, act) => SIDES.forEach((side) => run.on(side, act));
 
 function declaration(run, node, after) {
@@ -260,7 +267,7 @@ function last(run, start, parts, finalizer, jumps) {
 
 const STATEMENTS = {
   [K.empty]: () => {},
-  [K.function]: () => {},
+  [K.function]: declaredInBlock,
   [K.block]: block,
   [K.expression]: (run, node, after) => { same(run, node.children[0], after.children[0]); },
   [K.declaration]: declaration,

@@ -166,16 +166,19 @@ class Variables {
     if (how) this.noteWrite(v, node, how);
   }
 
+  // Whether the script can reach a name of its top through the global object.
+  isReachable(name) { return this.keeps('global-object') && (this.exposed.all || this.exposed.names.has(name)); }
+
   // foreign: may be written while this function's code waits; open: the host can reach it; visible: its writes can be seen.
   finish(v) {
     const { keeps, assumes } = this;
-    const reachable = keeps('global-object') && (this.exposed.all || this.exposed.names.has(v.name));
-    v.open = v.top && ((!assumes.calm && keeps('open')) || reachable);
+    v.open = v.top && ((!assumes.calm && keeps('open')) || this.isReachable(v.name));
     v.foreign = v.kind !== 'own name' && v.writes.some(({ fn }) => fn !== v.fn);
     if (v.kind === 'param' && this.withArguments.has(v.fn) && keeps('arguments')) v.foreign = true;
     if (v.open && v.kind !== 'const') v.foreign = true;
     v.foreign &&= keeps('foreign');
-    v.visible = (keeps('captured-write') && (v.captured || v.foreign || v.open)) || (keeps('try-write') && this.withTry.has(v.fn));
+    const isRead = v.top && !assumes.unread && keeps('read-by-host');
+    v.visible = isRead || (keeps('captured-write') && (v.captured || v.foreign || v.open)) || (keeps('try-write') && this.withTry.has(v.fn));
   }
 
   isInside(node, outer) {

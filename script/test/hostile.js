@@ -128,8 +128,9 @@ class Host {
     return this.random.below(8);
   }
 
-  object(name, method) {
+  object(name, own) {
     const host = this;
+    let method = own;
     const object = new Proxy(method ? function () {} : {}, {
       get(_, key) {
         if (key === Symbol.toPrimitive) return () => host.primitive(object);
@@ -140,6 +141,7 @@ class Host {
       },
       set(_, key, value) {
         host.event(`set ${name}.${String(key)} ${host.show(value)}`);
+        if (key === 'q' && method) method = value;
         return true;
       },
       has(_, key) {

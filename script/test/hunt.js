@@ -10,6 +10,7 @@ const { ScriptTrouble } = require('../src/trouble');
 const { leastLevel } = require('../same/check');
 const { denseScript } = require('./dense_scripts');
 const { gateScript } = require('./gate_scripts');
+const { ownScript } = require('./own_scripts');
 const { patternScript } = require('./pattern_scripts');
 const { difference } = require('./hostile');
 const { resultsOf } = require('./many_results');
@@ -17,6 +18,8 @@ const { Random } = require('./random');
 const { wrongResult } = require('./wrong_results');
 
 const CHUNK = 500;
+// Gate scripts, small ones, and such as have objects of their own; or, where asked for, with patterns.
+const SORTS = [gateScript, denseScript, ownScript];
 
 // Shown at which level, and whether a run tells script and result apart; what is not shown is run only where asked for.
 function outcomeOf(root, result, { runs, seed, runsUnshown }) {
@@ -50,8 +53,8 @@ class Hunt {
   }
 
   chunk(first, count) {
-    const plain = (number) => (number % 3 ? denseScript : gateScript);
-    const texts = Array.from({ length: count }, (_, index) => (this.options.patterns ? patternScript : plain(first + index))(this.seed * 10000000 + first + index));
+    const make = (number) => (this.options.patterns ? patternScript : SORTS[number % SORTS.length])(this.seed * 10000000 + number);
+    const texts = Array.from({ length: count }, (_, index) => make(first + index));
     const built = resultsOf(texts);
     this.scripts += count;
     this.refused += count - built.length;

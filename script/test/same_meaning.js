@@ -119,12 +119,14 @@ const LARGE = [
 // Processor time, since a machine may have other work; the best of some, since the first ones also translate the check itself.
 function isQuick(text) {
   const { root, answer } = build(text, {});
-  const times = Array.from({ length: 5 }, () => {
-    const start = process.cpuUsage();
-    checkResult(root, answer.tree, 'anything');
-    return process.cpuUsage(start).user / 1000;
-  });
-  assert.ok(Math.min(...times) < 50, `${times} ms: ${text.slice(0, 60)}`);
+  for (const level of ['anything', 'plain']) {
+    const times = Array.from({ length: 5 }, () => {
+      const start = process.cpuUsage();
+      checkResult(root, answer.tree, level);
+      return process.cpuUsage(start).user / 1000;
+    });
+    assert.ok(Math.min(...times) < 50, `${level}: ${times} ms: ${text.slice(0, 60)}`);
+  }
 }
 
 // What is kept is shown, printable, and no more than the pass changed; nothing is put back where all is shown.
