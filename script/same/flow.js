@@ -155,7 +155,7 @@ class Flow {
       this.parameters(one, this.variables.withArguments.has(one) ? () => given.includes(true) : isGiven);
       return;
     }
-    if (this.functions.exposes(node)) this.fact('items', this.properties.size > 0 || this.facts.anyName);
+    if (this.functions.exposes(node)) this.fact('items', given.includes(true) || this.properties.size > 0 || this.facts.anyName);
     if (node.kind === K.new || this.callees.mayBe(callee)) this.handOn(given.includes(true));
     if (!isMember(callee)) return;
     this.fact('self', this.mayBe(callee.children[0]));
@@ -175,7 +175,8 @@ class Flow {
     this.fact('items', (given.includes(true) && (isBuiltIn || !STORE_NOTHING.has(callee.text))) || called.some((fn) => this.answering.has(fn)));
     this.fact('anyName', given.includes(true) && isBuiltIn);
     const isDeep = this.deep && this.mayBe(callee.children[0]);
-    const isMore = given.some((is, index) => is && !this.callees.mayBe(list[index]));
+    // More than the function that is to be called.
+    const isMore = given.some((is, index) => is && (index > 0 || !this.callees.mayBe(list[0])));
     for (const fn of called) this.parameters(fn, (index) => isDeep || isMore || this.facts.items || this.answering.has(fn) || (index > 1 && this.hasLists));
   }
 

@@ -254,9 +254,22 @@ function after(host) {
   }
 }
 
+// What a script has made global by writing to a name that nobody declares is gone before the next run.
+function tidied(known) {
+  for (const name of Object.getOwnPropertyNames(globalThis)) if (!known.has(name)) delete globalThis[name];
+}
+
 // One run: what the host saw.
 function runOnce(main, seed, level) {
-  const host = new Host(seed, level);
+  const known = new Set(Object.getOwnPropertyNames(globalThis));
+  try {
+    return runIn(new Host(seed, level), main, level);
+  } finally {
+    tidied(known);
+  }
+}
+
+function runIn(host, main, level) {
   current = host;
   try {
     main((top) => { host.top = top; }, () => host.step());

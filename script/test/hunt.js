@@ -23,9 +23,9 @@ const SORTS = [gateScript, denseScript, ownScript];
 
 // Shown at which level, and whether a run tells script and result apart; what is not shown is run only where asked for.
 function outcomeOf(root, result, { runs, seed, runsUnshown }) {
-  const level = leastLevel(root, result);
-  if (!level && !runsUnshown) return { level: 'not shown', differs: null };
   try {
+    const level = leastLevel(root, result);
+    if (!level && !runsUnshown) return { level: 'not shown', differs: null };
     return { level: level ? level.name : 'not shown', differs: difference(root, result, level ? level.name : 'plain', runs, seed) };
   } catch (error) {
     // Some wrong results are no JavaScript.

@@ -77,14 +77,21 @@ const WAYS = [
   'var w0 = Array.from([1], () => x0)[0];', 'var t0 = JSON.parse("{}"); t0.p = x0; var w0 = t0.p;', 'var make = Object.values; var w0 = make({ p: x0 })[0];', 'var t0 = { p: x0 }; for (var y in t0) { var w0 = t0[y]; }', 'const t0 = { p: null }; t0.p ||= x0; var w0 = t0.p;',
   'var t0 = [1]; t0[0] = x0; var [w0] = t0;', 'switch (1) { case 1: var w0 = x0; }', 'var t0 = { p: function () { return this.q; }, q: x0 }; var w0 = t0.p();', 'var w0 = (function () { return this; }).bind(x0)();', 'var w0 = [x0].sort()[0];',
 ];
+// How it comes to a function that is called with it.
+const INSIDE = [
+  '[x0].forEach(function (w0) { STEPS });', '[1].reduce(function (w0) { STEPS }, x0);', '[1].map(function (y, i, w0) { x0 = w0; STEPS });', 'function f0(w0) { STEPS } f0(x0);', 'function f0(w0) { STEPS } [x0].map(f0);',
+  '(function (w0) { STEPS })(x0);', 'function f0(w0) { STEPS } f0.call(1, x0);', 'function f0() { var w0 = arguments[0]; STEPS } f0.apply(1, [x0]);', 'function f0() { var w0 = this; STEPS } f0.call(x0);',
+  'const t0 = { p: function (w0) { STEPS } }; t0.p(x0);', 'const t0 = { p: function ({ q: w0 }) { STEPS } }; t0.p({ q: x0 });', 'const f0 = function (w0) { STEPS }.bind(1, x0); f0();', 'Array.from([x0], function (w0) { STEPS });', 'new Map([[1, x0]]).forEach(function (w0) { STEPS });',
+  'const f0 = (w0) => { STEPS }; const f1 = k() ? f0 : f0; f1(x0);', 'function f0(y, w0 = x0) { STEPS } f0();', 'Object.values({ p: x0 }).forEach(function (w0) { STEPS });', 'function F0(w0) { STEPS } new F0(x0);', 'try { throw x0; } catch (w0) { STEPS }', 'for (const w0 of [x0]) { STEPS }',
+];
 const OPERATED = ['w0 + ""', 'w0 + 1', '1 + w0', '-w0', 'w0 == 1', 'w0 < 5', 'w0 - 1', '(w0, w0) + ""', '(k() ? w0 : 1) + 1', '[w0][0] + ""', 'typeof (w0 + 1)', '`${w0}`', 'w0 * 2', '!(w0 == 1)', '(w0 || 1) + 1', 'w0.name', 'w0["na" + "me"]', 'w0.constructor.name', 'w0.prototype + ""', 'o[w0]'];
 const CHANGED = ['x0.push(2);', 'x0[0] = 5;', 'x0.valueOf = () => 7;', 'x0.toString = () => "t";', 'v0 = 8;', 'w0.push(2);', 'w0[0] = 5;', 'w0.valueOf = () => 7;', 'u0 = x0; u0.push(2);', 'x0.length = 0;', 'x0.p = 4; v0++;', 'o.q = x0; x0.push(3);'];
 const USED = ['g(b0);', 'if (b0) { v0 = 9; }', 'return b0;', 'h = b0;', 'o.q(b0);', 'g(b0 + 1);'];
 
 // An object is made, comes to a name by some way, meets an operator, is changed, and the operator's value is used.
 function wayScript(random) {
-  const [kind] = [random.pick(['var', 'let'])];
-  const way = random.chance(0.15) ? `[x0].forEach(function (w0) { STEPS });` : `${random.pick(WAYS)} STEPS`;
+  const kind = random.pick(['var', 'let']);
+  const way = random.chance(0.2) ? random.pick(INSIDE) : `${random.pick(WAYS)} STEPS`;
   const some = () => (random.chance(0.2) ? 'g(3);' : '');
   const steps = `${some()} ${kind} b0 = ${random.pick(OPERATED)}; ${some()} ${random.pick(CHANGED)} ${random.chance(0.3) ? random.pick(CHANGED) : ''} ${random.pick(USED)}`;
   return `function Box(y) { this.p = y; }\nfunction m0() { var v0 = 1, u0; var x0 = ${random.pick(MADE)};\n${way.replace('STEPS', () => steps)}\n}\nm0(1);\n`;
