@@ -2,10 +2,9 @@
 use Rattle.std.specs.Prelude.{◌≡◌, ◌⊎◌, Bool, List, [], ◌∷◌, map, ℕ, ◌<◌, ◌≤◌, T, length, get_or}
 use Rattle.def_file.specs.declared.Raw.{Raw}
 use Rattle.def_file.specs.Script.{Script, is_lit, has_id, same_id, is_arguments, node_at, zero_node}
-use Rattle.def_file.specs.Read.{script, read}
 use Rattle.def_file.specs.Write.{file}
-use Rattle.def_pass.specs.Script.{Out, Root, Answer, no!, yes!, pass_file}
-use Rattle.def_pass.specs.Entry.{Entry, refused, passed, entry}
+use Rattle.def_pass.specs.Script.{Out, Root, Answer, no!, yes! }
+use Rattle.def_pass.specs.Entry.{Entry, refused, passed}
 
 -- agree in kind, form and child count
 pub record Agree (x y : Raw) : Type 0 where
@@ -83,11 +82,6 @@ abbrev pub Kept : Script → Answer → Type 0
 Kept s (no! n) = Unit {0}
 Kept s (yes! k c xs rs) = KeptAll s xs
 
--- demand 3, from the bytes of two files on: for every pair and run limit
-abbrev pub Demand3 : Type 0
-Demand3 = (as' bs : List ℕ) (a b : Script) → read as' ≡ script a → read bs ≡ script b → Paired a b → (n : ℕ)
-    → Alike a b (pass_file n as') (pass_file n bs) × Kept a (pass_file n as') × Kept b (pass_file n bs)
-
 -- the result file of a script, as Entry writes it
 abbrev pub file_of : Script → List Out → List ℕ
 file_of s xs = file (record { nodes = map (λ (x : Out). x.raw) xs; texts = s.texts })
@@ -110,8 +104,3 @@ AlikeEntry a b (refused n) (refused m) = n ≡ m
 AlikeEntry a b (refused n) (passed m l d out' ss) = n ≡ 10
 AlikeEntry a b (passed n k c out rs) (refused m) = m ≡ 10
 AlikeEntry a b (passed n k c out rs) (passed m l d out' ss) = AlikePassed a b n m k l c d out out' rs ss
-
--- demand 3 about the whole entry: for every pair, run limit, number of working words and room for each result
-abbrev pub Demand3Entry : Type 0
-Demand3Entry = (as' bs : List ℕ) (a b : Script) → read as' ≡ script a → read bs ≡ script b → Paired a b → (runs words room room' : ℕ)
-    → AlikeEntry a b (entry runs words as' room) (entry runs words bs room')

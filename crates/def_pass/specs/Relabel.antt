@@ -1,8 +1,8 @@
--- No step looks at the origin of a literal or of an assignment: relabelling the origins of a tree and then passing is passing and then relabelling.
-use Rattle.std.specs.Prelude.{◌≡◌, Bool, ◌||◌, ℕ, eqb}
+-- A tree and an outcome with other origins of literals and assignments.
+use Rattle.std.specs.Prelude.{Bool, ◌||◌, ℕ, eqb}
 use Rattle.def_tree.specs.Base.{pick}
 use Rattle.def_pass.specs.Tree.{Tree, Forest, node, nil, cons}
-use Rattle.def_pass.specs.Walk.{core_pass, Outcome, refused, result}
+use Rattle.def_pass.specs.Walk.{Outcome, refused, result}
 
 -- the number of a literal, and of an assignment (33), is its origin (see Tree)
 abbrev pub has_origin : ℕ → Bool
@@ -19,7 +19,3 @@ abbrev mutual
 abbrev pub relabel_out : (ℕ → ℕ) → Outcome → Outcome
 relabel_out r (refused n) = refused n
 relabel_out r (result k c t ms) = result k c (relabel r t) ms
-
--- 0 stays 0: it is the origin of the zero that the pass writes
-abbrev pub OriginBlind : Type 0
-OriginBlind = (r : ℕ → ℕ) → r 0 ≡ 0 → (n : ℕ) (t : Tree) → core_pass n (relabel r t) ≡ relabel_out r (core_pass n t)

@@ -1,4 +1,4 @@
--- What the pass asks of a tree is the same after its origins are relabelled (`OriginBlind` of specs/Relabel). Assumes nothing.
+-- What the pass asks of a tree is the same after its origins are relabelled (`OriginBlind` of specs/Demand). Assumes nothing.
 use mathlib.Core.Path.{◌≡◌, refl, ap, ap₂, ◌∙◌, subst, fun_ext}
 use mathlib.Core.Bool.{Bool, true, false, ◌&&◌, ◌||◌}
 use mathlib.Core.Option.{Option, none, some}

@@ -9,7 +9,8 @@ use lib.ListN.{length, get_or, length-map}
 use Rattle.def_tree.specs.Base.{pick}
 use Rattle.def_tree.specs.Combine.{Res, stop, done, Nothing, and_then, ◌>>=◌, ◌>>◌, ret, refuse, iff, within, each, split, each_but, on_kids}
 use Rattle.def_pass.specs.Tree.{Tree, Forest, node, nil, cons, form, num, head_t, tail_f, is_ident, is_cheap, is_member, bound_names, has_this, count, height, ident_list, ident_list_f, void_zero}
-use Rattle.def_pass.specs.Relabel.{relabel, relabel_f, relabel_out, OriginBlind}
+use Rattle.def_pass.specs.Relabel.{relabel, relabel_f, relabel_out}
+use Rattle.laws_pass.specs.Demand.{OriginBlind}
 use Rattle.def_pass.specs.Twice.{is_twice, is_args, flagged}
 use Rattle.def_pass.specs.Scope as Scope
 use Rattle.def_pass.specs.Scope.{VarInfo, Stack, Init}

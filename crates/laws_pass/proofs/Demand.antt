@@ -5,7 +5,8 @@ use lib.Dec.{leb}
 use Rattle.def_file.specs.Read.{Read, read}
 use Rattle.def_pass.specs.Script.{pass, pass_read, pass_file}
 use Rattle.def_pass.specs.Entry.{refused, entry_read, entry}
-use Rattle.def_pass.specs.Paired.{Alike, Kept, Demand3, AlikeEntry, Demand3Entry}
+use Rattle.def_pass.specs.Paired.{Alike, Kept, AlikeEntry}
+use Rattle.laws_pass.specs.Demand.{Demand3, Demand3Entry}
 use Rattle.laws_pass.proofs.Alike.{alike, kept}
 use Rattle.laws_pass.proofs.Written.{written-alike}
 

@@ -3,7 +3,6 @@ use mathlib.Core.Path.{◌≡◌, refl, sym, ap, ◌∙◌}
 use mathlib.Core.List.{List}
 use mathlib.Core.Bool.{Bool, true, false}
 use Prim.Native.Nat.{ℕ}
-use native.Mathlib.Omega.{arith}
 use lib.ListN.{length, get_or}
 use Rattle.std.specs.Prelude.{Result, Ok, Err}
 use Rattle.refusal.specs.declared.Refusal.{Refusal}
@@ -11,24 +10,14 @@ use Rattle.refusal.specs.Number.{number}
 use Rattle.def_tree.specs.Combine.{Res, stop, done, Nothing, and_then}
 use Rattle.def_pass.specs.Scope.{Stack}
 use Rattle.def_pass.specs.Walk.{St, M, set_stack, mark, grow}
+use Rattle.words.specs.Layout.{tree}
 use Rattle.words.proofs.Nodes.{tree-length}
 use Rattle.words_scopes.specs.State.{Becomes, stack}
-use Rattle.scope_values.specs.Steps.{Still, Grown, over}
+use Rattle.scope_values.specs.Steps.{Grown, over}
 use Rattle.words_nodes.specs.Nodes.{Planted}
-use Rattle.words_state.specs.State as state
 use Rattle.words_state.specs.State.{rest}
 use Rattle.words_state.proofs.Fields.{becomes-rest, becomes-ok, count_kept, ok-self, ok-then}
 use Rattle.scope.specs.Steps.{done_of, Moves}
-
-pub still-ok : {w u : List ℕ} → Planted w → length u ≡ length w → Still w u → state.Ok w u
-still-ok g z b = record {
-  planted = record { good = b.good; one = rw b.tree g.one };
-  size = z;
-  idents = b.others.low 4 (omega arith) (omega arith);
-  reserved = λ j l h. b.others.low j (omega arith) h;
-  high = b.others.high;
-  rest = b.rest;
-}
 
 pub rest-stack : (w : List ℕ) → (rest w).stack ≡ stack w
 unfolding rest
@@ -56,8 +45,8 @@ module _ {w u : List ℕ} (f : Stack → Stack) (g : Planted w) (z : length u �
     is = grow-by f (rest w) false (rw (rest-stack w) b.1) ∙ ap (λ (s : St). done s tt) (stack-after b.0);
   }
   grown-moves (Err r) b = record {
-    ok = still-ok g z b.2;
-    nodes = b.2.tree;
+    ok = rw b.2 (ok-self g);
+    nodes = ap tree b.2;
     is = grow-by f (rest w) true (rw (rest-stack w) b.1) ∙ ap (λ (q : Refusal). stop (number q)) (sym b.0);
   }
 

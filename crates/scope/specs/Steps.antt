@@ -18,13 +18,14 @@ abbrev pub done_of : {S A : Type 0} → Result A Refusal → S → Res S A
 done_of (Ok a) s = done s a
 done_of (Err r) s = stop (number r)
 
--- m is what the definition does from the state of w, r the same by the step's answer
+-- m is what the definition does from the state of w, r the same by the step's answer; the tree's nodes are as they were after a refusal, too
 pub record Moves {A : Type 0} (w u : List ℕ) (m r : Res St A) : Type 0 where
   pub ok : state.Ok w u
   pub nodes : tree u ≡ tree w
   pub is : m ≡ r
 
--- m is what the definition does on the list of nodes from the state of w: a step answers r and leaves the words u. After a refusal nothing is said of the state
+-- m is what the definition does on the list of nodes from the state of w: a step answers r and leaves the words u. After a refusal `ok` says what is kept of
+-- what was done so far: the words stand for some state, and their length, word 4, words 14 and 15 and those from 8,336 on are as they were
 pub record Did {A : Type 0} (w u : List ℕ) (r : Result A Refusal) (m : Res (Flat St) A) : Type 0 where
   pub ok : state.Ok w u
   pub is : m ≡ done_of r (abs u)

@@ -2,7 +2,7 @@
 // state. The look-ups are in crates/scope_var_info; a node or a value that the state has not is answered as none.
 #![tactic(auto)]
 
-ghost use Rattle.std.specs.Prelude.{◌≡◌, ◌&&◌, not};
+ghost use Rattle.std.specs.Prelude.{◌≡◌, ◌&&◌, not, OnErr};
 ghost use Rattle.def_pass.specs.Scope.{declare, is_var, add_const, change, defined, with_value};
 ghost use Rattle.def_pass.specs.Walk.{declare_m};
 ghost use Rattle.words.specs.Layout.{tree};
@@ -84,7 +84,8 @@ pub fn declare_m(
     kind: VarType,
 ) -> Result<(), Refusal>
     requires { Planted w.old }
-    ensures { Moves w.old w.new (declare_m (named name.form name.ident) (init_o (tree w.old) v) is_change (type_of kind) (rest w.old)) (done_of result (rest w.new)) }
+    ensures did { Moves w.old w.new (declare_m (named name.form name.ident) (init_o (tree w.old) v) is_change (type_of kind) (rest w.old)) (done_of result (rest w.new)) }
+    ensures kept { OnErr result (w.new ≡ w.old) }
 {
     let e = sited(w, v);
     let undefined = undefined_now(w, e, is_change);

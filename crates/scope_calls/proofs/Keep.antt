@@ -27,7 +27,11 @@ became r b = keep r b.good b.tree
 -- a step keeps it, whether it is refused or not
 pub limited : (n : Refusal) (t : Bool) (w u : List ℕ) (st : Stack) (s : Result Unit Refusal) → Planted w → records.Limited n t w u st s → Planted u
 limited n t w u st (Ok _) r l = became r l.0
-limited n t w u st (Err _) r l = keep r l.2.good l.2.tree
+limited n t w u st (Err _) r l = rw l.2 r
+
+pub late : (w u : List ℕ) (st : Stack) (s : Result Unit Refusal) → Planted w → records.GrownLate w u st s → Planted u
+late w u st (Ok _) r l = became r l.0
+late w u st (Err _) r l = keep r l.2.good l.2.tree
 
 -- no scope and no node
 pub cleared : {w u : List ℕ} → 16384 ≤ length w → Cleared w u → Begun u []

@@ -11,7 +11,7 @@ use lib.Seq.{get_or-drop, get_or_at, set_at, drop-set-add, take-set-le}
 use Rattle.def_tree.specs.Base.{pick}
 use Rattle.def_tree.specs.Tree.{Tree, Core, first_t, plant}
 use Rattle.def_pass.specs.Tree.{count_o}
-use Rattle.def_pass.specs.Scope.{VarInfo, Stack, VarType, find_in, has_in, is_some, change_in, change, on_bindings, append, fresh, redeclare, with_value, value_o, values_in, recorded_nodes, live, prevent, prevent_one, prevent_inline, prevent_inline_o, find_binding_from_current, value_is, kept}
+use Rattle.def_pass.specs.Scope.{VarInfo, Stack, VarType, find_in, has_in, is_some, change_in, change, on_bindings, append, fresh, redeclare, defined, with_value, value_o, values_in, values_of, recorded_nodes, live, prevent, prevent_one, prevent_inline, prevent_inline_o, find_binding_from_current, value_is, kept}
 use Rattle.words_scopes.specs.State.{Good, Becomes, binds, stack, bind_at, off, coff, value_of}
 use Rattle.words_scopes.proofs.Split as laws
 use Rattle.words.specs.declared.Run.{Run}
@@ -45,7 +45,7 @@ module _ (x : ℕ) (f g : VarInfo → VarInfo) (same : (b : VarInfo) → (f b).i
       (λ e. ap (change_in x g) (laws.change-yes x b bs f e) ∙ laws.change-yes x (f b) bs g (kept-name b true e) ∙ sym (laws.change-yes x b bs (λ b. g (f b)) e))
       (λ e. ap (change_in x g) (laws.change-no x b bs f e) ∙ laws.change-no x b (change_in x f bs) g e ∙ ap (λ (l : List VarInfo). b ∷ l) (twice_in bs) ∙ sym (laws.change-no x b bs (λ b. g (f b)) e))
 
-  pub change-twice : (st : Stack) → change x g (change x f st) ≡ change x (λ b. g (f b)) st
+  change-twice : (st : Stack) → change x g (change x f st) ≡ change x (λ b. g (f b)) st
   change-twice [] = refl
   change-twice (s ∷ st) = laws.tested (has_in x s.bindings)
       (λ e. ap (change x g) (laws.here-yes x f s st e) ∙ laws.here-yes x g (on_bindings (change_in x f) s) st (has-after s.bindings ∙ e) ∙ ap (λ (l : List VarInfo). on_bindings (λ bs. l) s ∷ st) (twice_in s.bindings) ∙ sym (laws.here-yes x (λ b. g (f b)) s st e))
@@ -94,6 +94,43 @@ live-marked i (s ∷ st) = omega (arith, marked-length i s.bindings, live-marked
 
 pub over-marked : (i : ℕ) (st : Stack) → over (prevent_inline i st) ≡ over st
 over-marked i st = rw (recorded_marked i st, live-marked i st) refl
+
+-- and of a change that keeps the value
+module _ (x : ℕ) (f : VarInfo → VarInfo) (same : (b : VarInfo) → nodes_b (f b) ≡ nodes_b b) where
+  changed-values : (bs : List VarInfo) → values_in (change_in x f bs) ≡ values_in bs
+  changed-values [] = refl
+  changed-values (b ∷ bs) = laws.tested (eqb b.id x)
+      (λ e. ap values_in (laws.change-yes x b bs f e) ∙ ap (λ (n : ℕ). n + values_in bs) (same b))
+      (λ e. ap values_in (laws.change-no x b bs f e) ∙ ap (λ (n : ℕ). nodes_b b + n) (changed-values bs))
+
+  changed-length : (bs : List VarInfo) → length (change_in x f bs) ≡ length bs
+  changed-length [] = refl
+  changed-length (b ∷ bs) = laws.tested (eqb b.id x)
+      (λ e. ap length (laws.change-yes x b bs f e))
+      (λ e. ap length (laws.change-no x b bs f e) ∙ ap suc (changed-length bs))
+
+  recorded-changed : (st : Stack) → recorded_nodes (change x f st) ≡ recorded_nodes st
+  recorded-changed [] = refl
+  recorded-changed (s ∷ st) = laws.tested (has_in x s.bindings)
+      (λ e. ap recorded_nodes (laws.here-yes x f s st e) ∙ ap (λ (n : ℕ). n + values_of s.constants + recorded_nodes st) (changed-values s.bindings))
+      (λ e. ap recorded_nodes (laws.here-no x f s st e) ∙ ap (λ (n : ℕ). values_in s.bindings + values_of s.constants + n) (recorded-changed st))
+
+  live-changed : (st : Stack) → live (change x f st) ≡ live st
+  live-changed [] = refl
+  live-changed (s ∷ st) = laws.tested (has_in x s.bindings)
+      (λ e. ap live (laws.here-yes x f s st e) ∙ ap (λ (n : ℕ). n + length s.constants + live st) (changed-length s.bindings))
+      (λ e. ap live (laws.here-no x f s st e) ∙ ap (λ (n : ℕ). length s.bindings + length s.constants + n) (live-changed st))
+
+  over-changed : (st : Stack) → over (change x f st) ≡ over st
+  over-changed st = rw (recorded-changed st, live-changed st) refl
+
+-- a first value: recorded, and then defined
+module _ (x : ℕ) (v : Option Tree) (st : Stack) where
+  pub first-is : change x defined (change x (with_value v) st) ≡ change x (λ b. defined (with_value v b)) st
+  first-is = change-twice x (with_value v) defined (λ b. refl) st
+
+  pub over-first : over (change x (λ b. defined (with_value v b)) st) ≡ over (change x (with_value v) st)
+  over-first = ap over (sym first-is) ∙ over-changed x defined (λ b. refl) (change x (with_value v) st)
 
 -- the last binding overwritten
 abbrev set_last : VarInfo → Stack → Stack

@@ -11,7 +11,7 @@ use words::{layout, set_flag};
 use words_scopes::kinds::ScopeKind;
 use words_scopes::{current, find_binding};
 
-// What `this` is matters to the innermost binding of x. It and words_scopes' `define` and `prevent_found` change one word each: one function would
+// What `this` is matters to the innermost binding of x. It and words_scopes' `define` change one word each: one function would
 // take the word, its value and the definition, and be called by no other name.
 pub fn mark_this_sensitive(w: &mut [u32], x: u8)
     requires { Good w.old }

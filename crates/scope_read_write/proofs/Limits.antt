@@ -14,7 +14,7 @@ use Rattle.def_pass.specs.Walk.{St, set_stack, grow}
 use Rattle.words_scopes.specs.State.{stack, Good, Becomes}
 use Rattle.words_scopes.proofs.Words.{others-self}
 use Rattle.scope_find.specs.Look.{scope_at, below}
-use Rattle.scope_values.specs.Steps.{over, Still, Grown}
+use Rattle.scope_values.specs.Steps.{over, Still, Grown, GrownLate}
 use Rattle.std.proofs.Common.{Result, Ok, Err}
 use Rattle.refusal.specs.declared.Refusal.{Refusal}
 use Rattle.scope_values.proofs.Count.{recorded-is}
@@ -60,17 +60,13 @@ step-yes t e q b = rw (e, q) b
 pub step-no : {w v : List ℕ} {p : Bool} (s : Stack) → Good w → p ≡ false → v ≡ w → Becomes w v (pick p s (stack w))
 step-no {w} s g e q = rw (e, q) (becomes-self w g)
 
-still-then : {u v w : List ℕ} {s : Stack} → Becomes u v s → Still v w → Still u w
-still-then a b = record {
-  good = b.good;
-  tree = b.tree ∙ a.tree;
-  others = record { low = λ j l h. b.others.low j l h ∙ a.others.low j l h; high = λ j l h. b.others.high j l h ∙ a.others.high j l h };
-  rest = b.rest ∙ a.rest;
-}
+became-still : {u v : List ℕ} {s : Stack} → Becomes u v s → Still u v
+became-still a = record { good = a.good; tree = a.tree; others = a.others; rest = a.rest }
 
-pub stepped_then : {u v : List ℕ} {s : Stack} (w : List ℕ) (f : Stack → Stack) (r : Result Unit Refusal) → Becomes u v s → Grown v w (f (stack v)) r → Grown u w (f s) r
+-- marks, and then a step that may be refused
+pub stepped_then : {u v : List ℕ} {s : Stack} (w : List ℕ) (f : Stack → Stack) (r : Result Unit Refusal) → Becomes u v s → Grown v w (f (stack v)) r → GrownLate u w (f s) r
 stepped_then w f (Ok _) a b = (becomes-then f a b.0, sym (ap (λ (t : Stack). over (f t)) a.is) ∙ b.1)
-stepped_then w f (Err _) a b = (b.0, sym (ap (λ (t : Stack). over (f t)) a.is) ∙ b.1, still-then a b.2)
+stepped_then w f (Err _) a b = (b.0, sym (ap (λ (t : Stack). over (f t)) a.is) ∙ b.1, rw b.2 (became-still a))
 
 -- the definition's `grow`, by row 9
 module _ (f : Stack → Stack) (s : St) where

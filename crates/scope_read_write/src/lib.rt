@@ -4,7 +4,7 @@
 ghost use Rattle.std.specs.Prelude.{◌≡◌, true};
 ghost use Rattle.def_pass.specs.Scope.{prevent_inline, add_read, add_write};
 ghost use Rattle.words_scopes.specs.State.{Good, Becomes, stack};
-ghost use Rattle.scope_values.specs.Steps.{Grown};
+ghost use Rattle.scope_values.specs.Steps.{Grown, GrownLate};
 ghost use Rattle.scope_find.specs.Answers.{write_bound, write_free, write_to};
 ghost use Rattle.scope_read_write.specs.Writes.{forced};
 
@@ -92,10 +92,10 @@ fn write_to(w: &mut [u32], x: u8, how: Write, marked: bool) -> Result<(), Refusa
     write_free(w, x, how)
 }
 
-// x is written; `args`: its name is `arguments`.
+// x is written; `args`: its name is `arguments`. The marks come before the test of row 9: a refused write leaves them.
 pub fn add_write(w: &mut [u32], x: u8, args: bool, how: Write) -> Result<(), Refusal>
     requires { Good w.old }
-    ensures { Grown w.old w.new (add_write x args (forced how) (stack w.old)) result }
+    ensures { GrownLate w.old w.new (add_write x args (forced how) (stack w.old)) result }
 {
     let far = write_prevents_inline(w, x);
     if far {

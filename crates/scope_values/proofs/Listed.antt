@@ -20,12 +20,12 @@ use Rattle.words_scopes.proofs.Split as laws
 use Rattle.words_scopes.proofs.Words.{Kept, kept-heads, kept-flags, kept-consts, kept-tree, kept-good, bind-eq, words-bind}
 use Rattle.words.specs.declared.Run.{Run}
 use Rattle.words.specs.declared.layout.Table.{Table}
-use Rattle.scope_values.specs.Steps.{Listed, Still, Refilled, len_in, run_in, over, put_at, Grown, Offered, run_value}
+use Rattle.scope_values.specs.Steps.{Listed, Refilled, len_in, run_in, over, put_at, Grown, Offered, run_value}
 use Rattle.scope_values.proofs.Count.{depth_is, count-whole, nodes_b, total-set, recorded-split, live-split, recorded-is, live-is, total-binds, total-consts, length-binds, length-consts, fits-binds, fits-consts, nodes-bind}
 use Rattle.scope_values.proofs.Store as store
 use Rattle.scope_values.proofs.Store.{refilled-sum}
 use Rattle.refusal.specs.declared.Refusal.{Refusal}
-use Rattle.std.proofs.Common.{Result, Ok, Err}
+use Rattle.std.proofs.Common.{Result, Ok, Err, OnErr}
 
 pub others-then : {u v w : List ℕ} → Others u v → Others v w → Others u w
 others-then a b = record { low = λ j l h. b.low j l h ∙ a.low j l h; high = λ j l h. b.high j l h ∙ a.high j l h }
@@ -36,14 +36,8 @@ becomes-then a b = record { good = b.good; is = b.is; tree = b.tree ∙ a.tree; 
 pub becomes-next : {u v w : List ℕ} {s : Stack} (f : Stack → Stack) → Becomes u v s → Becomes v w (f (stack v)) → Becomes u w (f s)
 becomes-next {u} {v} {w} f a b = becomes-then a (subst (λ (t : Stack). Becomes v w (f t)) a.is b)
 
-pub still-self : (w : List ℕ) → Good w → Still w w
-still-self w g = record { good = g; tree = refl; others = record { low = λ j a b. refl; high = λ j a b. refl }; rest = refl }
-
 pub becomes-self : (w : List ℕ) (st : Stack) → Good w → stack w ≡ st → Becomes w w st
 becomes-self w st g e = record { good = g; is = e; tree = refl; others = record { low = λ j a b. refl; high = λ j a b. refl }; rest = refl }
-
-pub still_after : {u v w : List ℕ} {s : Stack} → Becomes u v s → Still v w → Still u w
-still_after a b = record { good = b.good; tree = b.tree ∙ a.tree; others = others-then a.others b.others; rest = b.rest ∙ a.rest }
 
 pub listed_then : {u v w : List ℕ} {bs bs' : List VarInfo} {cs cs' : List (ℕ × Option Tree)} → Listed u v bs cs → Listed v w bs' cs' → Listed u w bs' cs'
 listed_then a b = record {
@@ -151,6 +145,11 @@ good-under w g = rw (le-ltb 512 (recorded_nodes (stack w)) (omega (arith, record
 pub done-under : {w w' : List ℕ} {st : Stack} → Becomes w w' st → Grown w w' st (Ok tt)
 done-under {w} {w'} b = (b, sym (ap over b.is) ∙ good-under w' b.good)
 
+-- refused, a step leaves the words as they were
+pub grown-kept : (w w' : List ℕ) (st : Stack) (r : Result Unit Refusal) → Grown w w' st r → OnErr r (w' ≡ w)
+grown-kept w w' st (Ok x) g = tt
+grown-kept w w' st (Err e) g = g.2
+
 -- the bindings' values, as a store
 abbrev pub lengths : Table
 lengths = record { base = 4120; stride = 10 }
@@ -243,8 +242,3 @@ stack-none w z = nothing (stack w) (depth_is w ∙ z)
     nothing : (st : Stack) → length st ≡ 0 → st ≡ []
     nothing [] e = refl
     nothing (s ∷ st) e = absurd (omega arith)
-
--- a step, and then one that may be refused
-pub grown-after : {u v : List ℕ} {s : Stack} (w : List ℕ) (t : Stack) (r : Result Unit Refusal) → Becomes u v s → Grown v w t r → Grown u w t r
-grown-after w t (Ok u) a b = (becomes-then a b.0, b.1)
-grown-after w t (Err n) a b = (b.0, b.1, still_after a b.2)

@@ -64,17 +64,17 @@ refill r b = record { id = b.id; kind = type_of r.kind; alias_of = alias_of r.al
 abbrev pub over : Stack → Bool
 over st = ltb 512 (recorded_nodes st) || ltb 256 (live st)
 
--- the words stand for a state, whatever it is
+-- the words stand for a state, whatever it is: the tree, the words that no scope has, and those past the first 16,384 are as they were
 pub record Still (w w' : List ℕ) : Type 0 where
   pub good : Good w'
   pub tree : tree w' ≡ tree w
   pub others : Others w w'
   pub rest : beyond w' ≡ beyond w
 
--- a step to st that is refused where a test holds
+-- a step to st that is refused where a test holds, before it stores anything
 abbrev pub Limited : Refusal → Bool → List ℕ → List ℕ → Stack → Result Unit Refusal → Type 0
 Limited n test w w' st (Ok _) = Becomes w w' st × (test ≡ false)
-Limited n test w w' st (Err r) = (r ≡ n) × (test ≡ true) × Still w w'
+Limited n test w w' st (Err r) = (r ≡ n) × (test ≡ true) × (w' ≡ w)
 
 -- a refusal for want of room, if a test holds
 abbrev pub Roomed : Result Unit Refusal → Bool → Type 0
@@ -84,6 +84,11 @@ Roomed (Err r) test = (r ≡ Room) × (test ≡ true)
 -- definition's `grow`
 abbrev pub Grown : List ℕ → List ℕ → Stack → Result Unit Refusal → Type 0
 Grown w w' st r = Limited Room (over st) w w' st r
+
+-- the same of a step that marks bindings before it is refused
+abbrev pub GrownLate : List ℕ → List ℕ → Stack → Result Unit Refusal → Type 0
+GrownLate w w' st (Ok x) = Grown w w' st (Ok x)
+GrownLate w w' st (Err r) = (r ≡ Room) × (over st ≡ true) × Still w w'
 
 -- the value that a run of the tree's nodes is, none if it is empty
 abbrev pub run_value : List ℕ → Run → Option Tree

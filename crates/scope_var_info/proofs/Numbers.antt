@@ -30,7 +30,7 @@ use Rattle.scope_find.proofs.Facts.{with_index as at_index, idx-find}
 use Rattle.words_nodes.specs.Nodes.{tree_from, value_from, Swapped}
 use Rattle.words_nodes.proofs.Trees.{count-some}
 use Rattle.words_nodes.proofs.Splice.{run-count}
-use Rattle.scope_var_info.specs.Handles.{bindings_of, numbered, tree_o, with_index, IsBinding, indexed, of_constants, Held, held, Puts}
+use Rattle.scope_var_info.specs.Handles.{bindings_of, numbered, tree_o, with_index, IsBinding, indexed, of_constants, Held, value_tree, Puts}
 
 no-elements : {A : Type 0} (xs : List A) → length xs ≡ 0 → xs ≡ []
 no-elements [] e = refl
@@ -156,9 +156,9 @@ module _ (w : List ℕ) (x : ℕ) where
 pub held-count : {w : List ℕ} {base at m : ℕ} → Held w base at m → count (value_from w base at m) ≡ m
 held-count {w} {base} {at} {m} h = run-count w base at m h.some h.whole
 
-pub held-some : (o : Option Tree) → 0 < count_o o → o ≡ some (held o)
-held-some none z = absurd (omega arith)
-held-some (some t) z = refl
+pub value_tree-some : (o : Option Tree) → 0 < count_o o → o ≡ some (value_tree o)
+value_tree-some none z = absurd (omega arith)
+value_tree-some (some t) z = refl
 
 pub count_none : (o : Option Tree) → count_o o ≡ 0 → o ≡ none
 count_none none z = refl

@@ -73,9 +73,9 @@ counted_o none = none
 counted_o (some t) = some (count t)
 
 -- the tree of a value that there is
-abbrev pub held : Option Tree → Tree
-held none = node 0 0 0 nil
-held (some t) = t
+abbrev pub value_tree : Option Tree → Tree
+value_tree none = node 0 0 0 nil
+value_tree (some t) = t
 
 -- a value in the place of the tree at a node, or a row refuses; nothing where there is no node, or no value
 abbrev pub Puts : Result Unit Refusal → List ℕ → List ℕ → ℕ → ℕ → Option Tree → Option Tree → Type 0

@@ -1,6 +1,8 @@
-// mod.rs: its walks over the tree's nodes in the working words. They call each other in a cycle; the depth that is left falls at every call.
-// p, d, i: the depth of node i, and the levels left below it; n, i: n trees from node i on. Parameters and no struct: each of them changes alone from
-// call to call (p + 1, d - 1, i by a subtree's length, n - 1), so that a struct would be made anew at each call.
+// mod.rs: its walks over the tree's nodes in the working words. They call each other in a cycle.
+// p, d, i: the depth of node i, and the levels left below it; l: these and its own; n, i: n trees from node i on. Parameters and no struct: each of them
+// changes alone from call to call (p + 1, d - 1, i by a subtree's length, n - 1), so that a struct would be made anew at each call.
+// The levels fall in three functions, each of which refuses by 8 where none is left: `full` hands l - 1 to `ident`, `own` and `after`, `arm` hands d - 1
+// to `own`, and `params` hands d - 1 to `body`. All others hand on the levels that they have.
 #![tactic(auto)]
 
 ghost use Rattle.std.specs.Prelude.{◌+◌, ◌≡◌, true};

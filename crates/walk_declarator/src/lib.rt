@@ -1,7 +1,7 @@
 // The steps of declarators: declared, looked at, taken out.
 #![tactic(auto)]
 
-ghost use Rattle.std.specs.Prelude.{◌≡◌, ◌+◌, ◌-◌, ◌≤◌, ◌<◌, drop};
+ghost use Rattle.std.specs.Prelude.{◌≡◌, ◌+◌, ◌-◌, ◌≤◌, ◌<◌, drop, OnErr};
 ghost use Rattle.std.proofs.Math.Option.{some};
 ghost use Rattle.def_tree.specs.Tree.{count, length_f, plant};
 ghost use Rattle.def_tree.specs.Combine.{done};
@@ -72,7 +72,8 @@ fn prevent_if(w: &mut [u32], test: bool, x: u8)
 // A declarator in Analysis, without an initialiser.
 fn over_none(w: &mut [u32], name: Name) -> Result<(), Refusal>
     requires { Planted w.old }
-    ensures { Moves w.old w.new (over_none name.form name.ident (rest w.old)) (done_of result (rest w.new)) }
+    ensures did { Moves w.old w.new (over_none name.form name.ident (rest w.old)) (done_of result (rest w.new)) }
+    ensures kept { OnErr result (w.new ≡ w.old) }
 {
     let kind = var_decl_kind(w);
     if kind.is_const() {
@@ -84,7 +85,8 @@ fn over_none(w: &mut [u32], name: Name) -> Result<(), Refusal>
 // A constant, recorded in the first run.
 fn over_const(w: &mut [u32], x: u8, e: usize) -> Result<(), Refusal>
     requires { (Planted w.old) × (e < size w.old) }
-    ensures { Moves w.old w.new (over_const x (tree_from (tree w.old) e) (rest w.old)) (done_of result (rest w.new)) }
+    ensures did { Moves w.old w.new (over_const x (tree_from (tree w.old) e) (rest w.old)) (done_of result (rest w.new)) }
+    ensures kept { OnErr result (w.new ≡ w.old) }
 {
     if !is_first_run(w) {
         return Ok(());
@@ -96,7 +98,8 @@ fn over_const(w: &mut [u32], x: u8, e: usize) -> Result<(), Refusal>
 // A literal or an identifier as initialiser.
 fn over_cheap(w: &mut [u32], d: Declr, e: usize) -> Result<(), Refusal>
     requires { (Planted w.old) × (e < size w.old) }
-    ensures { Moves w.old w.new (over_cheap d.name.form d.name.ident (type_of d.kind) (tree_from (tree w.old) e) (rest w.old)) (done_of result (rest w.new)) }
+    ensures did { Moves w.old w.new (over_cheap d.name.form d.name.ident (type_of d.kind) (tree_from (tree w.old) e) (rest w.old)) (done_of result (rest w.new)) }
+    ensures kept { OnErr result (w.new ≡ w.old) }
 {
     declare_m(w, d.name, Init::Recorded(e), false, d.kind)?;
     let test = is_inline_prevented(w, e);
@@ -107,7 +110,8 @@ fn over_cheap(w: &mut [u32], d: Declr, e: usize) -> Result<(), Refusal>
 // Another initialiser: one with a `this` is not walked again.
 fn over_other(w: &mut [u32], d: Declr, e: usize) -> Result<bool, Refusal>
     requires { (Planted w.old) × (e < size w.old) }
-    ensures { Moves w.old w.new (over_other d.name.form d.name.ident (type_of d.kind) (tree_from (tree w.old) e) (rest w.old)) (done_of result (rest w.new)) }
+    ensures did { Moves w.old w.new (over_other d.name.form d.name.ident (type_of d.kind) (tree_from (tree w.old) e) (rest w.old)) (done_of result (rest w.new)) }
+    ensures kept { OnErr result (w.new ≡ w.old) }
 {
     declare_m(w, d.name, Init::Seen(e), false, d.kind)?;
     let test = has_this(w, e);
@@ -118,7 +122,8 @@ fn over_other(w: &mut [u32], d: Declr, e: usize) -> Result<bool, Refusal>
 // A declarator in Analysis, with the initialiser at e.
 fn over_some(w: &mut [u32], name: Name, e: usize) -> Result<bool, Refusal>
     requires { (Planted w.old) × (e < size w.old) }
-    ensures { Moves w.old w.new (declr_analysis (name_of name) (some (tree_from (tree w.old) e)) (rest w.old)) (done_of result (rest w.new)) }
+    ensures did { Moves w.old w.new (declr_analysis (name_of name) (some (tree_from (tree w.old) e)) (rest w.old)) (done_of result (rest w.new)) }
+    ensures kept { OnErr result (w.new ≡ w.old) }
 {
     let kind = var_decl_kind(w);
     if kind.is_const() {
@@ -136,7 +141,8 @@ fn over_some(w: &mut [u32], name: Name, e: usize) -> Result<bool, Refusal>
 // A declarator in Analysis, whose name and initialiser are the n trees from i on: is the name's walk left out.
 pub fn over(w: &mut [u32], name: Name, n: usize, i: usize) -> Result<bool, Refusal>
     requires { (Planted w.old) × (n ≤ length_f (plant (drop i (tree w.old)))) }
-    ensures { Moves w.old w.new (over_m (name_of name) (forest_from (tree w.old) n i) (rest w.old)) (done_of result (rest w.new)) }
+    ensures did { Moves w.old w.new (over_m (name_of name) (forest_from (tree w.old) n i) (rest w.old)) (done_of result (rest w.new)) }
+    ensures kept { OnErr result (w.new ≡ w.old) }
 {
     if n < 2 {
         over_none(w, name)?;
@@ -157,7 +163,8 @@ pub fn stays(w: &[u32], x: u8, n: usize, i: usize) -> bool
 // An identifier as initialiser: the name is declared again.
 fn take_ident(w: &mut [u32], d: Declr, e: usize) -> Result<(), Refusal>
     requires { (Planted w.old) × (e < size w.old) }
-    ensures { Moves w.old w.new (take_ident d.name.form d.name.ident (type_of d.kind) (tree_from (tree w.old) e) (rest w.old)) (done_of result (rest w.new)) }
+    ensures did { Moves w.old w.new (take_ident d.name.form d.name.ident (type_of d.kind) (tree_from (tree w.old) e) (rest w.old)) (done_of result (rest w.new)) }
+    ensures kept { OnErr result (w.new ≡ w.old) }
 {
     if is_ident(w, e) {
         return declare_m(w, d.name, Init::Recorded(e), false, d.kind);
@@ -176,7 +183,8 @@ fn wanted(w: &[u32], x: u8, e: usize) -> bool
 // The name gets its initialiser as its value, if it is wanted.
 fn take_value(w: &mut [u32], d: Declr, e: usize) -> Result<bool, Refusal>
     requires { (Planted w.old) × (e < size w.old) }
-    ensures { Moves w.old w.new (take_value d.name.form d.name.ident (type_of d.kind) (tree_from (tree w.old) e) (rest w.old)) (done_of result (rest w.new)) }
+    ensures did { Moves w.old w.new (take_value d.name.form d.name.ident (type_of d.kind) (tree_from (tree w.old) e) (rest w.old)) (done_of result (rest w.new)) }
+    ensures kept { OnErr result (w.new ≡ w.old) }
 {
     if wanted(w, d.name.ident, e) {
         declare_m(w, d.name, Init::Recorded(e), false, d.kind)?;
@@ -188,7 +196,8 @@ fn take_value(w: &mut [u32], d: Declr, e: usize) -> Result<bool, Refusal>
 // A prevented initialiser prevents its name.
 fn take_or_mark(w: &mut [u32], d: Declr, e: usize) -> Result<bool, Refusal>
     requires { (Planted w.old) × (e < size w.old) }
-    ensures { Moves w.old w.new (take_or_mark d.name.form d.name.ident (type_of d.kind) (tree_from (tree w.old) e) (rest w.old)) (done_of result (rest w.new)) }
+    ensures did { Moves w.old w.new (take_or_mark d.name.form d.name.ident (type_of d.kind) (tree_from (tree w.old) e) (rest w.old)) (done_of result (rest w.new)) }
+    ensures kept { OnErr result (w.new ≡ w.old) }
 {
     if is_inline_prevented(w, e) {
         prevent_inline(w, d.name.ident);
@@ -219,7 +228,8 @@ fn cut_init(w: &mut [u32], q: usize, i: usize, j: usize) -> usize
 // The end of a declarator without an initialiser.
 fn after_bare(w: &mut [u32], d: Declr, s: Spot) -> Result<usize, Refusal>
     requires { (Planted w.old) × (Stands (tree w.old) s) × (s.n ≡ 0) }
-    ensures { Did w.old w.new result (declr_after s.q (type_of d.kind) (name_of d.name) s.n s.i s.j (abs w.old)) }
+    ensures did { Did w.old w.new result (declr_after s.q (type_of d.kind) (name_of d.name) s.n s.i s.j (abs w.old)) }
+    ensures kept { OnErr result (w.new ≡ w.old) }
 {
     declare_m(w, d.name, Init::NoInit, false, d.kind)?;
     Ok(s.j)

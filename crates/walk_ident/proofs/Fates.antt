@@ -14,7 +14,7 @@ use Rattle.words.proofs.Nodes.{tree-at}
 use Rattle.words_scopes.specs.State.{name_of, stack}
 use Rattle.scope.specs.Steps.{named}
 use Rattle.words_state.specs.State.{rest, abs}
-use Rattle.scope_var_info.specs.Handles.{of_binding, held, counted_o}
+use Rattle.scope_var_info.specs.Handles.{of_binding, value_tree, counted_o}
 use Rattle.scope_var_info.proofs.Numbers.{count_none}
 use Rattle.words_nodes.proofs.Trees.{count-some}
 use Rattle.walk_ident.specs.Steps.{stays, undefined, inlined, fate_of, fate_at, constant_at}
@@ -51,7 +51,7 @@ pub const-later : (w : List ℕ) (i : ℕ) → (rest w).is_first_run ≡ false �
 const-later w i z = rw z refl
 
 -- a constant that is there was looked for
-pub const-now : (w : List ℕ) (i x : ℕ) {m : ℕ} → i < get_or w 0 0 → x ≡ (node_of w i).num → some m ≡ counted_o (constant_at (abs w) i) → (find_constant x (stack w) ≡ some (held (constant_at (abs w) i))) × (m ≡ count (held (constant_at (abs w) i)))
+pub const-now : (w : List ℕ) (i x : ℕ) {m : ℕ} → i < get_or w 0 0 → x ≡ (node_of w i).num → some m ≡ counted_o (constant_at (abs w) i) → (find_constant x (stack w) ≡ some (value_tree (constant_at (abs w) i))) × (m ≡ count (value_tree (constant_at (abs w) i)))
 const-now w i x {m} l n e = (sym (const-at w i x l n (first (rest w).is_first_run refl)) ∙ some_of (constant_at (abs w) i) e, size (constant_at (abs w) i) e)
   where
     gone : {A : Type 0} {m : ℕ} → ◌≡◌ {A = Option ℕ} (some m) none → A
@@ -61,11 +61,11 @@ const-now w i x {m} l n e = (sym (const-at w i x l n (first (rest w).is_first_ru
     first true q = q
     first false q = gone (e ∙ ap counted_o (const-later w i q))
 
-    some_of : (o : Option Tree) → some m ≡ counted_o o → o ≡ some (held o)
+    some_of : (o : Option Tree) → some m ≡ counted_o o → o ≡ some (value_tree o)
     some_of none e = gone e
     some_of (some t) e = refl
 
-    size : (o : Option Tree) → some m ≡ counted_o o → m ≡ count (held o)
+    size : (o : Option Tree) → some m ≡ counted_o o → m ≡ count (value_tree o)
     size none e = gone e
     size (some t) e = cc
 

@@ -10,7 +10,7 @@ use Rattle.laws_flat.specs.WalkF.{test_read}
 use Rattle.words_scopes.specs.State.{stack}
 use Rattle.words_state.specs.declared.SavedFields.{SavedFields}
 use Rattle.words_state.specs.State.{abs, Fielded, Ok}
-use Rattle.scope_var_info.specs.Handles.{numbered, held}
+use Rattle.scope_var_info.specs.Handles.{numbered, value_tree}
 use Rattle.walk_ident.specs.declared.Found.{Found}
 use Rattle.walk_ident.specs.declared.Found.TheVariants as found
 
@@ -49,7 +49,7 @@ constant_at st i = pick st.rest.is_first_run (find_constant (node_at st i).num s
 
 -- the value of a binding, by its number, which has one
 abbrev pub value_by : List ℕ → ℕ → Tree
-value_by w b = held (value_o (numbered (stack w) (suc b)))
+value_by w b = value_tree (value_o (numbered (stack w) (suc b)))
 
 abbrev pub Has : List ℕ → ℕ → Type 0
 Has w b = value_o (numbered (stack w) (suc b)) ≡ some (value_by w b)

@@ -1,7 +1,7 @@
 // The steps of identifiers, and of scopes around a walk, over the working words.
 #![tactic(auto)]
 
-ghost use Rattle.std.specs.Prelude.{◌≡◌, ◌<◌, ◌≤◌, IfSome};
+ghost use Rattle.std.specs.Prelude.{◌≡◌, ◌<◌, ◌≤◌, IfSome, OnErr};
 ghost use Rattle.std.proofs.Math.Option.{some};
 ghost use Rattle.def_tree.specs.Combine.{on_rest};
 ghost use Rattle.def_pass.specs.Tree.{void_zero};
@@ -14,7 +14,7 @@ ghost use Rattle.words_scopes.specs.Kinds.{kind_of};
 ghost use Rattle.words_nodes.specs.Nodes.{Planted, Child, tree_from, size};
 ghost use Rattle.words_state.specs.State.{rest, abs, Act, Turns};
 ghost use Rattle.scope.specs.Steps.{named, Did};
-ghost use Rattle.scope_var_info.specs.Handles.{held, counted_o};
+ghost use Rattle.scope_var_info.specs.Handles.{value_tree, counted_o};
 ghost use Rattle.scope_find.specs.Answers.{count_of};
 ghost use Rattle.walk_ident.specs.Steps.{analysis_f, costly, test_stack, Fated, value_by, Has, constant_at, noted, counts_if, swap_f, value_f, const_f, Restored};
 
@@ -125,7 +125,8 @@ fn counted(w: &mut [u32], x: u8, changed: bool)
 // The value of binding b takes the place of the identifier at node i, a change that is counted unless it is the same identifier.
 pub fn inline_value(w: &mut [u32], i: usize, p: u32, b: usize) -> Result<usize, Refusal>
     requires { (Planted w.old) × (i < size w.old) × ((node_of w.old i).kind ≡ 21) × (Has w.old b) }
-    ensures { Did w.old w.new result (value_f p (value_by w.old b) i (abs w.old)) }
+    ensures did { Did w.old w.new result (value_f p (value_by w.old b) i (abs w.old)) }
+    ensures kept { OnErr result (w.new ≡ w.old) }
 {
     let x = ident_at(w, i);
     let same = same_ident(w, x, b);
@@ -138,7 +139,8 @@ pub fn inline_value(w: &mut [u32], i: usize, p: u32, b: usize) -> Result<usize, 
 // `void 0` takes the place of the identifier at node i: no change.
 pub fn inline_undefined(w: &mut [u32], i: usize, p: u32) -> Result<usize, Refusal>
     requires { (Planted w.old) × (i < size w.old) }
-    ensures { Did w.old w.new result (swap_f p void_zero i (abs w.old)) }
+    ensures did { Did w.old w.new result (swap_f p void_zero i (abs w.old)) }
+    ensures kept { OnErr result (w.new ≡ w.old) }
 {
     put_void(w, i, p)?;
     Ok(i + 2)
@@ -159,7 +161,8 @@ pub fn constant(w: &[u32], i: usize) -> Option<usize>
 // The constant, of m nodes, takes the place of the identifier at node i.
 pub fn inline_constant(w: &mut [u32], i: usize, p: u32, m: usize) -> Result<usize, Refusal>
     requires { (Planted w.old) × (i < size w.old) × ((node_of w.old i).kind ≡ 21) × (some m ≡ counted_o (constant_at (abs w.old) i)) × (m ≤ 512) }
-    ensures { Did w.old w.new result (const_f p (held (constant_at (abs w.old) i)) i (abs w.old)) }
+    ensures did { Did w.old w.new result (const_f p (value_tree (constant_at (abs w.old) i)) i (abs w.old)) }
+    ensures kept { OnErr result (w.new ≡ w.old) }
 {
     let x = ident_at(w, i);
     put_constant(w, i, p, x)?;
@@ -170,7 +173,8 @@ pub fn inline_constant(w: &mut [u32], i: usize, p: u32, m: usize) -> Result<usiz
 // The second child of node i, at node j, takes its place.
 fn lift_value(w: &mut [u32], i: usize, j: usize, p: u32) -> Result<usize, Refusal>
     requires { (Planted w.old) × (Child (tree w.old) i 1 j) × (p ≤ 201) }
-    ensures { Did w.old w.new result (swap_f p (tree_from (tree w.old) j) i (abs w.old)) }
+    ensures did { Did w.old w.new result (swap_f p (tree_from (tree w.old) j) i (abs w.old)) }
+    ensures kept { OnErr result (w.new ≡ w.old) }
 {
     let m = tree_len(w, j);
     unwrap(w, i, j, p)?;
@@ -180,7 +184,8 @@ fn lift_value(w: &mut [u32], i: usize, j: usize, p: u32) -> Result<usize, Refusa
 // Opens a scope of a kind, in which a declaration is of `var`.
 pub fn enter(w: &mut [u32], kind: ScopeKind) -> Result<(), Refusal>
     requires { Planted w.old }
-    ensures { Act w.old w.new (refused result) (on_rest (opening (kind_of kind)) (abs w.old)) }
+    ensures did { Act w.old w.new (refused result) (on_rest (opening (kind_of kind)) (abs w.old)) }
+    ensures kept { OnErr result (w.new ≡ w.old) }
 {
     open_scope(w, Scope::new(kind))?;
     set_var_decl_kind(w, VarType::Declared(VarDeclKind::Var));
@@ -201,7 +206,8 @@ pub fn leave(w: &mut [u32], before: SavedFields)
 // One more right side is open in its Cond scope.
 pub fn deeper(w: &mut [u32]) -> Result<(), Refusal>
     requires { Planted w.old }
-    ensures { Act w.old w.new (refused result) (on_rest deeper (abs w.old)) }
+    ensures did { Act w.old w.new (refused result) (on_rest deeper (abs w.old)) }
+    ensures kept { OnErr result (w.new ≡ w.old) }
 {
     let n = w[layout::CONDS];
     if 12 <= n {

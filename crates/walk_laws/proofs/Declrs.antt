@@ -17,7 +17,7 @@ use borrow.Author.Tests.{eq-eqb, ne_eqb}
 use Rattle.def_tree.specs.Base.{pick}
 use Rattle.def_tree.specs.Tree.{Tree, Forest, Core, no_core, count, counts, kind, form, num}
 use Rattle.def_tree.specs.Combine as Split
-use Rattle.def_tree.specs.Combine.{Res, stop, done, M, Nothing, and_then, ret, iff, Flat, node_at, re_arity, set_arity, tree_at, forest_at, Walk, Walks, ReWalks, on_rest, act_f, skip, skips, many, split_f, re_kids_f, same, split_r, cut_first, carry}
+use Rattle.def_tree.specs.Combine.{Res, stop, done, M, and_then, ret, iff, Flat, node_at, re_arity, set_arity, tree_at, forest_at, Walks, ReWalks, on_rest, act_f, skip, skips, many, split_f, same, split_r, cut_first, carry}
 use Rattle.def_tree.proofs.Whole.{kind_at, form-at, num-at, whole_drop}
 use Rattle.def_tree.proofs.Sims.{Sim, SimF, sim-skip, sim-skips, sim-split}
 use Rattle.words.specs.Layout.{tree, node_of}
@@ -28,8 +28,8 @@ use Rattle.def_pass.specs.Walk.{St, set_pat_mode, declaring, head_bind, over_m, 
 use Rattle.words_nodes.specs.Nodes.{Planted, Child, tree_from, forest_from}
 use Rattle.words_nodes.proofs.Trees.{node-count, child-in, tree-at-is}
 use Rattle.words_nodes.proofs.Walks.{second-child, forest-at-is}
-use Rattle.shape.specs.Shape.{Room}
-use Rattle.shape.proofs.Shapes.{shape-trees, room-stays, trees-end, first-stays}
+use Rattle.walk_shape.specs.Shape.{Room}
+use Rattle.walk_shape.proofs.Shapes.{shape-trees, room-stays, trees-end, first-stays}
 use Rattle.words_state.specs.State.{rest, abs, Turns}
 use Rattle.words_state.proofs.Fields.{ok-self, ok-then}
 use Rattle.laws_flat.specs.WalkF.{WalksF, name_last_f, declr_inlining_f, declr_to_f, visit_mut_var_declarator_f}

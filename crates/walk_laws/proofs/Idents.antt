@@ -16,11 +16,11 @@ use Rattle.words.specs.Layout.{tree}
 use Rattle.def_pass.specs.Tree.{void_zero}
 use Rattle.def_pass.specs.Scope.{VarInfo, var_inline_prevented, find_binding, add_read}
 use Rattle.def_pass.specs.Walk.{St, modify, mark, when, set_changed, tally, same_ident, replace}
-use Rattle.shape.specs.Shape.{Room}
+use Rattle.walk_shape.specs.Shape.{Room}
 use Rattle.words_state.specs.State.{rest, abs, Acts, Act}
 use Rattle.laws_flat.specs.WalkF.{WalksF, test_read, inline_value_f, found_f, ident_inlining_f, ident_analysis_f, after_ident_f}
 use Rattle.walk_ident.specs.Steps as steps
-use Rattle.scope_var_info.specs.Handles.{held, counted_o}
+use Rattle.scope_var_info.specs.Handles.{value_tree, counted_o}
 use Rattle.walk_ident.specs.Steps.{analysis_f, Fate, stays, undefined, inlined, fate_by, fate_of, fate_at, const_f, value_f, swap_f}
 use Rattle.walk_laws.specs.Did.{Did, Here}
 use Rattle.walk_laws.proofs.Heres.{here-still}
@@ -94,10 +94,10 @@ module _ (v : WalksF) (p i : ℕ) {w u : List ℕ} {a : Result ℕ Refusal} wher
 
 -- what the steps answered
 module _ (w : List ℕ) (i : ℕ) where
-  pub const-some : {m : ℕ} → some m ≡ counted_o (steps.constant_at (abs w) i) → steps.constant_at (abs w) i ≡ some (held (steps.constant_at (abs w) i))
+  pub const-some : {m : ℕ} → some m ≡ counted_o (steps.constant_at (abs w) i) → steps.constant_at (abs w) i ≡ some (value_tree (steps.constant_at (abs w) i))
   const-some {m} e = go (steps.constant_at (abs w) i) e
     where
-      go : (o : Option Tree) → some m ≡ counted_o o → o ≡ some (held o)
+      go : (o : Option Tree) → some m ≡ counted_o o → o ≡ some (value_tree o)
       go none e = absurd (let y : ◌≡◌ {A = ℕ} 0 1 = cc in omega arith)
       go (some t) e = refl
 

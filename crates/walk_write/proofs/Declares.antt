@@ -79,7 +79,7 @@ module _ {w : List ℕ} (i : ℕ) where
 -- the binding of a pattern: its node is an identifier, without the flag, while it is recorded
 grown-tree : (w u : List ℕ) (st : Stack) (s : Result Unit Refusal) → Grown w u st s → tree u ≡ tree w
 grown-tree w u st (Ok _) b = b.0.tree
-grown-tree w u st (Err e) b = b.2.tree
+grown-tree w u st (Err e) b = ap tree b.2
 
 as-ident : (t : Tree) → of_kind 21 (unflagged (form t)) t ≡ as_ident t
 as-ident (node k f a ts) = refl

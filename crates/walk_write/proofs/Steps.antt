@@ -137,7 +137,11 @@ module _ {w u : List ℕ} (g : Planted w) where
     -- by its answer
     pub record-step : (r : Result Unit Refusal) → records.Grown w u (f (stack w)) r → Step w u (refused r) (grow f (rest w))
     record-step (Ok _) b = grown b.0 b.1
-    record-step (Err e) b = over (ap number b.0) b.1 (still-ok b.2.good b.2.tree b.2.others b.2.rest)
+    record-step (Err e) b = over (ap number b.0) b.1 (rw b.2 (ok-self g))
+
+    pub late-step : (r : Result Unit Refusal) → records.GrownLate w u (f (stack w)) r → Step w u (refused r) (grow f (rest w))
+    late-step (Ok _) b = grown b.0 b.1
+    late-step (Err e) b = over (ap number b.0) b.1 (still-ok b.2.good b.2.tree b.2.others b.2.rest)
 
 -- an exit by `?`
 pub act-exit : {w u : List ℕ} (e : Refusal) {x : Res (Flat St) Nothing} (r : Result Unit Refusal) → IsErrAnd r (λ y. y ≡ e) → Act w u (number e) x → Act w u (refused r) x

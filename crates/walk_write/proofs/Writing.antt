@@ -16,7 +16,7 @@ use Rattle.words.specs.Layout.{tree, node_of}
 use Rattle.words.proofs.Nodes.{tree-length, tree-at}
 use Rattle.words_scopes.specs.State.{stack}
 use Rattle.scope_find.specs.Answers.{is_name}
-use Rattle.scope_values.specs.Steps.{Grown}
+use Rattle.scope_values.specs.Steps.{GrownLate}
 use Rattle.refusal.specs.declared.Refusal.{Refusal}
 use Rattle.refusal.specs.Number.{refused}
 use Rattle.words_nodes.specs.Nodes.{Planted, tree_from, forest_from}
@@ -24,7 +24,7 @@ use Rattle.words_nodes.proofs.Loops.{Open, open_in, open-past}
 use Rattle.words_nodes.proofs.Words.{tree-whole, in_tree, node-here}
 use Rattle.words_state.specs.State.{rest, abs, Ok, Act}
 use Rattle.words_state.proofs.Fields.{ok-self, ok-then}
-use Rattle.walk_write.proofs.Steps.{Step, step-act, act-step, step-stop, step-tree, step-done, step-on, step-as, record-step}
+use Rattle.walk_write.proofs.Steps.{Step, step-act, act-step, step-stop, step-tree, step-done, step-on, step-as, late-step}
 use Rattle.walk_write.proofs.Names.{names-past, names_in}
 
 -- only a tree's number and form matter
@@ -46,11 +46,11 @@ module _ (w : List ℕ) (i : ℕ) (l : i < get_or w 0 0) where
   pub form-here : form (tree_at (abs w) i) ≡ (node_of w i).form
   form-here = form-at (abs w) i inside ∙ ap (λ (c : Core). c.form) at_here
 
-  pub ident-act : {u : List ℕ} (x : ℕ) (args force : Bool) (r : Result Unit Refusal) → Planted w → x ≡ (node_of w i).num → args ≡ is_args (node_of w i).form → Grown w u (add_write x args force (stack w)) r → Act w u (refused r) (act (write force) i (abs w))
+  pub ident-act : {u : List ℕ} (x : ℕ) (args force : Bool) (r : Result Unit Refusal) → Planted w → x ≡ (node_of w i).num → args ≡ is_args (node_of w i).form → GrownLate w u (add_write x args force (stack w)) r → Act w u (refused r) (act (write force) i (abs w))
   unfolding write
   ident-act x args force r g p q b =
       let t : Tree = tree_at (abs w) i in
-      step-act (write force t) (step-as (ap (λ (a : ℕ). grow (add_write a args force) (rest w)) (p ∙ sym num-here) ∙ ap (λ (b : Bool). grow (add_write (num t) b force) (rest w)) (q ∙ ap is_args (sym form-here))) (record-step g (add_write x args force) r b))
+      step-act (write force t) (step-as (ap (λ (a : ℕ). grow (add_write a args force) (rest w)) (p ∙ sym num-here) ∙ ap (λ (b : Bool). grow (add_write (num t) b force) (rest w)) (q ∙ ap is_args (sym form-here))) (late-step g (add_write x args force) r b))
 
 -- n trees from i on: what is left to write are the names of the trees still open
 pub record Writing (w₀ w : List ℕ) (force : Bool) (n i more at : ℕ) : Type 0 where

@@ -1,5 +1,5 @@
 // What an assignment writes and records.
-ghost use Rattle.std.specs.Prelude.{◌≡◌, drop, ◌<◌, ◌≤◌};
+ghost use Rattle.std.specs.Prelude.{◌≡◌, drop, ◌<◌, ◌≤◌, OnErr};
 ghost use Rattle.def_tree.specs.Tree.{length_f, plant};
 ghost use Rattle.def_tree.specs.Combine.{on_rest, tree_at, act_f};
 ghost use Rattle.def_pass.specs.Walk.{store_value, assign_first, assign_last};
@@ -40,7 +40,8 @@ pub fn assign_first(w: &mut [u32], f: u32, n: usize, i: usize) -> Result<(), Ref
 // The value at j is recorded for the name at i, unless its binding is prevented.
 fn store_value(w: &mut [u32], i: usize, j: usize) -> Result<(), Refusal>
     requires { (Planted w.old) × (i < size w.old) × (j < size w.old) × ((node_of w.old i).kind ≡ 20) }
-    ensures { Act w.old w.new (refused result) (on_rest (store_value (tree_at (abs w.old) i) (tree_at (abs w.old) j)) (abs w.old)) }
+    ensures did { Act w.old w.new (refused result) (on_rest (store_value (tree_at (abs w.old) i) (tree_at (abs w.old) j)) (abs w.old)) }
+    ensures kept { OnErr result (w.new ≡ w.old) }
 {
     let x = ident_at(w, i);
     let Some(b) = find_binding(w, x) else {

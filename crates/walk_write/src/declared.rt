@@ -1,5 +1,5 @@
 // What is declared by its name: a function, and the binding of a pattern.
-ghost use Rattle.std.specs.Prelude.{◌≡◌, ◌⊎◌, false, get_or, set, ◌<◌};
+ghost use Rattle.std.specs.Prelude.{◌≡◌, ◌⊎◌, false, get_or, set, ◌<◌, OnErr};
 ghost use Rattle.def_tree.specs.Tree.{kids, no_core};
 ghost use Rattle.def_tree.specs.Combine.{act};
 ghost use Rattle.def_pass.specs.Tree.{head_t};
@@ -23,7 +23,8 @@ use words_state::{PatFoldingMode, inlining, pat_mode};
 // The name of the function at i, in Analysis.
 pub fn declare_name(w: &mut [u32], i: usize) -> Result<(), Refusal>
     requires { (Planted w.old) × (i < size w.old) }
-    ensures { Act w.old w.new (refused result) (act (λ t. declare_name (head_t (kids t))) i (abs w.old)) }
+    ensures did { Act w.old w.new (refused result) (act (λ t. declare_name (head_t (kids t))) i (abs w.old)) }
+    ensures kept { OnErr result (w.new ≡ w.old) }
 {
     if arity_at(w, i) == 0 || inlining(w) {
         return Ok(());

@@ -289,9 +289,6 @@ module _ (w : List ℕ) (g : Good w) (k : ℕ) (h : k < get_or w 1 0) where
       bind-eq (field-name w g k h 4 1 (omega arith) (omega arith) k) (ap var_type_of (at 1 (omega arith) (λ e. omega arith))) (ap alias_at (at 2 (omega arith) (λ e. omega arith))) (at 3 (omega arith) (λ e. omega arith))
       (ap yes (field-here w g k h 4 1 (omega arith) (omega arith))) (ap yes (at 5 (omega arith) (λ e. omega arith))) (ap value_of (runs-at g (field-runs w g k h 4 1 (omega arith) (omega arith)) k h)) (ap yes (at 6 (omega arith) (λ e. omega arith))) (ap yes (at 7 (omega arith) (λ e. omega arith))) (field-count w g k h 4 1 (omega arith) (omega arith) k)
 
-  pub marked : (x : ℕ) → place x (heads w) (binds w) ≡ suc k → Becomes w (set w (4112 + k * 10 + 4) 1) (change x prevent (stack w))
-  marked = changed g (field-kept w g k h 4 1 (omega arith) (omega arith)) k h prevent mark-this (field-other w g k h 4 1 (omega arith) (omega arith)) (field-good w g k h 4 1 (omega arith) (omega arith))
-
 -- the count of binding k is stored
 module _ (w : List ℕ) (g : Good w) (k : ℕ) (h : k < get_or w 1 0) (v : ℕ) where
   abbrev w'' : List ℕ

@@ -6,7 +6,7 @@
 
 ghost use Rattle.std.specs.Prelude.{◌≡◌, ℕ, ◌+◌, ◌-◌, ◌*◌, ◌<◌, ◌≤◌, not, ◌&&◌, ◌∷◌, length, slice_index, IfSome};
 ghost use Rattle.std.proofs.Math.Option.{none};
-ghost use Rattle.def_pass.specs.Scope.{prevent, defined, count_one, change, prevent_one, prevent_inline, append, fresh, new_scope};
+ghost use Rattle.def_pass.specs.Scope.{defined, count_one, change, prevent_one, prevent_inline, append, fresh, new_scope};
 ghost use Rattle.words_prevent.specs.Mark.{marked};
 ghost use Rattle.words.specs.Place.{placed};
 ghost use Rattle.words_scopes.specs.Kinds.{type_of, alias_of, kind_of};
@@ -117,18 +117,7 @@ pub fn find_by_walk(w: &[u32], x: u8) -> Option<usize>
     None
 }
 
-// Marks the innermost binding of x, if there is one. This, `define` and `count_one` change one word each, with a definition each.
-pub fn prevent_found(w: &mut [u32], x: u8)
-    requires { Good w.old }
-    ensures { Becomes w.old w.new (change x prevent (stack w.old)) }
-{
-    let Some(k) = find_binding(w, x) else {
-        return;
-    };
-    w[layout::BINDINGS + k * 10 + layout::PREVENTED] = 1;
-}
-
-// The innermost binding of x, if there is one, is no longer undefined.
+// The innermost binding of x, if there is one, is no longer undefined. This and `count_one` change one word each, with a definition each.
 pub fn define(w: &mut [u32], x: u8)
     requires { Good w.old }
     ensures { Becomes w.old w.new (change x defined (stack w.old)) }

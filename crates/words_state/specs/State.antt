@@ -74,7 +74,8 @@ pub record Ok (w u : List ℕ) : Type 0 where
   pub high : Agree 8336 16384 w u
   pub rest : beyond u ≡ beyond w
 
--- a step's answer: 0, and the state is that of the result, or document 01's number of its refusal, of which nothing is said
+-- a step's answer: 0, and the state is that of the result, or document 01's number of its refusal. Of the words after a refusal `Ok` says what is kept:
+-- they stand for some state, and their length, word 4, words 14 and 15 and those from 8,336 on are as they were
 abbrev pub Acts : List ℕ → ℕ → Res (Flat St) Nothing → Type 0
 Acts u n (stop m) = (n ≡ m) × (0 < n)
 Acts u n (done st x) = (n ≡ 0) × (abs u ≡ st)

@@ -15,7 +15,7 @@ returns-in_err-room_for c =
     let r = c.args.r in
     let o = consts.over-cpush w c.requires.0 (c.args.x, run_value w r) c.requires.1 ∙ ap (λ (n : ℕ). ltb 512 (recorded_nodes (stack w) - 0 + n) || ltb 256 (live (stack w) + 1)) (listed.count-tree w r.at r.len c.requires.2.one) in
     let e = err_from_is_err_and c.from_residual.result c.from_residual.ensures.1 in
-    rw (e.1, e.2) (c.in_err-room_for.ensures.0, o ∙ c.in_err-room_for.ensures.1, listed.still-self w c.requires.0)
+    rw (e.1, e.2) (c.in_err-room_for.ensures.0, o ∙ c.in_err-room_for.ensures.1, refl)
 
 pub push_const-requires : goal.push_const-requires
 push_const-requires c =

@@ -15,7 +15,7 @@ returns-in_err-room_for c =
     let w = c.args.w.now in
     let o = consts.over-run w c.requires.0 c.args.k c.requires.1 c.args.r c.requires.2 (get_or w (6672 + c.args.k * 2) 0) in
     let e = err_from_is_err_and c.from_residual.result c.from_residual.ensures.1 in
-    rw (e.1, e.2) (c.in_err-room_for.ensures.0, o ∙ c.in_err-room_for.ensures.1, listed.still-self w c.requires.0)
+    rw (e.1, e.2) (c.in_err-room_for.ensures.0, o ∙ c.in_err-room_for.ensures.1, refl)
 
 pub set_const-requires : goal.set_const-requires
 set_const-requires c = (c.requires.0, c.requires.1, c.requires.2, c.requires.3, consts.put-room c.args.w.now c.requires.0 c.args.k c.requires.1 c.args.r c.requires.2 _ refl c.in_ok-room_for.ensures)

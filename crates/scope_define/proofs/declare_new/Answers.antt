@@ -1,5 +1,5 @@
 -- Appended without a value, which is then overwritten. Assumes nothing.
-use Rattle.std.proofs.Common.{ℕ, ◌+◌, ◌-◌, ◌≡◌, sym, ap, ◌∙◌, subst, arith, get_or, ◌||◌, ltb}
+use Rattle.std.proofs.Common.{ℕ, ◌+◌, ◌-◌, ◌≡◌, refl, sym, ap, ◌∙◌, subst, arith, get_or, ◌||◌, ltb}
 use Rattle.std.proofs.Math.Option.{Option, none}
 use Rattle.std.proofs.lemmas.Result.{err_from_is_err_and}
 use Rattle.def_tree.specs.Tree.{Tree}
@@ -21,7 +21,7 @@ returns-in_err-room_for c =
     let new = fresh c.args.x (type_of d.kind) (alias_of d.alias) d.prevented d.undefined (run_value w r) in
     let o = declares.over-append w g c.requires.1 new ∙ ap (λ (n : ℕ). ltb 512 (recorded_nodes (stack w) - 0 + n) || ltb 256 (live (stack w) + 1)) (listed.count-tree w r.at r.len c.requires.2.one) in
     let e = err_from_is_err_and c.from_residual.result c.from_residual.ensures.1 in
-    rw (e.1, e.2) (c.in_err-room_for.ensures.0, o ∙ c.in_err-room_for.ensures.1, listed.still-self w g)
+    rw (e.1, e.2) (c.in_err-room_for.ensures.0, o ∙ c.in_err-room_for.ensures.1, refl)
 
 pub append_record-requires : goal.append_record-requires
 append_record-requires c =

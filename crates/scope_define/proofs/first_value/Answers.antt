@@ -1,21 +1,22 @@
--- Defined, and then recorded. Assumes nothing.
-use Rattle.std.proofs.Common.{◌≡◌, refl}
-use Rattle.def_pass.specs.Scope.{change, defined, with_value}
-use Rattle.words_scopes.specs.State.{stack}
+-- Recorded, or refused before the words change; and then defined. Assumes nothing.
+use Rattle.std.proofs.Common.{subst, ◌∙◌}
+use Rattle.std.proofs.lemmas.Result.{err_from_is_err_and}
+use Rattle.def_pass.specs.Scope.{Stack, change, defined}
+use Rattle.words_scopes.specs.State.{Becomes, stack}
 use Rattle.scope_values.specs.Steps.{run_value}
 use Rattle.scope_values.proofs.Listed as listed
-use Rattle.scope_define.proofs.Declares.{change-twice}
+use Rattle.scope_define.proofs.Declares.{first-is, over-first}
 use Rattle.scope_define.proofs.first_value.Goals as goal
 
-pub record_value-requires : goal.record_value-requires
-record_value-requires c = (c.define.ensures.good, listed.same-offered c.args.w.now c.define.new.w c.define.ensures.tree c.args.r c.requires.1)
+pub returns-in_err-record_value : goal.returns-in_err-record_value
+returns-in_err-record_value c =
+    let w = c.args.w.now in
+    let g = c.in_err-record_value.ensures in
+    let e = err_from_is_err_and c.from_residual.result c.from_residual.ensures.1 in
+    rw (e.1, e.2) (g.0, over-first c.args.x (run_value w c.args.r) (stack w) ∙ g.1, g.2)
 
 pub returns : goal.returns
 returns c =
     let w = c.args.w.now in
-    let u = c.define.new.w in
-    let e = c.define.ensures in
-    let v = run_value w c.args.r in
-    let st = change c.args.x (λ c. defined (with_value v c)) (stack w) in
-    let q : change c.args.x (with_value (run_value u c.args.r)) (stack u) ≡ st = rw (listed.same-value w u e.tree c.args.r c.requires.1, e.is) (change-twice c.args.x defined (with_value v) (λ b. refl) (stack w)) in
-    listed.grown-after c.record_value.new.w st c.record_value.result e (rw q at c.record_value.ensures)
+    let b = listed.becomes-next (change c.args.x defined) c.in_ok-record_value.ensures.0 c.define.ensures in
+    listed.done-under (subst (λ (st : Stack). Becomes w c.define.new.w st) (first-is c.args.x (run_value w c.args.r) (stack w)) b)

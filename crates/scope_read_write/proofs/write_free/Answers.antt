@@ -7,7 +7,7 @@ use Rattle.words_scopes.specs.State.{stack}
 use Rattle.scope_find.specs.Answers.{write_free}
 use Rattle.scope_read_write.specs.Writes.{forced}
 use Rattle.scope_values.proofs.Count.{live-is}
-use Rattle.scope_values.proofs.Listed.{room, still-self, done-under}
+use Rattle.scope_values.proofs.Listed.{room, done-under}
 use Rattle.scope_read_write.proofs.Limits as limits
 use Rattle.scope_read_write.proofs.write_free.Goals as goal
 use Rattle.scope_read_write.proofs.write_free.Goals.{then-has_constant-via-then-has_constant, then-has_constant-via-else-has_constant+then-w-eq0}
@@ -29,7 +29,7 @@ returns-in_err-room_for c =
     let free : has_constant x (stack w) ≡ false = sym c.has_constant.ensures ∙ c.if-has_constant.false in
     let o = limits.over-append (fresh x v_var none (forced c.args.how) false none) w c.requires (omega arith) c.in_err-room_for.ensures.1 in
     let e = err_from_is_err_and c.from_residual.result c.from_residual.ensures.1 in
-    rw (e.1, e.2, free) (c.in_err-room_for.ensures.0, o, still-self w c.requires)
+    rw (e.1, e.2, free) (c.in_err-room_for.ensures.0, o, refl)
 
 pub push-requires : goal.push-requires
 push-requires c =

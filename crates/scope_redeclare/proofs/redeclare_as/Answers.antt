@@ -18,7 +18,7 @@ returns-in_err-room_for c =
     let new = redeclare c.args.prevented c.args.undefined (run_value w r) (bind_at w c.args.k) in
     let o = over-re w c.requires.0.0 c.args.k r.len c.requires.0.1 new (listed.count-tree w r.at r.len c.requires.1.one) in
     let e = err_from_is_err_and c.from_residual.result c.from_residual.ensures.1 in
-    rw (e.1, e.2) (c.in_err-room_for.ensures.0, o ∙ c.in_err-room_for.ensures.1, listed.still-self w c.requires.0.0)
+    rw (e.1, e.2) (c.in_err-room_for.ensures.0, o ∙ c.in_err-room_for.ensures.1, refl)
 
 pub set_run-requires : goal.set_run-requires
 set_run-requires c = listed.set-asks c.args.w.now c.requires.0.0 c.args.k c.requires.0.1 c.args.r c.requires.1 _ refl c.in_ok-room_for.ensures

@@ -18,7 +18,7 @@ returns-in_err-room_for c =
     let w = c.args.w.now in
     let o = listed.over-value w c.requires.0 c.in-Some.k c.in-Some.ensures.bound c.args.r c.requires.1 c.args.x (sym c.in-Some.ensures.place) in
     let e = err_from_is_err_and c.from_residual.result c.from_residual.ensures.1 in
-    rw (e.1, e.2) (c.in_err-room_for.ensures.0, o ∙ c.in_err-room_for.ensures.1, listed.still-self w c.requires.0)
+    rw (e.1, e.2) (c.in_err-room_for.ensures.0, o ∙ c.in_err-room_for.ensures.1, refl)
 
 pub set_run-requires : goal.set_run-requires
 set_run-requires c = listed.set-asks c.args.w.now c.requires.0 c.in-Some.k c.in-Some.ensures.bound c.args.r c.requires.1 _ refl c.in_ok-room_for.ensures

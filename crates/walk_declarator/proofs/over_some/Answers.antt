@@ -10,34 +10,34 @@ use Rattle.walk_declarator.proofs.Acts as acts
 use Rattle.walk_declarator.proofs.Parts as parts
 use Rattle.walk_declarator.proofs.over_some.Goals as goal
 
-pub returns-in_err-over_const : goal.returns-in_err-over_const
-returns-in_err-over_const c =
+pub returns-in_err-over_const-clause-did : goal.returns-in_err-over_const-clause-did
+returns-in_err-over_const-clause-did c =
     let w = c.args.w.now in
     let q = ap is_const (sym c.var_decl_kind-kind.ensures) ∙ sym c.is_const.ensures ∙ c.if-is_const.true in
-    acts.moves-exit _ (λ u. ret false) c.from_residual.result c.from_residual.ensures.1 (parts.some-const c.args.name.form c.args.name.ident (rest w) (tree_from (tree w) c.args.e) q) c.in_err-over_const.ensures
+    acts.moves-exit _ (λ u. ret false) c.from_residual.result c.from_residual.ensures.1 (parts.some-const c.args.name.form c.args.name.ident (rest w) (tree_from (tree w) c.args.e) q) c.in_err-over_const.ensures.did
 
-pub returns-then-is_const : goal.returns-then-is_const
-returns-then-is_const c =
+pub returns-then-is_const-clause-did : goal.returns-then-is_const-clause-did
+returns-then-is_const-clause-did c =
     let w = c.args.w.now in
     let q = ap is_const (sym c.var_decl_kind-kind.ensures) ∙ sym c.is_const.ensures ∙ c.if-is_const.true in
-    let p = c.in_ok-over_const.ensures in
+    let p = c.in_ok-over_const.ensures.did in
     acts.moves-by (parts.some-const c.args.name.form c.args.name.ident (rest w) (tree_from (tree w) c.args.e) q) (acts.moves-then (λ u. ret false) p (acts.moves-self p.ok.planted false))
 
-pub returns-in_err-over_cheap : goal.returns-in_err-over_cheap
-returns-in_err-over_cheap c =
+pub returns-in_err-over_cheap-clause-did : goal.returns-in_err-over_cheap-clause-did
+returns-in_err-over_cheap-clause-did c =
     let w = c.args.w.now in
     let q = ap is_const (sym c.var_decl_kind-kind.ensures) ∙ sym c.is_const.ensures ∙ c.if-is_const.false in
-    acts.moves-exit _ (λ u. ret false) c.from_residual-in_err-over_cheap.result c.from_residual-in_err-over_cheap.ensures.1 (parts.some-cheap c.args.name.form c.args.name.ident (rest w) (tree_from (tree w) c.args.e) (type_of c.var_decl_kind-kind.result) c.var_decl_kind-kind.ensures q (sym c.is_cheap.ensures ∙ c.if-is_cheap.true)) c.in_err-over_cheap.ensures
+    acts.moves-exit _ (λ u. ret false) c.from_residual-in_err-over_cheap.result c.from_residual-in_err-over_cheap.ensures.1 (parts.some-cheap c.args.name.form c.args.name.ident (rest w) (tree_from (tree w) c.args.e) (type_of c.var_decl_kind-kind.result) c.var_decl_kind-kind.ensures q (sym c.is_cheap.ensures ∙ c.if-is_cheap.true)) c.in_err-over_cheap.ensures.did
 
-pub returns-then-is_cheap : goal.returns-then-is_cheap
-returns-then-is_cheap c =
+pub returns-then-is_cheap-clause-did : goal.returns-then-is_cheap-clause-did
+returns-then-is_cheap-clause-did c =
     let w = c.args.w.now in
     let q = ap is_const (sym c.var_decl_kind-kind.ensures) ∙ sym c.is_const.ensures ∙ c.if-is_const.false in
-    let p = c.in_ok-over_cheap.ensures in
+    let p = c.in_ok-over_cheap.ensures.did in
     acts.moves-by (parts.some-cheap c.args.name.form c.args.name.ident (rest w) (tree_from (tree w) c.args.e) (type_of c.var_decl_kind-kind.result) c.var_decl_kind-kind.ensures q (sym c.is_cheap.ensures ∙ c.if-is_cheap.true)) (acts.moves-then (λ u. ret false) p (acts.moves-self p.ok.planted false))
 
-pub returns : goal.returns
-returns c =
+pub returns-clause-did : goal.returns-clause-did
+returns-clause-did c =
     let w = c.args.w.now in
     let q = ap is_const (sym c.var_decl_kind-kind.ensures) ∙ sym c.is_const.ensures ∙ c.if-is_const.false in
-    acts.moves-by (parts.some-other c.args.name.form c.args.name.ident (rest w) (tree_from (tree w) c.args.e) (type_of c.var_decl_kind-kind.result) c.var_decl_kind-kind.ensures q (sym c.is_cheap.ensures ∙ c.if-is_cheap.false)) c.over_other.ensures
+    acts.moves-by (parts.some-other c.args.name.form c.args.name.ident (rest w) (tree_from (tree w) c.args.e) (type_of c.var_decl_kind-kind.result) c.var_decl_kind-kind.ensures q (sym c.is_cheap.ensures ∙ c.if-is_cheap.false)) c.over_other.ensures.did

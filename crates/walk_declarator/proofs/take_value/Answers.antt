@@ -12,25 +12,25 @@ use Rattle.walk_declarator.proofs.Acts as acts
 use Rattle.walk_declarator.proofs.Parts as parts
 use Rattle.walk_declarator.proofs.take_value.Goals as goal
 
-pub returns-in_err-declare_m : goal.returns-in_err-declare_m
-returns-in_err-declare_m c =
+pub returns-in_err-declare_m-clause-did : goal.returns-in_err-declare_m-clause-did
+returns-in_err-declare_m-clause-did c =
     let w = c.args.w.now in
     let m = c.args.d.name in
     let t = tree_from (tree w) c.args.e in
     let q = ap (λ (st : Stack). wants m.ident t st) (acts.rest-stack w) ∙ sym c.wanted.ensures ∙ c.if-wanted.true in
-    acts.moves-exit _ (λ u. ret true) c.from_residual.result c.from_residual.ensures.1 (parts.value-yes m.form m.ident (type_of c.args.d.kind) t (rest w) q) (rw (sym (given.recorded-in w c.args.e c.requires.1)) at c.in_err-declare_m.ensures)
+    acts.moves-exit _ (λ u. ret true) c.from_residual.result c.from_residual.ensures.1 (parts.value-yes m.form m.ident (type_of c.args.d.kind) t (rest w) q) (rw (sym (given.recorded-in w c.args.e c.requires.1)) at c.in_err-declare_m.ensures.did)
 
-pub returns-then-wanted : goal.returns-then-wanted
-returns-then-wanted c =
+pub returns-then-wanted-clause-did : goal.returns-then-wanted-clause-did
+returns-then-wanted-clause-did c =
     let w = c.args.w.now in
     let m = c.args.d.name in
     let t = tree_from (tree w) c.args.e in
     let q = ap (λ (st : Stack). wants m.ident t st) (acts.rest-stack w) ∙ sym c.wanted.ensures ∙ c.if-wanted.true in
-    let p = rw (sym (given.recorded-in w c.args.e c.requires.1)) at c.in_ok-declare_m.ensures in
+    let p = rw (sym (given.recorded-in w c.args.e c.requires.1)) at c.in_ok-declare_m.ensures.did in
     acts.moves-by (parts.value-yes m.form m.ident (type_of c.args.d.kind) t (rest w) q) (acts.moves-then (λ u. ret true) p (acts.moves-self p.ok.planted true))
 
-pub returns : goal.returns
-returns c =
+pub returns-clause-did : goal.returns-clause-did
+returns-clause-did c =
     let w = c.args.w.now in
     let m = c.args.d.name in
     let t = tree_from (tree w) c.args.e in

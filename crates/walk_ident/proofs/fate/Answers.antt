@@ -2,7 +2,7 @@ use Rattle.std.proofs.Common.{sym, ◌∙◌, suc, refl, arith}
 use mathlib.Core.Option.{none}
 use Rattle.def_pass.specs.Scope.{value_o}
 use Rattle.words_scopes.specs.State.{stack}
-use Rattle.scope_var_info.specs.Handles.{numbered, held}
+use Rattle.scope_var_info.specs.Handles.{numbered, value_tree}
 use Rattle.scope_var_info.proofs.Numbers as numbers
 use Rattle.walk_ident.proofs.Fates as fates
 use Rattle.walk_ident.proofs.fate.Goals as goal
@@ -18,8 +18,8 @@ returns-then-var_inline_prevented c =
 pub returns-then-value_len-gt0 : goal.returns-then-value_len-gt0
 returns-then-value_len-gt0 c =
     let o = numbered (stack c.args.w.now) (suc c.in-Some.b) in
-    let v = numbers.held-some (value_o o) (omega (arith, c.value_len.ensures.0, c.if-value_len-gt0.true)) in
-    (fates.fate-at c.args.w.now c.args.i c.ident_at-x.result c.requires.1 c.ident_at-x.ensures o c.in-Some.ensures.0 ∙ fates.fate-value o (sym c.var_inline_prevented.ensures ∙ c.if-var_inline_prevented.false) (held (value_o o)) v, v)
+    let v = numbers.value_tree-some (value_o o) (omega (arith, c.value_len.ensures.0, c.if-value_len-gt0.true)) in
+    (fates.fate-at c.args.w.now c.args.i c.ident_at-x.result c.requires.1 c.ident_at-x.ensures o c.in-Some.ensures.0 ∙ fates.fate-value o (sym c.var_inline_prevented.ensures ∙ c.if-var_inline_prevented.false) (value_tree (value_o o)) v, v)
 
 pub returns-then-is_undefined : goal.returns-then-is_undefined
 returns-then-is_undefined c =

@@ -1,4 +1,4 @@
-use Rattle.std.proofs.Common.{◌≡◌, ℕ, ◌+◌, suc, ◌&&◌, not, eqb, sym, ap, ◌∙◌}
+use Rattle.std.proofs.Common.{◌≡◌, OnErr, ℕ, ◌+◌, suc, ◌&&◌, not, eqb, sym, ap, ◌∙◌}
 use Rattle.refusal.proofs.Rows.{exit}
 use Rattle.def_pass.specs.Scope.{value_o}
 use Rattle.def_tree.specs.Tree.{num}
@@ -23,17 +23,23 @@ value-here c =
     let x = c.ident_at-x.ensures ∙ sym (laws.tree-num w c.args.i c.requires.1) in
     laws.value-is w c.args.p c.args.i e c.same_ident-same.result c.ident_at-x.result (c.same_ident-same.ensures ∙ ap (λ (n : ℕ). is_ident e && eqb (num e) n) x) x
 
-pub returns-in_err-put_value : goal.returns-in_err-put_value
-returns-in_err-put_value c =
+pub returns-in_err-put_value-clause-did : goal.returns-in_err-put_value-clause-did
+returns-in_err-put_value-clause-did c =
     let w = c.args.w.now in
     let e = value_by w c.args.b in
     exit (λ r. Did w c.put_value.new.w r (value_f c.args.p e c.args.i (abs w))) c.from_residual.result c.from_residual.ensures.1
-    (laws.goes-stop w _ c.args.p c.args.i e c.requires.0 c.requires.1 (counts_if (not c.same_ident-same.result) c.ident_at-x.result) (value-here (goal.at.returns-in_err-put_value c).After-value_len-m) _
+    (laws.goes-stop w _ c.args.p c.args.i e c.requires.0 c.requires.1 (counts_if (not c.same_ident-same.result) c.ident_at-x.result) (value-here (goal.at.returns-in_err-put_value-clause-did c).After-value_len-m) _
     (numbers.puts-swapped w c.args.p c.args.i e _ _ (value_o (numbered (stack w) (suc c.args.b))) c.requires.1 c.requires.3 c.in_err-put_value.ensures))
 
-pub returns : goal.returns
-returns c =
+pub returns-in_err-put_value-clause-kept : goal.returns-in_err-put_value-clause-kept
+returns-in_err-put_value-clause-kept c =
+    let w = c.args.w.now in
+    exit (λ r. OnErr r (c.put_value.new.w ≡ w)) c.from_residual.result c.from_residual.ensures.1
+    (numbers.puts-swapped w c.args.p c.args.i (value_by w c.args.b) _ _ (value_o (numbered (stack w) (suc c.args.b))) c.requires.1 c.requires.3 c.in_err-put_value.ensures).1
+
+pub returns-clause-did : goal.returns-clause-did
+returns-clause-did c =
     let w = c.args.w.now in
     let e = value_by w c.args.b in
-    laws.goes_on w _ c.args.p c.args.i e c.requires.0 c.requires.1 (counts_if (not c.same_ident-same.result) c.ident_at-x.result) (value-here (goal.at.returns c).After-value_len-m)
+    laws.goes_on w _ c.args.p c.args.i e c.requires.0 c.requires.1 (counts_if (not c.same_ident-same.result) c.ident_at-x.result) (value-here (goal.at.returns-clause-did c).After-value_len-m)
     (numbers.puts-swapped w c.args.p c.args.i e _ _ (value_o (numbered (stack w) (suc c.args.b))) c.requires.1 c.requires.3 c.in_ok-put_value.ensures) c.counted.ensures (ap (λ (n : ℕ). c.args.i + n) (c.value_len-m.ensures.0 ∙ ap count_o c.requires.3))

@@ -58,16 +58,16 @@ pub declr-over-requires : goal.declr-over-requires
 declr-over-requires t c = heres.at-trees (heres.here-turn c.set_pat_mode.ensures (heres.here-again (sim-split sim-skip (sim-each ((sims c.args.d).full (c.args.p + 1)))) (heres.here-kids c.requires c.arity_at-n.ensures) c.in_ok-tail.ensures))
 
 pub declr-skip-requires : goal.declr-skip-requires
-declr-skip-requires t c = heres.at-skip (declrs.over-here (walks_f c.args.d) c.args.p (sim-name (sims c.args.d) c.args.p) (declrs.kids-again (sim-split sim-skip (sim-each ((sims c.args.d).full (c.args.p + 1)))) c.requires c.arity_at-n.ensures c.in_ok-tail.ensures c.set_pat_mode.ensures).0 (declrs.kids-again (sim-split sim-skip (sim-each ((sims c.args.d).full (c.args.p + 1)))) c.requires c.arity_at-n.ensures c.in_ok-tail.ensures c.set_pat_mode.ensures).1 (tree_at (abs c.set_pat_mode.new.w) (c.args.i + 1)) (rest c.set_pat_mode.new.w).var_decl_kind (declrs.headed-no c.set_pat_mode.new.w c.arity_at-n.result (c.args.i + 1) c.nameless.result c.nameless.ensures c.if-nameless.false).0 (sym c.inlining.ensures ∙ c.if-inlining.false) c.name_at-bound.result.form (declrs.name-form (heres.here-turn c.set_pat_mode.ensures (heres.here-again (sim-split sim-skip (sim-each ((sims c.args.d).full (c.args.p + 1)))) (heres.here-kids c.requires c.arity_at-n.ensures) c.in_ok-tail.ensures)) (declrs.headed-no c.set_pat_mode.new.w c.arity_at-n.result (c.args.i + 1) c.nameless.result c.nameless.ensures c.if-nameless.false).1 c.name_at-bound.ensures.1) c.name_at-bound.result.ident (declrs.name-num (heres.here-turn c.set_pat_mode.ensures (heres.here-again (sim-split sim-skip (sim-each ((sims c.args.d).full (c.args.p + 1)))) (heres.here-kids c.requires c.arity_at-n.ensures) c.in_ok-tail.ensures)) (declrs.headed-no c.set_pat_mode.new.w c.arity_at-n.result (c.args.i + 1) c.nameless.result c.nameless.ensures c.if-nameless.false).1 c.name_at-bound.ensures.0) c.in_ok-gone.ensures).0
+declr-skip-requires t c = heres.at-skip (declrs.over-here (walks_f c.args.d) c.args.p (sim-name (sims c.args.d) c.args.p) (declrs.kids-again (sim-split sim-skip (sim-each ((sims c.args.d).full (c.args.p + 1)))) c.requires c.arity_at-n.ensures c.in_ok-tail.ensures c.set_pat_mode.ensures).0 (declrs.kids-again (sim-split sim-skip (sim-each ((sims c.args.d).full (c.args.p + 1)))) c.requires c.arity_at-n.ensures c.in_ok-tail.ensures c.set_pat_mode.ensures).1 (tree_at (abs c.set_pat_mode.new.w) (c.args.i + 1)) (rest c.set_pat_mode.new.w).var_decl_kind (declrs.headed-no c.set_pat_mode.new.w c.arity_at-n.result (c.args.i + 1) c.nameless.result c.nameless.ensures c.if-nameless.false).0 (sym c.inlining.ensures ∙ c.if-inlining.false) c.name_at-bound.result.form (declrs.name-form (heres.here-turn c.set_pat_mode.ensures (heres.here-again (sim-split sim-skip (sim-each ((sims c.args.d).full (c.args.p + 1)))) (heres.here-kids c.requires c.arity_at-n.ensures) c.in_ok-tail.ensures)) (declrs.headed-no c.set_pat_mode.new.w c.arity_at-n.result (c.args.i + 1) c.nameless.result c.nameless.ensures c.if-nameless.false).1 c.name_at-bound.ensures.1) c.name_at-bound.result.ident (declrs.name-num (heres.here-turn c.set_pat_mode.ensures (heres.here-again (sim-split sim-skip (sim-each ((sims c.args.d).full (c.args.p + 1)))) (heres.here-kids c.requires c.arity_at-n.ensures) c.in_ok-tail.ensures)) (declrs.headed-no c.set_pat_mode.new.w c.arity_at-n.result (c.args.i + 1) c.nameless.result c.nameless.ensures c.if-nameless.false).1 c.name_at-bound.ensures.0) c.in_ok-gone.ensures.did).0
 
 pub declr-returns-then-gone : goal.declr-returns-then-gone
-declr-returns-then-gone t c = declrs.declr-then (walks_f c.args.d) c.requires c.arity_at-n.ensures c.in_ok-tail.ensures c.set_pat_mode.ensures (declrs.over_yes (walks_f c.args.d) c.args.p (sim-name (sims c.args.d) c.args.p) (declrs.kids-again (sim-split sim-skip (sim-each ((sims c.args.d).full (c.args.p + 1)))) c.requires c.arity_at-n.ensures c.in_ok-tail.ensures c.set_pat_mode.ensures).0 (declrs.kids-again (sim-split sim-skip (sim-each ((sims c.args.d).full (c.args.p + 1)))) c.requires c.arity_at-n.ensures c.in_ok-tail.ensures c.set_pat_mode.ensures).1 (tree_at (abs c.set_pat_mode.new.w) (c.args.i + 1)) (rest c.set_pat_mode.new.w).var_decl_kind (declrs.headed-no c.set_pat_mode.new.w c.arity_at-n.result (c.args.i + 1) c.nameless.result c.nameless.ensures c.if-nameless.false).0 (sym c.inlining.ensures ∙ c.if-inlining.false) c.name_at-bound.result.form (declrs.name-form (heres.here-turn c.set_pat_mode.ensures (heres.here-again (sim-split sim-skip (sim-each ((sims c.args.d).full (c.args.p + 1)))) (heres.here-kids c.requires c.arity_at-n.ensures) c.in_ok-tail.ensures)) (declrs.headed-no c.set_pat_mode.new.w c.arity_at-n.result (c.args.i + 1) c.nameless.result c.nameless.ensures c.if-nameless.false).1 c.name_at-bound.ensures.1) c.name_at-bound.result.ident (declrs.name-num (heres.here-turn c.set_pat_mode.ensures (heres.here-again (sim-split sim-skip (sim-each ((sims c.args.d).full (c.args.p + 1)))) (heres.here-kids c.requires c.arity_at-n.ensures) c.in_ok-tail.ensures)) (declrs.headed-no c.set_pat_mode.new.w c.arity_at-n.result (c.args.i + 1) c.nameless.result c.nameless.ensures c.if-nameless.false).1 c.name_at-bound.ensures.0) c.in_ok-gone.ensures c.if-gone.true c.skip.ensures.0)
+declr-returns-then-gone t c = declrs.declr-then (walks_f c.args.d) c.requires c.arity_at-n.ensures c.in_ok-tail.ensures c.set_pat_mode.ensures (declrs.over_yes (walks_f c.args.d) c.args.p (sim-name (sims c.args.d) c.args.p) (declrs.kids-again (sim-split sim-skip (sim-each ((sims c.args.d).full (c.args.p + 1)))) c.requires c.arity_at-n.ensures c.in_ok-tail.ensures c.set_pat_mode.ensures).0 (declrs.kids-again (sim-split sim-skip (sim-each ((sims c.args.d).full (c.args.p + 1)))) c.requires c.arity_at-n.ensures c.in_ok-tail.ensures c.set_pat_mode.ensures).1 (tree_at (abs c.set_pat_mode.new.w) (c.args.i + 1)) (rest c.set_pat_mode.new.w).var_decl_kind (declrs.headed-no c.set_pat_mode.new.w c.arity_at-n.result (c.args.i + 1) c.nameless.result c.nameless.ensures c.if-nameless.false).0 (sym c.inlining.ensures ∙ c.if-inlining.false) c.name_at-bound.result.form (declrs.name-form (heres.here-turn c.set_pat_mode.ensures (heres.here-again (sim-split sim-skip (sim-each ((sims c.args.d).full (c.args.p + 1)))) (heres.here-kids c.requires c.arity_at-n.ensures) c.in_ok-tail.ensures)) (declrs.headed-no c.set_pat_mode.new.w c.arity_at-n.result (c.args.i + 1) c.nameless.result c.nameless.ensures c.if-nameless.false).1 c.name_at-bound.ensures.1) c.name_at-bound.result.ident (declrs.name-num (heres.here-turn c.set_pat_mode.ensures (heres.here-again (sim-split sim-skip (sim-each ((sims c.args.d).full (c.args.p + 1)))) (heres.here-kids c.requires c.arity_at-n.ensures) c.in_ok-tail.ensures)) (declrs.headed-no c.set_pat_mode.new.w c.arity_at-n.result (c.args.i + 1) c.nameless.result c.nameless.ensures c.if-nameless.false).1 c.name_at-bound.ensures.0) c.in_ok-gone.ensures.did c.if-gone.true c.skip.ensures.0)
 
 pub declr-name-requires-2 : goal.declr-name-requires-2
-declr-name-requires-2 t c = (omega (arith, c.decreases), declrs.over-here (walks_f c.args.d) c.args.p (sim-name (sims c.args.d) c.args.p) (declrs.kids-again (sim-split sim-skip (sim-each ((sims c.args.d).full (c.args.p + 1)))) c.requires c.arity_at-n.ensures c.in_ok-tail.ensures c.set_pat_mode.ensures).0 (declrs.kids-again (sim-split sim-skip (sim-each ((sims c.args.d).full (c.args.p + 1)))) c.requires c.arity_at-n.ensures c.in_ok-tail.ensures c.set_pat_mode.ensures).1 (tree_at (abs c.set_pat_mode.new.w) (c.args.i + 1)) (rest c.set_pat_mode.new.w).var_decl_kind (declrs.headed-no c.set_pat_mode.new.w c.arity_at-n.result (c.args.i + 1) c.nameless.result c.nameless.ensures c.if-nameless.false).0 (sym c.inlining.ensures ∙ c.if-inlining.false) c.name_at-bound.result.form (declrs.name-form (heres.here-turn c.set_pat_mode.ensures (heres.here-again (sim-split sim-skip (sim-each ((sims c.args.d).full (c.args.p + 1)))) (heres.here-kids c.requires c.arity_at-n.ensures) c.in_ok-tail.ensures)) (declrs.headed-no c.set_pat_mode.new.w c.arity_at-n.result (c.args.i + 1) c.nameless.result c.nameless.ensures c.if-nameless.false).1 c.name_at-bound.ensures.1) c.name_at-bound.result.ident (declrs.name-num (heres.here-turn c.set_pat_mode.ensures (heres.here-again (sim-split sim-skip (sim-each ((sims c.args.d).full (c.args.p + 1)))) (heres.here-kids c.requires c.arity_at-n.ensures) c.in_ok-tail.ensures)) (declrs.headed-no c.set_pat_mode.new.w c.arity_at-n.result (c.args.i + 1) c.nameless.result c.nameless.ensures c.if-nameless.false).1 c.name_at-bound.ensures.0) c.in_ok-gone.ensures)
+declr-name-requires-2 t c = (omega (arith, c.decreases), declrs.over-here (walks_f c.args.d) c.args.p (sim-name (sims c.args.d) c.args.p) (declrs.kids-again (sim-split sim-skip (sim-each ((sims c.args.d).full (c.args.p + 1)))) c.requires c.arity_at-n.ensures c.in_ok-tail.ensures c.set_pat_mode.ensures).0 (declrs.kids-again (sim-split sim-skip (sim-each ((sims c.args.d).full (c.args.p + 1)))) c.requires c.arity_at-n.ensures c.in_ok-tail.ensures c.set_pat_mode.ensures).1 (tree_at (abs c.set_pat_mode.new.w) (c.args.i + 1)) (rest c.set_pat_mode.new.w).var_decl_kind (declrs.headed-no c.set_pat_mode.new.w c.arity_at-n.result (c.args.i + 1) c.nameless.result c.nameless.ensures c.if-nameless.false).0 (sym c.inlining.ensures ∙ c.if-inlining.false) c.name_at-bound.result.form (declrs.name-form (heres.here-turn c.set_pat_mode.ensures (heres.here-again (sim-split sim-skip (sim-each ((sims c.args.d).full (c.args.p + 1)))) (heres.here-kids c.requires c.arity_at-n.ensures) c.in_ok-tail.ensures)) (declrs.headed-no c.set_pat_mode.new.w c.arity_at-n.result (c.args.i + 1) c.nameless.result c.nameless.ensures c.if-nameless.false).1 c.name_at-bound.ensures.1) c.name_at-bound.result.ident (declrs.name-num (heres.here-turn c.set_pat_mode.ensures (heres.here-again (sim-split sim-skip (sim-each ((sims c.args.d).full (c.args.p + 1)))) (heres.here-kids c.requires c.arity_at-n.ensures) c.in_ok-tail.ensures)) (declrs.headed-no c.set_pat_mode.new.w c.arity_at-n.result (c.args.i + 1) c.nameless.result c.nameless.ensures c.if-nameless.false).1 c.name_at-bound.ensures.0) c.in_ok-gone.ensures.did)
 
 pub declr-returns : goal.declr-returns
-declr-returns t c = declrs.declr-then (walks_f c.args.d) c.requires c.arity_at-n.ensures c.in_ok-tail.ensures c.set_pat_mode.ensures (declrs.over_no (walks_f c.args.d) c.args.p (sim-name (sims c.args.d) c.args.p) (declrs.kids-again (sim-split sim-skip (sim-each ((sims c.args.d).full (c.args.p + 1)))) c.requires c.arity_at-n.ensures c.in_ok-tail.ensures c.set_pat_mode.ensures).0 (declrs.kids-again (sim-split sim-skip (sim-each ((sims c.args.d).full (c.args.p + 1)))) c.requires c.arity_at-n.ensures c.in_ok-tail.ensures c.set_pat_mode.ensures).1 (tree_at (abs c.set_pat_mode.new.w) (c.args.i + 1)) (rest c.set_pat_mode.new.w).var_decl_kind (declrs.headed-no c.set_pat_mode.new.w c.arity_at-n.result (c.args.i + 1) c.nameless.result c.nameless.ensures c.if-nameless.false).0 (sym c.inlining.ensures ∙ c.if-inlining.false) c.name_at-bound.result.form (declrs.name-form (heres.here-turn c.set_pat_mode.ensures (heres.here-again (sim-split sim-skip (sim-each ((sims c.args.d).full (c.args.p + 1)))) (heres.here-kids c.requires c.arity_at-n.ensures) c.in_ok-tail.ensures)) (declrs.headed-no c.set_pat_mode.new.w c.arity_at-n.result (c.args.i + 1) c.nameless.result c.nameless.ensures c.if-nameless.false).1 c.name_at-bound.ensures.1) c.name_at-bound.result.ident (declrs.name-num (heres.here-turn c.set_pat_mode.ensures (heres.here-again (sim-split sim-skip (sim-each ((sims c.args.d).full (c.args.p + 1)))) (heres.here-kids c.requires c.arity_at-n.ensures) c.in_ok-tail.ensures)) (declrs.headed-no c.set_pat_mode.new.w c.arity_at-n.result (c.args.i + 1) c.nameless.result c.nameless.ensures c.if-nameless.false).1 c.name_at-bound.ensures.0) c.in_ok-gone.ensures c.if-gone.false c.name-2.ensures)
+declr-returns t c = declrs.declr-then (walks_f c.args.d) c.requires c.arity_at-n.ensures c.in_ok-tail.ensures c.set_pat_mode.ensures (declrs.over_no (walks_f c.args.d) c.args.p (sim-name (sims c.args.d) c.args.p) (declrs.kids-again (sim-split sim-skip (sim-each ((sims c.args.d).full (c.args.p + 1)))) c.requires c.arity_at-n.ensures c.in_ok-tail.ensures c.set_pat_mode.ensures).0 (declrs.kids-again (sim-split sim-skip (sim-each ((sims c.args.d).full (c.args.p + 1)))) c.requires c.arity_at-n.ensures c.in_ok-tail.ensures c.set_pat_mode.ensures).1 (tree_at (abs c.set_pat_mode.new.w) (c.args.i + 1)) (rest c.set_pat_mode.new.w).var_decl_kind (declrs.headed-no c.set_pat_mode.new.w c.arity_at-n.result (c.args.i + 1) c.nameless.result c.nameless.ensures c.if-nameless.false).0 (sym c.inlining.ensures ∙ c.if-inlining.false) c.name_at-bound.result.form (declrs.name-form (heres.here-turn c.set_pat_mode.ensures (heres.here-again (sim-split sim-skip (sim-each ((sims c.args.d).full (c.args.p + 1)))) (heres.here-kids c.requires c.arity_at-n.ensures) c.in_ok-tail.ensures)) (declrs.headed-no c.set_pat_mode.new.w c.arity_at-n.result (c.args.i + 1) c.nameless.result c.nameless.ensures c.if-nameless.false).1 c.name_at-bound.ensures.1) c.name_at-bound.result.ident (declrs.name-num (heres.here-turn c.set_pat_mode.ensures (heres.here-again (sim-split sim-skip (sim-each ((sims c.args.d).full (c.args.p + 1)))) (heres.here-kids c.requires c.arity_at-n.ensures) c.in_ok-tail.ensures)) (declrs.headed-no c.set_pat_mode.new.w c.arity_at-n.result (c.args.i + 1) c.nameless.result c.nameless.ensures c.if-nameless.false).1 c.name_at-bound.ensures.0) c.in_ok-gone.ensures.did c.if-gone.false c.name-2.ensures)
 
 pub declr-returns-in_err-gone : goal.declr-returns-in_err-gone
-declr-returns-in_err-gone t c = ways.did-exit c.from_residual-in_err-gone.result c.from_residual-in_err-gone.ensures.1 (declrs.declr-then (walks_f c.args.d) c.requires c.arity_at-n.ensures c.in_ok-tail.ensures c.set_pat_mode.ensures (declrs.over-stop (walks_f c.args.d) c.args.p (sim-name (sims c.args.d) c.args.p) (declrs.kids-again (sim-split sim-skip (sim-each ((sims c.args.d).full (c.args.p + 1)))) c.requires c.arity_at-n.ensures c.in_ok-tail.ensures c.set_pat_mode.ensures).0 (declrs.kids-again (sim-split sim-skip (sim-each ((sims c.args.d).full (c.args.p + 1)))) c.requires c.arity_at-n.ensures c.in_ok-tail.ensures c.set_pat_mode.ensures).1 (tree_at (abs c.set_pat_mode.new.w) (c.args.i + 1)) (rest c.set_pat_mode.new.w).var_decl_kind (declrs.headed-no c.set_pat_mode.new.w c.arity_at-n.result (c.args.i + 1) c.nameless.result c.nameless.ensures c.if-nameless.false).0 (sym c.inlining.ensures ∙ c.if-inlining.false) c.name_at-bound.result.form (declrs.name-form (heres.here-turn c.set_pat_mode.ensures (heres.here-again (sim-split sim-skip (sim-each ((sims c.args.d).full (c.args.p + 1)))) (heres.here-kids c.requires c.arity_at-n.ensures) c.in_ok-tail.ensures)) (declrs.headed-no c.set_pat_mode.new.w c.arity_at-n.result (c.args.i + 1) c.nameless.result c.nameless.ensures c.if-nameless.false).1 c.name_at-bound.ensures.1) c.name_at-bound.result.ident (declrs.name-num (heres.here-turn c.set_pat_mode.ensures (heres.here-again (sim-split sim-skip (sim-each ((sims c.args.d).full (c.args.p + 1)))) (heres.here-kids c.requires c.arity_at-n.ensures) c.in_ok-tail.ensures)) (declrs.headed-no c.set_pat_mode.new.w c.arity_at-n.result (c.args.i + 1) c.nameless.result c.nameless.ensures c.if-nameless.false).1 c.name_at-bound.ensures.0) c.in_err-gone.ensures))
+declr-returns-in_err-gone t c = ways.did-exit c.from_residual-in_err-gone.result c.from_residual-in_err-gone.ensures.1 (declrs.declr-then (walks_f c.args.d) c.requires c.arity_at-n.ensures c.in_ok-tail.ensures c.set_pat_mode.ensures (declrs.over-stop (walks_f c.args.d) c.args.p (sim-name (sims c.args.d) c.args.p) (declrs.kids-again (sim-split sim-skip (sim-each ((sims c.args.d).full (c.args.p + 1)))) c.requires c.arity_at-n.ensures c.in_ok-tail.ensures c.set_pat_mode.ensures).0 (declrs.kids-again (sim-split sim-skip (sim-each ((sims c.args.d).full (c.args.p + 1)))) c.requires c.arity_at-n.ensures c.in_ok-tail.ensures c.set_pat_mode.ensures).1 (tree_at (abs c.set_pat_mode.new.w) (c.args.i + 1)) (rest c.set_pat_mode.new.w).var_decl_kind (declrs.headed-no c.set_pat_mode.new.w c.arity_at-n.result (c.args.i + 1) c.nameless.result c.nameless.ensures c.if-nameless.false).0 (sym c.inlining.ensures ∙ c.if-inlining.false) c.name_at-bound.result.form (declrs.name-form (heres.here-turn c.set_pat_mode.ensures (heres.here-again (sim-split sim-skip (sim-each ((sims c.args.d).full (c.args.p + 1)))) (heres.here-kids c.requires c.arity_at-n.ensures) c.in_ok-tail.ensures)) (declrs.headed-no c.set_pat_mode.new.w c.arity_at-n.result (c.args.i + 1) c.nameless.result c.nameless.ensures c.if-nameless.false).1 c.name_at-bound.ensures.1) c.name_at-bound.result.ident (declrs.name-num (heres.here-turn c.set_pat_mode.ensures (heres.here-again (sim-split sim-skip (sim-each ((sims c.args.d).full (c.args.p + 1)))) (heres.here-kids c.requires c.arity_at-n.ensures) c.in_ok-tail.ensures)) (declrs.headed-no c.set_pat_mode.new.w c.arity_at-n.result (c.args.i + 1) c.nameless.result c.nameless.ensures c.if-nameless.false).1 c.name_at-bound.ensures.0) c.in_err-gone.ensures.did))

@@ -28,4 +28,4 @@ returns c =
     let v = tree_o (tree w) c.args.j in
     let q : v ≡ some e = numbers.tree-in w c.args.j (inner-in c.requires.0 c.requires.1) in
     let g = c.in_ok-first_value.ensures in
-    assigns.first_on c.args.p c.args.x e c.args.i c.requires.0 c.first_value.auto.w v q g (ap (λ (xs : List Core). tree_from xs c.args.j) g.0.tree) c.lift_value.ensures
+    assigns.first_on c.args.p c.args.x e c.args.i c.requires.0 c.first_value.auto.w v q g (ap (λ (xs : List Core). tree_from xs c.args.j) g.0.tree) c.lift_value.ensures.did

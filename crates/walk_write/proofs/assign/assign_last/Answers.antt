@@ -78,4 +78,4 @@ returns c =
     let o = c.requires.1 in
     let h = c.if-n-eq0.false in
     let f = free (goal.at.returns c).Joined-else-n-gt1 in
-    last_stored g n i o h f (rw c.in-BindingIdent.is at c.kind_at.ensures.1) c.in_ok-write_ident.ensures refl c.skip-j.ensures.0 c.if-n-eq1.false c.store_value.ensures
+    last_stored g n i o h f (rw c.in-BindingIdent.is at c.kind_at.ensures.1) c.in_ok-write_ident.ensures refl c.skip-j.ensures.0 c.if-n-eq1.false c.store_value.ensures.did

@@ -7,11 +7,11 @@ use lib.ListN.{length, take, drop, length-append, take-append-drop}
 use lib.Seq.{length-take-le}
 use Rattle.def_tree.specs.Tree.{Tree, Forest, nil, cons, Core, length_f, counts, flat, flats, plant, take_f, drop_f}
 use Rattle.def_tree.specs.Combine as TreeWalks
-use Rattle.def_tree.specs.Combine.{Res, stop, done, M, and_then, ret, Flat, tree_at, forest_at, Walk, Walks, carry, skip, split_f}
+use Rattle.def_tree.specs.Combine.{Res, stop, done, M, and_then, ret, Flat, tree_at, forest_at, Walks, skip, split_f}
 use Rattle.def_tree.proofs.Place.{onto, pasts, length-pasts, onto-pasts, take-onto, drop-onto, onto-append, length-onto, drops-here, tree-here, forest-here, plant-flats}
 use Rattle.def_tree.proofs.Sims.{SimF, sim-skip, sim-split, land_f, Ends}
 use Rattle.def_tree.proofs.Whole.{Whole, whole_drop, length-take_f, flats-take-drop, unplant, length-append_f}
-use Rattle.shape.specs.Shape.{Room, Shape}
+use Rattle.walk_shape.specs.Shape.{Room, Shape}
 
 -- a list as what stands behind its first nodes, the last one first
 rev : {A : Type 0} → List A → List A → List A
