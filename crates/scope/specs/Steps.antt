@@ -18,7 +18,7 @@ abbrev pub done_of : {S A : Type 0} → Result A Refusal → S → Res S A
 done_of (Ok a) s = done s a
 done_of (Err r) s = stop (number r)
 
--- m is what the definition does from the state of w, r the same by the step's answer; the tree's nodes are as they were after a refusal, too
+-- m is what the definition does from the state of w, r the same by the step's answer; the tree's nodes are as they were, after a refusal too
 pub record Moves {A : Type 0} (w u : List ℕ) (m r : Res St A) : Type 0 where
   pub ok : state.Ok w u
   pub nodes : tree u ≡ tree w

@@ -63,7 +63,7 @@ pub struct Declaration {
     pub barred: Option<u8>,
 }
 
-// The innermost binding of x gets its first value, a run of the tree's nodes; it is no longer undefined then.
+// The innermost binding of x gets its first value, a run of the tree's nodes, and becomes defined.
 pub fn first_value(w: &mut [u32], x: u8, r: Run) -> Result<(), Refusal>
     requires { (Good w.old) × (Offered w.old r) }
     ensures { Grown w.old w.new (change x (λ c. defined (with_value (run_value w.old r) c)) (stack w.old)) result }

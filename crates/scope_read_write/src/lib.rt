@@ -16,7 +16,7 @@ use words::layout;
 use words_scopes::kinds::{VarDeclKind, VarType};
 use words_scopes::{define, prevent_inline, push};
 
-// How a name is written: it is prevented where the scopes say so, or in any case. Two cases with names, where a bool said `force`.
+// How a name is written: it is prevented where the scopes say so, or in any case. Two cases with names, where a bool would say `force`.
 #[derive(Clone, Copy, Debug, PartialEq, Eq)]
 pub enum Write {
     Plain,
@@ -46,7 +46,7 @@ pub fn add_read(w: &mut [u32], x: u8, args: bool)
     count_read(w, x);
 }
 
-// x is bound: it is defined now, and marked where the test says so. The test is an argument, as the definition's `write_bound` has it.
+// x is bound: it becomes defined, and marked where the test says so. The test is an argument, as the definition's `write_bound` has it.
 fn write_bound(w: &mut [u32], x: u8, far: bool)
     requires { Good w.old }
     ensures { Becomes w.old w.new (write_bound x far (stack w.old)) }

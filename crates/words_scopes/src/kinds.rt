@@ -29,7 +29,7 @@ pub enum ScopeKind {
 }
 
 impl ScopeKind {
-    // An associated constant, and `Scope::new` below, where today `Default` might stand: the scope document names them.
+    // An associated constant, and `Scope::new` below, where `Default` might stand: the scope document names them.
     pub const DEFAULT: ScopeKind = ScopeKind::Fn { named: false };
 
     // The kind that a word stands for.

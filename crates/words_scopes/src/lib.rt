@@ -117,7 +117,7 @@ pub fn find_by_walk(w: &[u32], x: u8) -> Option<usize>
     None
 }
 
-// The innermost binding of x, if there is one, is no longer undefined. This and `count_one` change one word each, with a definition each.
+// The innermost binding of x, if there is one, becomes defined. This and `count_one` change one word each, with a definition each.
 pub fn define(w: &mut [u32], x: u8)
     requires { Good w.old }
     ensures { Becomes w.old w.new (change x defined (stack w.old)) }
