@@ -36,7 +36,7 @@ def blocks(path):
 
 
 def answer(lines):
-    """The bytes of an answer, as `answer_bytes` of Vector.antt makes them, and whether its root lines have counts."""
+    """The bytes of an answer, as `answer_bytes` of crates/def_pass/specs/Vector.antt makes them, and whether its root lines have counts."""
     if lines[0].startswith("refused "):
         assert len(lines) == 1, lines
         return bytes([int(lines[0].split()[1])]), False

@@ -4,6 +4,7 @@ use Rattle.def_file.specs.declared.Raw.{Raw}
 use Rattle.def_file.specs.Script.{Script}
 use Rattle.def_file.specs.Write.{file}
 use Rattle.def_pass.specs.Table.{n}
+use Rattle.def_pass.specs.Refusals.{contexts}
 use Rattle.def_canon.specs.Canon.{canon}
 use Rattle.def_canon.specs.Entry.{Writing, refused, wrote, canon_entry}
 
@@ -58,7 +59,7 @@ empty = n 1 0 1 0 0 ∷ n 3 0 0 0 0 ∷ []
 abbrev pub array_of : ℕ → List Raw → List Raw
 array_of k xs = n 1 0 1 0 0 ∷ n 4 0 1 0 0 ∷ n 27 0 k 0 0 ∷ xs
 
--- strings, the last text first, and as they are written; a name in as many contexts
+-- strings, the last text first, and as they are written
 abbrev pub last_first : ℕ → List Raw
 last_first zero = []
 last_first (suc k) = n 25 0 0 k 0 ∷ last_first k
@@ -66,10 +67,6 @@ last_first (suc k) = n 25 0 0 k 0 ∷ last_first k
 abbrev pub in_order : ℕ → ℕ → List Raw
 in_order i zero = []
 in_order i (suc k) = n 25 0 0 i 0 ∷ in_order (suc i) k
-
-abbrev pub contexts : ℕ → List Raw
-contexts zero = []
-contexts (suc k) = n 21 0 0 0 k ∷ contexts k
 
 abbrev pub up : ℕ → ℕ → List (List ℕ)
 up i zero = []

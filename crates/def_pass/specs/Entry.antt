@@ -20,6 +20,10 @@ abbrev pub entry_read : ℕ → ℕ → Read → Entry
 entry_read runs room (bad r) = refused r
 entry_read runs room (script s) = written room s (pass runs s)
 
+-- row 1
+abbrev pub enough : ℕ → ℕ → Bool
+enough runs words = leb 1 runs && leb runs 16 && leb 16384 words
+
 unfoldable pub entry : ℕ → ℕ → List ℕ → ℕ → Entry
 unfolding read pass file
-entry runs words bytes room = elim (leb 1 runs && leb runs 16 && leb 16384 words) [ false ↦ refused 1 | true ↦ entry_read runs room (read bytes) ]
+entry runs words bytes room = elim (enough runs words) [ false ↦ refused 1 | true ↦ entry_read runs room (read bytes) ]

@@ -11,6 +11,7 @@ pub mod Cases
 pub mod Table
 pub mod Imitations
 pub mod Refusals
+pub mod Vector
 pub mod Traps
 pub mod Requests
 pub mod Counts

@@ -1,6 +1,6 @@
 -- Scripts aimed at the requests, worked out by hand from their sentences, in numbers of 16 bytes as in Traps.
 use Rattle.std.specs.Prelude.{◌≡◌, refl, List, [], ◌∷◌}
-use Rattle.def_pass.specs.Traps.{Vector, v, wrong}
+use Rattle.def_pass.specs.Vector.{Vector, v, wrong}
 
 -- request 8
 abbrev pub constants : List Vector

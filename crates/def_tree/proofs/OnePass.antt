@@ -1,6 +1,6 @@
 -- Two passes through a list that change what a test asks for are one pass with both tests: the change is made once or twice alike, and the second test
 -- does not see it. Assumes nothing.
-use mathlib.Core.Path.{◌≡◌, refl, ap, ◌∙◌}
+use mathlib.Core.Path.{◌≡◌, refl}
 use mathlib.Core.Bool.{Bool, true, false, ◌||◌}
 use mathlib.Core.List.{List, [], ◌∷◌, map}
 use Rattle.def_tree.specs.Base.{pick, change_if}

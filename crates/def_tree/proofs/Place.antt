@@ -2,13 +2,11 @@
 -- down to its children, is to compute: onto pre (c ∷ xs) is onto (c ∷ pre) xs. Assumes nothing.
 use mathlib.Core.Path.{◌≡◌, refl, sym, ap, ◌∙◌}
 use mathlib.Core.List.{List, [], ◌∷◌, ◌++◌, append_assoc}
-use Prim.Native.Nat.{ℕ, zero, suc, ◌+◌}
-use native.Mathlib.Nat.{zero-add, suc-add, add-suc, add_assoc}
-use native.Mathlib.Numerals.{add-one}
+use Prim.Native.Nat.{◌+◌}
 use native.Mathlib.Omega.{arith}
 use lib.ListN.{length, get_or, take, drop, set, length-append}
-use lib.Seq.{take_at, drop_at, get_or_at, set_at, drop-append-add, drop-drop}
-use Rattle.def_tree.specs.Tree.{Tree, Forest, node, nil, cons, length_f, count, counts, Core, core, no_core, flat, flats, take_f, drop_f, plant, first_t}
+use lib.Seq.{take_at, drop_at, get_or_at, set_at, drop-drop}
+use Rattle.def_tree.specs.Tree.{Tree, Forest, node, nil, cons, length_f, count, counts, Core, core, no_core, flat, flats, take_f, drop_f, plant}
 use Rattle.def_tree.specs.Combine.{Flat, tree_at, forest_at, node_at}
 
 abbrev pub onto : {A : Type 0} → List A → List A → List A

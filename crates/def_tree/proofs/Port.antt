@@ -1,12 +1,11 @@
 -- The laws by which a function of the port, on words, meets the walk on the list; and by them the needs of a loop over children and of a
 -- scope around a walk. W: the words; abs: what they stand for; Ok: what every function keeps. Assumes nothing.
 use mathlib.Core.Path.{◌≡◌, refl, sym, ap, ◌∙◌}
-use mathlib.Core.List.{List, [], ◌∷◌}
 use Prim.Native.Nat.{ℕ, zero, suc, ◌+◌, ◌-◌, ◌≤◌, ◌<◌}
 use native.Mathlib.Nat.{zero-add, suc-add}
 use native.Mathlib.Numerals.{add-one}
 use native.Mathlib.Omega.{arith}
-use Rattle.def_tree.specs.Combine.{Res, stop, done, M, Nothing, and_then, ◌>>=◌, Flat, node_at, Walk, Walks, on_rest, within_f, many, on_kids_f}
+use Rattle.def_tree.specs.Combine.{Res, stop, done, M, Nothing, and_then, ◌>>=◌, Flat, Walk, on_rest, within_f, many}
 
 -- what a function of the port answers
 pub data Ans : Type 0 where

@@ -1,15 +1,15 @@
 -- The walks on the list do what the walks on trees do: one law for each part that walks are made of. Generic in the rest of the state.
 -- Assumes nothing.
-use mathlib.Core.Path.{◌≡◌, refl, sym, ap, ◌∙◌}
+use mathlib.Core.Path.{◌≡◌, refl, ap, ◌∙◌}
 use mathlib.Core.Bool.{Bool, true, false}
-use mathlib.Core.List.{List, [], ◌∷◌, ◌++◌}
-use Prim.Native.Nat.{ℕ, zero, suc, ◌+◌, ◌-◌}
+use mathlib.Core.List.{List, ◌∷◌}
+use Prim.Native.Nat.{ℕ, zero, suc, ◌-◌}
 use native.Mathlib.Numerals.{add-one}
 use native.Mathlib.Omega.{arith}
-use lib.ListN.{length, get_or, take, drop, set}
-use Rattle.def_tree.specs.Tree.{Tree, Forest, node, nil, cons, kind, form, num, kids, length_f, count, counts, Core, core, no_core, flat, flats, top, tail_f}
-use Rattle.def_tree.specs.Combine.{Res, stop, done, M, Nothing, and_then, ◌>>=◌, ◌>>◌, ret, refuse, iff, within, each, split, each_but, on_kids, Flat, node_at, re_arity, tree_at, forest_at, Walk, Walks, ReWalks, carry, on_rest, act_n, act, act_f, within_f, skip, skips, put, set_arity, many, split_f, each_but_f, on_kids_f, re_kids_f, same, split_r, cut_first, cut}
-use Rattle.def_tree.proofs.Place.{onto, past, pasts, onto-append, length-past, length-pasts, onto-pasts, take-onto, drop-onto, set-onto, drop_here, drops-here, at, at-past, tree-here, node-here, forest-here}
+use lib.ListN.{length}
+use Rattle.def_tree.specs.Tree.{Tree, Forest, node, nil, cons, length_f, count, Core, core, flat, flats, top, tail_f}
+use Rattle.def_tree.specs.Combine.{Res, stop, done, M, Nothing, and_then, ◌>>=◌, ◌>>◌, ret, refuse, iff, within, each, split, each_but, on_kids, Flat, node_at, tree_at, forest_at, Walk, Walks, ReWalks, carry, act_n, act, act_f, within_f, skip, skips, put, many, split_f, each_but_f, on_kids_f, re_kids_f, same, split_r, cut_first, cut}
+use Rattle.def_tree.proofs.Place.{past, pasts, onto-append, length-past, length-pasts, take-onto, set-onto, drop_here, drops-here, at, at-past, tree-here, node-here, forest-here}
 
 -- P of the answer, if there is one
 abbrev pub Ends : {S A : Type 0} → (A → Type 0) → Res S A → Type 0
@@ -32,7 +32,7 @@ pub carry-then-with : {S F A B C D : Type 0} (P : A → Type 0) (h : S → A →
 carry-then-with P h e h' e' f g (stop n) p q k = rw q refl
 carry-then-with P h e h' e' f g (done s a) p q k = rw q (k s a p)
 
-then-assoc : {S A B C : Type 0} (r : Res S A) (f : A → M S B) (g : B → M S C) → and_then (and_then r f) g ≡ and_then r (λ a s. and_then (f a s) g)
+pub then-assoc : {S A B C : Type 0} (r : Res S A) (f : A → M S B) (g : B → M S C) → and_then (and_then r f) g ≡ and_then r (λ a s. and_then (f a s) g)
 then-assoc (stop n) f g = refl
 then-assoc (done s a) f g = refl
 

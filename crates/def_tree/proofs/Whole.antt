@@ -1,13 +1,13 @@
 -- What the port's leaf functions need of the list of nodes, whatever the walks: `Whole`, that each node has its children. It goes into
 -- `Good`; it holds of each end of a list that has it; it is kept where one tree takes another's place. Assumes nothing.
 use mathlib.Core.Path.{◌≡◌, refl, sym, ap, ◌∙◌}
-use mathlib.Core.List.{List, [], ◌∷◌, ◌++◌}
+use mathlib.Core.List.{List, [], ◌∷◌}
 use Prim.Native.Nat.{ℕ, zero, suc, ◌+◌, ◌-◌, ◌≤◌, ◌<◌}
 use native.Mathlib.Nat.{zero-add, suc-add, sub-zero, zero-sub, suc-sub-suc, not-suc-le-zero, le_of_suc-le-suc}
 use native.Mathlib.Omega.{arith}
-use lib.ListN.{length, get_or, drop}
+use lib.ListN.{length, drop}
 use lib.Seq.{drop-cons, drop-drop}
-use Rattle.def_tree.specs.Tree.{Tree, Forest, node, nil, cons, kind, form, num, length_f, count, counts, Core, core, no_core, flat, flats, take_f, drop_f, plant, first_t}
+use Rattle.def_tree.specs.Tree.{Tree, Forest, node, nil, cons, kind, form, num, length_f, count, counts, Core, no_core, flat, flats, take_f, drop_f, plant, first_t}
 use Rattle.def_tree.specs.Combine.{Flat, tree_at, node_at}
 use Rattle.def_tree.proofs.Place.{onto, append_f, plant-flat, plant-flats, drop-onto, drop-flat}
 

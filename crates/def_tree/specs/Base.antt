@@ -1,5 +1,5 @@
 -- Small helpers: choice, conversion of tests, membership.
-use Rattle.std.specs.Prelude.{Bool, true, false, List, [], ◌∷◌, ℕ, zero, suc, ◌+◌, eqb}
+use Rattle.std.specs.Prelude.{Bool, true, false, List, [], ◌∷◌, ℕ, eqb}
 use Rattle.std.proofs.Math.Option.{Option, none, some}
 
 -- x if the test passes, else y. Both are computed first: use `elim` where a branch holds a recursive call

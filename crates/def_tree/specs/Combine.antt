@@ -1,6 +1,6 @@
 -- What walks are made of, twice: on trees, and on the list of nodes with an index. S is the rest of the state, which both sides share
 -- as it is: recorded values are trees in it on both sides. Assumes nothing: these are definitions.
-use Rattle.std.specs.Prelude.{Bool, true, false, List, [], ◌∷◌, ◌++◌, ℕ, zero, suc, ◌+◌, ◌-◌, get_or, take, drop, set}
+use Rattle.std.specs.Prelude.{Bool, true, false, List, ◌++◌, ℕ, zero, suc, ◌+◌, ◌-◌, get_or, take, drop, set}
 use Rattle.def_tree.specs.Tree.{Tree, Forest, node, nil, cons, count, counts, Core, core, no_core, flat, plant, take_f, first_t}
 
 -- a refusal's number, or a state and an answer. A refusal has no state: the port's contract then says only that the words are good

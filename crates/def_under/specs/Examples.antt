@@ -1,12 +1,12 @@
 -- Scripts under tables that allow a few pairs, and what is asked of a table, worked out by hand. One `refl` each.
-use Rattle.std.specs.Prelude.{◌≡◌, refl, List, [], ◌∷◌, ◌++◌, ℕ, zero, suc, replicate}
+use Rattle.std.specs.Prelude.{◌≡◌, refl, List, [], ◌∷◌, ◌++◌, ℕ, replicate}
 use Rattle.def_file.specs.declared.Raw.{Raw}
 use Rattle.def_file.specs.Script.{Script}
 use Rattle.def_file.specs.Read.{Read, bad, script}
 use Rattle.def_file.specs.Write.{file}
 use Rattle.def_kinds.specs.Examples.{of_pairs}
 use Rattle.def_pass.specs.Table.{n}
-use Rattle.def_pass.specs.Refusals.{refusal_of, empty}
+use Rattle.def_pass.specs.Refusals.{refusal_of, empty, contexts}
 use Rattle.def_under.specs.Reading.{read_under}
 use Rattle.def_under.specs.Entry.{entry_under}
 
@@ -65,10 +65,6 @@ unfolding read_under file
 none = refl
 
 -- 257 contexts of one name in a list, with a forbidden pair and without: 6 comes before 7
-abbrev pub contexts : ℕ → List Raw
-contexts zero = []
-contexts (suc k) = n 21 0 0 0 k ∷ contexts k
-
 abbrev pub many : Script
 many = of_nodes (n 1 0 1 0 0 ∷ n 4 0 1 0 0 ∷ n 27 0 257 0 0 ∷ contexts 257)
 

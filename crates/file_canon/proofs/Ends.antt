@@ -17,8 +17,7 @@ use Rattle.laws_roundtrip.specs.Fits.{Bytes, Fits}
 use Rattle.laws_roundtrip.proofs.Nodes.{nodes-length}
 use Rattle.laws_roundtrip.proofs.Texts.{texts-length}
 use Rattle.laws_roundtrip.proofs.Round.{Found, found}
-use Rattle.laws_pass.proofs.Keep.{All}
-use Rattle.laws_pass.proofs.Again.{get_d-in}
+use Rattle.laws_pass.proofs.All.{All, get_d-in}
 use Rattle.laws_canon.proofs.Uses.{uses-all}
 use Rattle.laws_canon.proofs.Same.{sound_read, in-range}
 use Rattle.laws_canon.proofs.Laws.{fits-canon}

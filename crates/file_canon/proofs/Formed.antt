@@ -10,7 +10,7 @@ use Rattle.def_file.specs.declared.Raw.{Raw}
 use Rattle.def_file.specs.Kinds.{uses_text}
 use Rattle.def_file.specs.Script.{Script, has_id, zero_node, text_at}
 use Rattle.def_canon.specs.Canon.{index_of, has_text_number, context, texts_used, contexts_used, canon_node, canon}
-use Rattle.laws_pass.proofs.Tests.{is_T}
+use Rattle.def_tree.proofs.Tests.{is_T}
 use Rattle.laws_canon.proofs.Uses.{uses-few}
 use Rattle.file_fields.specs.Text.{text_in}
 use Rattle.file_fields.proofs.Raws.{nodes-length}

@@ -13,7 +13,7 @@ use Rattle.def_tree.specs.Base.{pick, member}
 use Rattle.def_file.specs.declared.Raw.{Raw}
 use Rattle.def_file.specs.Script.{has_id, zero_node}
 use Rattle.def_canon.specs.Canon.{first_use, first_uses, index_of, has_text_number, text_number, context}
-use Rattle.laws_pass.proofs.Tests.{is_T}
+use Rattle.def_tree.proofs.Tests.{is_T}
 use Rattle.laws_canon.proofs.Uses.{index-lt, uses-few}
 use Rattle.words.specs.Tab.{tab, tab-suc, tab-ext, length-tab, get_d-tab}
 use Rattle.words.proofs.Nodes.{beyond-same}

@@ -20,7 +20,7 @@ use Rattle.laws_roundtrip.specs.Fits.{Bytes}
 use Rattle.laws_roundtrip.proofs.Texts.{both}
 use Rattle.laws_roundtrip.proofs.Round.{found, back as file-back}
 use Rattle.file_read.specs.Reading.{Held}
-use Rattle.file_fields.proofs.Tests.{is_T}
+use Rattle.def_tree.proofs.Tests.{is_T}
 use Rattle.file_read.proofs.Names.{enter-old, enter-new, place-new}
 use Rattle.file_read.proofs.Cores.{core-lit, core-id, core-plain, place-final, ids_more}
 use Rattle.file_write.proofs.Tied.{result_script}

@@ -12,11 +12,12 @@ use Rattle.def_tree.specs.Base.{pick}
 use Rattle.def_file.specs.declared.Raw.{Raw}
 use Rattle.def_file.specs.declared.kinds.Class.TheVariants.{Root}
 use Rattle.def_file.specs.declared.kinds.Row.{Row}
-use Rattle.def_file.specs.Kinds.{allows, row_of, form_ok, count_ok, uses_text, uses_bits}
+use Rattle.def_file.specs.Kinds.{row_of, form_ok, uses_text, uses_bits}
 use Rattle.def_file.specs.Script.{Script, has_id, zero_node}
 use Rattle.def_file.specs.Core.{has_text}
-use Rattle.def_file.specs.Read.{Place, fields_ok, node_ok, below, fills, nodes_ok}
-use Rattle.file_fields.proofs.Tests.{is_T, T-is, and_left, and_right}
+use Rattle.def_file.specs.Read.{Place, node_ok, below, fills, nodes_ok}
+use Rattle.def_file.proofs.Tested.{Tested, tested}
+use Rattle.def_tree.proofs.Tests.{is_T, is_true, and_left, and_right}
 
 pub record Zeros (x : Raw) : Type 0 where
   pub text : uses_text x.kind ≡ false → x.text ≡ 0
@@ -31,52 +32,33 @@ id-row k f false true e q h = ap (λ (j : ℕ). (row_of j f).to) (eqb-true k 21 
 id-row k f false false e q h = absurd (is_T false h)
 
 zeros : (t : ℕ) (p : Place) (x : Raw) → node_ok t p x ≡ true → Zeros x
-unfolding node_ok
 zeros t p x q = record { text = of-text (uses_text x.kind) known; bits = of-bits (uses_bits x.kind) unused; form = of-form }
   where
     r : Row
     r = row_of x.kind x.form
 
-    t1 : Bool
-    t1 = ltb 0 p.left
-
-    t2 : Bool
-    t2 = allows p.class x.kind x.arity
-
-    t3 : Bool
-    t3 = fields_ok t x
-
-    t4 : Bool
-    t4 = form_ok r x.form
-
-    t5 : Bool
-    t5 = count_ok r x.arity
-
-    four : T (t1 && t2 && t3 && t4)
-    four = and_left (t1 && t2 && t3 && t4) t5 (is_T (t1 && t2 && t3 && t4 && t5) q)
-
-    fields : T (pick (uses_text x.kind) (ltb x.text t) (eqb x.text 0) && (uses_bits x.kind || eqb x.bits 0))
-    fields = and_right (t1 && t2) t3 (and_left (t1 && t2 && t3) t4 four)
+    five : Tested t p x
+    five = tested t p x (is_T _ q)
 
     known : T (pick (uses_text x.kind) (ltb x.text t) (eqb x.text 0))
-    known = and_left (pick (uses_text x.kind) (ltb x.text t) (eqb x.text 0)) (uses_bits x.kind || eqb x.bits 0) fields
+    known = and_left (pick (uses_text x.kind) (ltb x.text t) (eqb x.text 0)) (uses_bits x.kind || eqb x.bits 0) five.fields
 
     unused : T (uses_bits x.kind || eqb x.bits 0)
-    unused = and_right (pick (uses_text x.kind) (ltb x.text t) (eqb x.text 0)) (uses_bits x.kind || eqb x.bits 0) fields
+    unused = and_right (pick (uses_text x.kind) (ltb x.text t) (eqb x.text 0)) (uses_bits x.kind || eqb x.bits 0) five.fields
 
     of-text : (b : Bool) → T (pick b (ltb x.text t) (eqb x.text 0)) → b ≡ false → x.text ≡ 0
     of-text true h e = absurd (is_T false (sym e))
-    of-text false h e = eqb-true x.text 0 (T-is (eqb x.text 0) h)
+    of-text false h e = eqb-true x.text 0 (is_true (eqb x.text 0) h)
 
     of-bits : (b : Bool) → T (b || eqb x.bits 0) → b ≡ false → x.bits ≡ 0
     of-bits true h e = absurd (is_T false (sym e))
-    of-bits false h e = eqb-true x.bits 0 (T-is (eqb x.bits 0) h)
+    of-bits false h e = eqb-true x.bits 0 (is_true (eqb x.bits 0) h)
 
     low : T (form_ok r x.form) → x.form ≤ r.to
     low h = leb→le x.form r.to (and_right (leb r.from x.form) (leb x.form r.to) h)
 
     of-form : has_id x ≡ true → x.form ≡ 0
-    of-form h = omega (arith, low (and_right (t1 && t2 && t3) t4 four), id-row x.kind x.form (eqb x.kind 20) (eqb x.kind 21) refl refl h)
+    of-form h = omega (arith, low five.form, id-row x.kind x.form (eqb x.kind 20) (eqb x.kind 21) refl refl h)
 
 filled : (t : ℕ) (ps : List Place) (xs : List Raw) → fills t ps xs ≡ true → (k : ℕ) → k < length xs → Zeros (get_or xs k zero_node)
 unfolding fills

@@ -1,4 +1,3 @@
 pub mod Numbers
 pub mod Raws
-pub mod Tests
 pub mod Strings

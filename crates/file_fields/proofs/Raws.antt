@@ -4,15 +4,11 @@ use mathlib.Core.List.{List}
 use Prim.Native.Nat.{ℕ, zero, suc, ◌+◌, ◌*◌, ◌<◌}
 use native.Mathlib.Nat.{le_of_suc-le-suc, not-suc-le-zero}
 use native.Mathlib.Omega.{arith}
-use lib.ListN.{length, get_or, drop}
+use lib.ListN.{get_or, drop}
 use lib.Seq.{drop-drop}
+pub use Rattle.def_file.proofs.Nodes.{nodes-length}
 use Rattle.def_file.specs.Script.{zero_node}
 use Rattle.def_file.specs.Read.{raw_of, nodes_from}
-
-pub nodes-length : (n : ℕ) (bs : List ℕ) → length (nodes_from n bs) ≡ n
-unfolding nodes_from
-nodes-length zero bs = refl
-nodes-length (suc n) bs = ap suc (nodes-length n (drop 16 bs))
 
 pub nodes-at : (n k : ℕ) (bs : List ℕ) → k < n → get_or (nodes_from n bs) k zero_node ≡ raw_of (drop (16 * k) bs)
 unfolding nodes_from

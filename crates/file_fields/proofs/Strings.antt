@@ -16,7 +16,7 @@ use Rattle.def_file.specs.Script.{same_text}
 use Rattle.def_file.specs.Read.{number, u32, ends_from, texts_from, rising, any_text, distinct}
 use Rattle.file_fields.specs.declared.texts.Texts.{Texts}
 use Rattle.file_fields.specs.Text.{part, start_of, text_in, texts_of, Placed}
-use Rattle.file_fields.proofs.Tests.{is_T, T-is, and_left, and_right}
+use Rattle.def_tree.proofs.Tests.{is_T, is_true, and_left, and_right}
 
 -- what `==` on slices says
 pub same_pointwise : (a b : List ℕ) → pointwise eqb a b ≡ same_text a b
@@ -78,11 +78,11 @@ between at n [] zero h r = record { low = omega arith; high = omega (arith, eqb�
 between at n [] (suc k) h r = absurd (not-suc-le-zero h)
 between at n (e ∷ es) zero h r =
     let l = leb→le at e (and_left (leb at e) (rising e es n) (is_T (leb at e && rising e es n) r)) in
-    let b = between e n es zero (omega arith) (T-is (rising e es n) (and_right (leb at e) (rising e es n) (is_T (leb at e && rising e es n) r))) in
+    let b = between e n es zero (omega arith) (is_true (rising e es n) (and_right (leb at e) (rising e es n) (is_T (leb at e && rising e es n) r))) in
     record { low = omega arith; high = omega (arith, b.high) }
 between at n (e ∷ es) (suc k) h r =
     let l = leb→le at e (and_left (leb at e) (rising e es n) (is_T (leb at e && rising e es n) r)) in
-    let b = between e n es k (le_of_suc-le-suc h) (T-is (rising e es n) (and_right (leb at e) (rising e es n) (is_T (leb at e && rising e es n) r))) in
+    let b = between e n es k (le_of_suc-le-suc h) (is_true (rising e es n) (and_right (leb at e) (rising e es n) (is_T (leb at e && rising e es n) r))) in
     record { low = rw (sym (prev-cons at e es k)) (omega (arith, b.low)); high = rw (sym (prev-cons at e es k)) b.high }
 
 texts-drop : (at n : ℕ) (es body : List ℕ) (k : ℕ) → k ≤ length es → rising at es n ≡ true
@@ -95,7 +95,7 @@ texts-drop at n es body zero h r = ap (λ (m : ℕ). texts_from at es (drop m bo
 texts-drop at n [] body (suc k) h r = absurd (not-suc-le-zero h)
 texts-drop at n (e ∷ es) body (suc k) h r =
     let l = leb→le at e (and_left (leb at e) (rising e es n) (is_T (leb at e && rising e es n) r)) in
-    let r₁ = T-is (rising e es n) (and_right (leb at e) (rising e es n) (is_T (leb at e && rising e es n) r)) in
+    let r₁ = is_true (rising e es n) (and_right (leb at e) (rising e es n) (is_T (leb at e && rising e es n) r)) in
     let b = between e n es k (le_of_suc-le-suc h) r₁ in
     let m : e - at + (prev e es k - e) ≡ prev e es k - at = omega (arith, b.low) in
     texts-drop e n es (drop (e - at) body) k (le_of_suc-le-suc h) r₁
@@ -163,7 +163,7 @@ module _ {bs : List ℕ} {at : Texts} (P : Placed bs at) where
       rise-at at n (e ∷ es) (suc k) h r = rw (sym (prev-cons at e es k)) (rise-at e n es k (le_of_suc-le-suc h) (rest at e es r))
         where
           rest : (at e : ℕ) (es : List ℕ) → rising at (e ∷ es) n ≡ true → rising e es n ≡ true
-          rest at e es r = T-is (rising e es n) (and_right (leb at e) (rising e es n) (is_T (leb at e && rising e es n) r))
+          rest at e es r = is_true (rising e es n) (and_right (leb at e) (rising e es n) (is_T (leb at e && rising e es n) r))
 
   pub text-cons : (k : ℕ) → k < t → drop k (texts_of bs at) ≡ text_in bs ends from k ∷ drop (k + 1) (texts_of bs at)
   text-cons k h = drop-cons (texts_of bs at) k [] (omega (arith, count-texts)) ∙ ap₂ {C = List (List ℕ)} (λ x xs. x ∷ xs) (text-is k h) (ap (λ (m : ℕ). drop m (texts_of bs at)) (sym (add-one k)))

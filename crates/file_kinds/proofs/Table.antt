@@ -11,6 +11,8 @@ use Rattle.def_file.specs.Read.{Place, node_ok, below, fills}
 use Rattle.def_kinds.specs.Stands.{stands}
 use Rattle.def_kinds.specs.Pairs.{allowed, under, parents, pairs}
 use Rattle.file_kinds.specs.declared.TheConstants.{KINDS}
+use Rattle.def_tree.proofs.Tests.{is_T, is_true}
+use Rattle.def_file.proofs.Tested.{tested}
 use Rattle.file_kinds.specs.Table.{NoneMissing, NoneIdle, Unmoved}
 use Rattle.file_kinds.proofs.Whole.{agrees}
 use Rattle.file_kinds.proofs.Places.{takes-stands, takes-kinds, stands-somewhere}
@@ -70,13 +72,7 @@ matched-below n x f k i (suc m) h ps qs d =
 -- the tests of a node that fits
 module _ (t : ℕ) (p : Place) (x : Raw) (e : node_ok t p x ≡ true) where
   fits-parts : (allows p.class x.kind x.arity ≡ true) × (form_ok (row_of x.kind x.form) x.form ≡ true) × (count_ok (row_of x.kind x.form) x.arity ≡ true)
-  unfolding node_ok
-  fits-parts =
-      let a = and_parts _ _ e in
-      let b = and_parts _ _ a.0 in
-      let c = and_parts _ _ b.0 in
-      let d = and_parts _ _ c.0 in
-      (d.1, b.1, a.1)
+  fits-parts = let s = tested t p x (is_T _ e) in (is_true _ s.allowed, is_true _ s.form, is_true _ s.count)
 
 pairs-allowed : (t : ℕ) (xs : List Raw) (ps : List Place) (qs : List (Option ℕ)) → Matched ps qs → fills t ps xs ≡ true → pairs KINDS qs xs ≡ true
 unfolding fills pairs

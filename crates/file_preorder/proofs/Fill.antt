@@ -18,7 +18,8 @@ use Rattle.def_file.specs.Kinds.{allows, row_of, form_ok, count_ok, child_of}
 use Rattle.def_file.specs.Script.{zero_node}
 use Rattle.def_file.specs.Read.{Place, raw_of, fields_ok, node_ok, below, fills}
 use Rattle.def_kinds.specs.Pairs.{under, parents, pairs}
-use Rattle.file_fields.proofs.Tests.{is_T, and_left, and_right}
+use Rattle.def_file.proofs.Tested.{tested}
+use Rattle.def_tree.proofs.Tests.{is_T, and_left, and_right}
 use Rattle.std.proofs.Common.{Result, Ok, Err}
 use Rattle.std.specs.Prelude.{Option, Some}
 use Rattle.std.proofs.lemmas.Bool as bools
@@ -67,9 +68,6 @@ module _ (t : ℕ) (table : List ℕ) (xs : List Raw) (at : ℕ) (p : Place) (q 
 
 -- what a node that fits shows of its place
 module _ (t : ℕ) (p : Place) (x : Raw) where
-  abbrev t1 : Bool
-  t1 = ltb 0 p.left
-
   abbrev t2 : Bool
   t2 = allows p.class x.kind x.arity
 
@@ -99,16 +97,13 @@ module _ (t : ℕ) (p : Place) (x : Raw) where
           go false q = absurd (omega (arith, borrow.Author.Tests.ltb-false 0 p.left q))
 
   ok-left : node_ok t p x ≡ true → 0 < p.left
-  unfolding node_ok
-  ok-left q = ltb→lt 0 p.left (and_left t1 t2 (and_left (t1 && t2) t3 (and_left (t1 && t2 && t3) t4 (and_left (t1 && t2 && t3 && t4) t5 (is_T _ q)))))
+  ok-left q = ltb→lt 0 p.left (tested t p x (is_T _ q)).room
 
   pub ok-allows : node_ok t p x ≡ true → T t2
-  unfolding node_ok
-  ok-allows q = and_right t1 t2 (and_left (t1 && t2) t3 (and_left (t1 && t2 && t3) t4 (and_left (t1 && t2 && t3 && t4) t5 (is_T _ q))))
+  ok-allows q = (tested t p x (is_T _ q)).allowed
 
   ok-count : node_ok t p x ≡ true → T t5
-  unfolding node_ok
-  ok-count q = and_right (t1 && t2 && t3 && t4) t5 (is_T _ q)
+  ok-count q = (tested t p x (is_T _ q)).count
 
 -- the places of children, one by one
 pub below_step : (n : ℕ) (x : Raw) (i m : ℕ) (ps : List Place) → i < m

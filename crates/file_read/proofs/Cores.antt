@@ -7,7 +7,7 @@ use native.Mathlib.Nat.{le_of_suc-le-suc, not-suc-le-zero}
 use native.Mathlib.Decide.{dec_le}
 use native.Mathlib.Numerals.{add-one}
 use native.Mathlib.Omega.{arith}
-use borrow.Author.Tests.{ne_eqb, le-leb}
+use borrow.Author.Tests.{le-leb}
 use Rattle.std.proofs.lemmas.Bool.Decides.{nat_tests}
 use lib.Dec.{T, eqb, leb, leb→le, ltb, ltb→lt, lit≤}
 use mir.Val.{bool_byte}
@@ -23,17 +23,18 @@ use Rattle.words.proofs.Nodes.{tree-length, beyond-same}
 use Rattle.def_file.specs.declared.Raw.{Raw}
 use Rattle.def_file.specs.declared.kinds.Class.TheVariants.{Root}
 use Rattle.def_file.specs.declared.kinds.Row.{Row}
-use Rattle.def_file.specs.Kinds.{allows, rows, no_row, row_of, form_ok, count_ok, uses_text, uses_bits}
+use Rattle.def_file.specs.Kinds.{rows, no_row, row_of, form_ok, uses_text, uses_bits}
 use Rattle.def_file.specs.Script.{Script, is_lit, has_id, same_id, known, enter, enter_all, idents, place_of, zero_node, text_at, is_arguments}
 use Rattle.def_file.specs.Core.{core_node, core_from, core_nodes}
-use Rattle.def_file.specs.Read.{raw_of, Place, fields_ok, node_ok, below, fills, nodes_ok}
+use Rattle.def_file.specs.Read.{raw_of, Place, node_ok, below, fills, nodes_ok}
 use Rattle.file_read.specs.Idents.{ids_of, Listed, Texted}
 use Rattle.file_read.specs.Head.{places}
 use Rattle.file_read.specs.Load.{script_of, Loaded, Loading, Kept}
 use Rattle.file_fields.specs.Text.{text_in}
 use Rattle.file_fields.proofs.Raws.{nodes-length, node-raw}
 use Rattle.file_fields.proofs.Strings.{count-texts, text-is}
-use Rattle.file_fields.proofs.Tests.{is_T, and_left, and_right}
+use Rattle.def_file.proofs.Tested.{Tested, tested, lit-no-id}
+use Rattle.def_tree.proofs.Tests.{is_T, and_left, and_right}
 use Rattle.file_read.proofs.Names.{same_refl, enter-old, enter-new, ids-same, listed_same, texted-same}
 
 -- what row 6 shows of every node
@@ -63,35 +64,16 @@ pub record Sound (t : ℕ) (x : Raw) : Type 0 where
   pub text : T (uses_text x.kind) → x.text < t
 
 sound : (t : ℕ) (p : Place) (x : Raw) → node_ok t p x ≡ true → Sound t x
-unfolding node_ok
-sound t p x q = record { kind = go (dec_le 49 x.kind); form = omega (arith, leb→le x.form r.to (and_right (leb r.from x.form) (leb x.form r.to) form), row-to x.kind x.form); text = λ u. of-text (uses_text x.kind) u fields }
+sound t p x q = record { kind = go (dec_le 49 x.kind); form = omega (arith, leb→le x.form r.to (and_right (leb r.from x.form) (leb x.form r.to) five.form), row-to x.kind x.form); text = λ u. of-text (uses_text x.kind) u known }
   where
     r : Row
     r = row_of x.kind x.form
 
-    t1 : Bool
-    t1 = ltb 0 p.left
+    five : Tested t p x
+    five = tested t p x (is_T _ q)
 
-    t2 : Bool
-    t2 = allows p.class x.kind x.arity
-
-    t3 : Bool
-    t3 = fields_ok t x
-
-    t4 : Bool
-    t4 = form_ok r x.form
-
-    t5 : Bool
-    t5 = count_ok r x.arity
-
-    all : T (t1 && t2 && t3 && t4 && t5)
-    all = is_T (t1 && t2 && t3 && t4 && t5) q
-
-    form : T (form_ok r x.form)
-    form = and_right (t1 && t2 && t3) t4 (and_left (t1 && t2 && t3 && t4) t5 all)
-
-    fields : T (pick (uses_text x.kind) (ltb x.text t) (eqb x.text 0))
-    fields = and_left (pick (uses_text x.kind) (ltb x.text t) (eqb x.text 0)) (uses_bits x.kind || eqb x.bits 0) (and_right (t1 && t2) t3 (and_left (t1 && t2 && t3) t4 (and_left (t1 && t2 && t3 && t4) t5 all)))
+    known : T (pick (uses_text x.kind) (ltb x.text t) (eqb x.text 0))
+    known = and_left (pick (uses_text x.kind) (ltb x.text t) (eqb x.text 0)) (uses_bits x.kind || eqb x.bits 0) five.fields
 
     of-text : (b : Bool) → T b → T (pick b (ltb x.text t) (eqb x.text 0)) → x.text < t
     of-text true u h = ltb→lt x.text t h
@@ -101,7 +83,7 @@ sound t p x q = record { kind = go (dec_le 49 x.kind); form = omega (arith, leb�
     none f h = omega (arith, leb→le 1 f (and_left (leb 1 f) (leb f 0) h), leb→le f 0 (and_right (leb 1 f) (leb f 0) h))
 
     go : Dec (49 ≤ x.kind) → x.kind < 64
-    go (yes h) = absurd (none x.form (subst (λ (s : Row). T (form_ok s x.form)) (row-none x.kind x.form h) form))
+    go (yes h) = absurd (none x.form (subst (λ (s : Row). T (form_ok s x.form)) (row-none x.kind x.form h) five.form))
     go (no h) = omega arith
 
 filled-sound : (t : ℕ) (ps : List Place) (xs : List Raw) → fills t ps xs ≡ true → (k : ℕ) → k < length xs → Sound t (get_or xs k zero_node)
@@ -258,12 +240,6 @@ lit-kinds x h l = rw (le-leb 22 x.kind h, le-leb x.kind 25 l) refl
 
 plain-kinds : (x : Raw) → (20 ≤ x.kind → 26 ≤ x.kind) → (is_lit x ≡ false) × (has_id x ≡ false)
 plain-kinds x h = grind (arith, nat_tests)
-
--- a literal has no identifier
-lit-no-id : (x : Raw) → T (is_lit x) → has_id x ≡ false
-lit-no-id x h =
-    let lo = leb→le 22 x.kind (and_left (leb 22 x.kind) (leb x.kind 25) h) in
-    rw (ne_eqb x.kind 20 (λ e. omega (arith, lo, e)), ne_eqb x.kind 21 (λ e. omega (arith, lo, e))) refl
 
 -- a node with an identifier uses its text
 pub id-text : (x : Raw) → has_id x ≡ true → T (uses_text x.kind)

@@ -16,10 +16,10 @@ use Rattle.words.specs.Tab.{same_or_not, tab, tab-suc, tab-ext, length-tab, get_
 use Rattle.def_file.specs.declared.Raw.{Raw}
 use Rattle.def_file.specs.Script.{zero_node, has_id, same_id, known, enter, place_of}
 use Rattle.file_read.specs.Idents.{numbered, ids_of, Listed, Texted, FirstSet}
-use Rattle.file_fields.proofs.Tests.{T-is}
+use Rattle.def_tree.proofs.Tests.{is_true}
 
 pub same_refl : (x : Raw) → same_id x x ≡ true
-same_refl x = rw (T-is (eqb x.text x.text) (eqb_refl x.text), T-is (eqb x.bits x.bits) (eqb_refl x.bits)) refl
+same_refl x = rw (is_true (eqb x.text x.text) (eqb_refl x.text), is_true (eqb x.bits x.bits) (eqb_refl x.bits)) refl
 
 -- the search, from place j on
 module _ (x : Raw) (ids : List Raw) (j : ℕ) where

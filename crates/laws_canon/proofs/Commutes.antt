@@ -1,6 +1,6 @@
 -- The pass on a script and on its canonical form ends alike. Assumes nothing.
 use mathlib.Core.Path.{◌≡◌, refl, sym, ap, ◌∙◌, subst, subst₂}
-use mathlib.Core.Bool.{Bool, true, false, ◌&&◌}
+use mathlib.Core.Bool.{Bool, true, false}
 use mathlib.Core.List.{List, [], ◌∷◌, map}
 use Prim.Native.Nat.{ℕ, zero, suc, ◌≤◌}
 use native.Mathlib.Omega.{arith}
@@ -20,13 +20,13 @@ use Rattle.def_pass.specs.Tree.{Tree, Forest, node, nil, cons, head_t}
 use Rattle.def_pass.specs.Walk.{Outcome, refused, result}
 use Rattle.def_pass.specs.Script.{root_of, answer, pass_tree, pass}
 use Rattle.def_pass.specs.Entry as entries
-use Rattle.def_pass.specs.Entry.{written, entry_read, entry}
+use Rattle.def_pass.specs.Entry.{written, enough, entry_read, entry}
 use Rattle.def_pass.specs.Paired.{file_of}
 use Rattle.laws_roundtrip.specs.Fits.{Fits}
 use Rattle.laws_roundtrip.proofs.Round.{fits_read}
 use Rattle.laws_pass.specs.Again.{raws_of, outcome, AgainIn}
-use Rattle.laws_pass.proofs.Tests.{is_T}
-use Rattle.laws_pass.proofs.Keep.{All}
+use Rattle.def_tree.proofs.Tests.{is_T}
+use Rattle.laws_pass.proofs.All.{All}
 use Rattle.laws_pass.proofs.Pairs.{twins-at, idents-twins, same-cores}
 use Rattle.laws_pass.proofs.Origin.{lit_kind, id_kind, NamedC, NamedOut, flat-named, out-named}
 use Rattle.laws_pass.proofs.Again.{id-text, WordedT, WordedF, WordedC, WordedOut, out-worded}
@@ -132,7 +132,7 @@ read-ok s f = record { few = f.few; shape = is_T (nodes_ok s) f.shape; names = l
 -- whatever room either has
 pub commutes : Commutes
 unfolding entry pass
-commutes bs s y q runs words room room' = go (leb 1 runs && leb runs 16 && leb 16384 words)
+commutes bs s y q runs words room room' = go (enough runs words)
   where
     c : Script
     c = canon s

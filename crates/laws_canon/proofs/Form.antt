@@ -1,6 +1,6 @@
 -- The canonical form of a script that was read: it differs from the script only as it may, and fits a file. Assumes nothing.
 use mathlib.Core.Path.{◌≡◌, refl, sym, ap, ap₂, ◌∙◌, subst}
-use mathlib.Core.Bool.{Bool, true, false, ◌&&◌, ◌||◌}
+use mathlib.Core.Bool.{Bool, true, false, ◌||◌}
 use mathlib.Core.List.{List, [], ◌∷◌, map}
 use Prim.Native.Nat.{ℕ, zero, suc, ◌-◌, ◌≤◌, ◌<◌}
 use native.Mathlib.Omega.{arith}
@@ -9,15 +9,15 @@ use lib.ListN.{length, get_or, length-map, get_or-map}
 use Rattle.def_tree.specs.Base.{pick, member}
 use Rattle.def_file.specs.declared.Raw.{Raw}
 use Rattle.def_file.specs.declared.kinds.Class.TheVariants.{Root}
-use Rattle.def_file.specs.Kinds.{allows, row_of, form_ok, count_ok, child_of, uses_text, uses_bits}
+use Rattle.def_file.specs.Kinds.{row_of, child_of, uses_text, uses_bits}
 use Rattle.def_file.specs.Script.{Script, has_id, text_at, zero_node, idents}
 use Rattle.def_file.specs.Read.{Place, fields_ok, node_ok, below, fills, nodes_ok}
 use Rattle.def_file.specs.Write.{text_bytes}
 use Rattle.laws_roundtrip.specs.Fits.{Bytes, Narrow, Fits}
-use Rattle.laws_pass.proofs.Tests.{is_T, is_true, and_left, and_right, both}
-use Rattle.laws_pass.proofs.Keep.{All}
+use Rattle.def_file.proofs.Tested.{tested, all-tests}
+use Rattle.def_tree.proofs.Tests.{is_T, is_true, and_right, both}
+use Rattle.laws_pass.proofs.All.{All, get_d-in}
 use Rattle.laws_pass.proofs.Pairs.{Twins, idents-twins}
-use Rattle.laws_pass.proofs.Again.{get_d-in}
 use Rattle.def_canon.specs.Canon.{index_of, has_text_number, text_number, context, texts_used, contexts_used, canon_node, canon}
 use Rattle.def_canon.specs.Differ.{Differ}
 use Rattle.laws_canon.proofs.Uses.{index-le, index-lt, index_is, index-eqb, Lone, all-used, uses-lone, uses-few, uses-all, zip-ext}
@@ -114,18 +114,9 @@ module _ (s : Script) (o : Sound s) where
       bits false false false k = k
 
   node-same : (p : Place) (x : Raw) → Texted x → T (node_ok (length s.texts) p x) → T (node_ok t' p (renumbered x))
-  unfolding node_ok
   node-same p x h k =
-      let r = row_of x.kind x.form in
-      let a = ltb 0 p.left in
-      let b = allows p.class x.kind x.arity in
-      let c = fields_ok (length s.texts) x in
-      let c' = fields_ok t' (renumbered x) in
-      let d = form_ok r x.form in
-      let e = count_ok r x.arity in
-      let k₄ = and_left (a && b && c && d) e k in
-      let k₃ = and_left (a && b && c) d k₄ in
-      both (a && b && c' && d) e (both (a && b && c') d (both (a && b) c' (and_left (a && b) c k₃) (fields-same x h (and_right (a && b) c k₃))) (and_right (a && b && c) d k₄)) (and_right (a && b && c && d) e k)
+      let o = tested (length s.texts) p x k in
+      all-tests t' p (renumbered x) (record { room = o.room; allowed = o.allowed; fields = fields-same x h o.fields; form = o.form; count = o.count })
 
   refill : (xs : List Raw) (ps : List Place) → All Texted xs → T (fills (length s.texts) ps xs) → T (fills t' ps (map renumbered xs))
   unfolding fills

@@ -16,9 +16,9 @@ use Rattle.def_file.specs.Script.{Script, has_id, same_text, arguments, text_at,
 use Rattle.def_file.specs.Read.{nodes_ok, distinct, script, read}
 use Rattle.def_pass.specs.Paired.{Agree, Number, Paired}
 use Rattle.laws_roundtrip.proofs.Round.{found}
-use Rattle.laws_pass.proofs.Tests.{is_T}
-use Rattle.laws_pass.proofs.Keep.{All}
-use Rattle.laws_pass.proofs.Again.{Fine, all-fine, texted, id-text, get_d-in}
+use Rattle.def_tree.proofs.Tests.{is_T}
+use Rattle.laws_pass.proofs.All.{All, get_d-in}
+use Rattle.laws_pass.proofs.Again.{Fine, all-fine, texted, id-text}
 use Rattle.def_canon.specs.Canon.{index_of, has_text_number, text_number, context, texts_used, contexts_used, canon_node, canon}
 use Rattle.def_canon.specs.Differ.{Differ}
 use Rattle.laws_canon.proofs.Uses.{AllZip, Mate, zip-index, zip-uses, zip-ext, zip-at, zip-length, zip-maps, zip-mono}

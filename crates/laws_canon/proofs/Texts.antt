@@ -10,8 +10,8 @@ use borrow.Author.Tests.{eqb-true, eqb-false}
 use Rattle.def_tree.specs.Base.{member}
 use Rattle.def_file.specs.Script.{same_text}
 use Rattle.def_file.specs.Read.{any_text, distinct}
-use Rattle.laws_pass.proofs.Tests.{is_T, is_true, and_left, and_right, both, or_left, or_right}
-use Rattle.laws_pass.proofs.Keep.{All}
+use Rattle.def_tree.proofs.Tests.{is_T, is_true, and_left, and_right, both, or_left, or_right}
+use Rattle.laws_pass.proofs.All.{All}
 use Rattle.laws_roundtrip.proofs.Texts as Parts
 use Rattle.laws_canon.proofs.Uses.{Lone}
 

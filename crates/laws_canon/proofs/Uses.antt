@@ -10,8 +10,8 @@ use borrow.Author.Tests.{eqb-true, eqb-false, eq-eqb, ne_eqb, clash}
 use Rattle.def_tree.specs.Base.{pick, member}
 use Rattle.def_file.specs.declared.Raw.{Raw}
 use Rattle.def_file.specs.Script.{zero_node}
-use Rattle.laws_pass.proofs.Tests.{is_T, or_left, or_right}
-use Rattle.laws_pass.proofs.Keep.{All, all_append}
+use Rattle.def_tree.proofs.Tests.{is_T, or_left, or_right}
+use Rattle.laws_pass.proofs.All.{All, all_append}
 use Rattle.def_canon.specs.Canon.{first_use, first_uses, index_of}
 
 -- a member, and one more

@@ -10,7 +10,7 @@ use lib.Seq.{get_or-set_other}
 use borrow.Author.Tests.{eqb-false, clash}
 use Rattle.def_tree.specs.Base.{member}
 use Rattle.def_file.specs.Write.{text_bytes}
-use Rattle.laws_pass.proofs.Keep.{All}
+use Rattle.laws_pass.proofs.All.{All}
 use Rattle.laws_canon.proofs.Uses.{Lone}
 
 abbrev total : List ℕ → ℕ

@@ -1,18 +1,13 @@
 -- Examples of the refusals by rows 7 and 9, one `refl`.
-use Rattle.std.specs.Prelude.{◌≡◌, refl, List, [], ◌∷◌, ℕ, zero, suc}
-use Rattle.def_file.specs.declared.Raw.{Raw}
+use Rattle.std.specs.Prelude.{◌≡◌, refl, [], ◌∷◌, ℕ}
 use Rattle.def_file.specs.Script.{Script}
 use Rattle.def_file.specs.Write.{file}
 use Rattle.def_pass.specs.Entry.{entry}
 use Rattle.def_pass.specs.Table.{n}
-use Rattle.def_pass.specs.Refusals.{on}
+use Rattle.def_pass.specs.Refusals.{on, contexts}
 use Rattle.laws_examples.specs.Stress.{full}
 
 -- k contexts of one name in an array
-abbrev pub contexts : ℕ → List Raw
-contexts zero = []
-contexts (suc k) = n 21 0 0 0 k ∷ contexts k
-
 abbrev pub many_ids : ℕ → Script
 many_ids k = record { nodes = n 1 0 1 0 0 ∷ n 4 0 1 0 0 ∷ n 27 0 k 0 0 ∷ contexts k; texts = (97 ∷ []) ∷ [] }
 

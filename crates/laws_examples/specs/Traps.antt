@@ -1,6 +1,6 @@
 -- More scripts that tell near-misses of the pass apart: the second half of the definition's `Traps`.
 use Rattle.std.specs.Prelude.{◌≡◌, refl, List, [], ◌∷◌}
-use Rattle.def_pass.specs.Traps.{Vector, v, wrong}
+use Rattle.def_pass.specs.Vector.{Vector, v, wrong}
 
 abbrev pub table70 : List Vector
 table70 =

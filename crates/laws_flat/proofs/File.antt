@@ -3,11 +3,10 @@
 use mathlib.Core.Path.{◌≡◌, refl, sym, ap, ap₂, ◌∙◌, subst, fun_ext}
 use mathlib.Core.Bool.{Bool, true, false, ◌&&◌, ◌||◌}
 use mathlib.Core.List.{List, [], ◌∷◌}
-use Prim.Native.Nat.{ℕ, zero, suc, ◌+◌, ◌-◌, ◌*◌, ◌≤◌}
+use Prim.Native.Nat.{ℕ, zero, suc, ◌+◌, ◌-◌, ◌*◌}
 use native.Mathlib.Nat.{zero-add, suc-add, suc_inj, suc-ne-zero}
-use native.Mathlib.Decide.{dec_le}
 use native.Mathlib.Omega.{arith}
-use lib.Dec.{T, eqb, ltb, leb, leb→le}
+use lib.Dec.{T, eqb, leb}
 use lib.ListN.{length, drop}
 use Rattle.def_tree.specs.Tree.{Tree, Forest, node, nil, cons, length_f, count, counts, Core, core, flat, flats, plant}
 use Rattle.def_tree.proofs.Whole.{Whole, length-drop_f, unplant}
@@ -16,30 +15,18 @@ use Rattle.def_pass.specs.Tree.{head_t}
 use Rattle.def_pass.specs.Targets.{aims, aimed_at, first_is, targets, targets_f}
 use Rattle.def_pass.specs.Twice.{flagged}
 use Rattle.def_pass.specs.Walk.{Outcome, refused, result, core_pass}
+use Rattle.def_file.proofs.Tested.{tested, lit-leaf}
 use Rattle.def_file.specs.declared.kinds.Class.TheVariants.{Root}
-use Rattle.def_file.specs.Kinds.{allows, row_of, form_ok, count_ok}
 use Rattle.def_file.specs.declared.Raw.{Raw}
 use Rattle.def_file.specs.Script.{Script, is_lit, has_id, is_arguments, idents, place_of}
-use Rattle.def_file.specs.Read.{Read, bad, script, Place, u32, ends_from, texts_from, nodes_from, rising, distinct, fields_ok, node_ok, below, fills, nodes_ok, checked, read}
+use Rattle.def_file.specs.Read.{Read, bad, script, Place, u32, ends_from, texts_from, nodes_from, rising, distinct, node_ok, below, fills, nodes_ok, checked, read}
 use Rattle.def_file.specs.Core.{core_node, core_from, core_nodes, back}
 use Rattle.def_pass.specs.Script.{Answer, answer, pass_tree, pass, root_of, pass_read, pass_file}
-use Rattle.def_pass.specs.Entry.{Entry, refused as refusedE, written, entry_read, entry}
+use Rattle.def_pass.specs.Entry.{Entry, refused as refusedE, written, enough, entry_read, entry}
 use Rattle.laws_flat.specs.WalkF.{runs_f, flat_outcome}
 use Rattle.laws_flat.specs.PassF.{some!, flagged_o, next_is, targets_l, start_f, answer_f, pass_f, pass_read_f, pass_file_f, entry_read_f, entry_f}
 use Rattle.laws_flat.proofs.Sim.{pass_same}
 use Rattle.laws_flat.proofs.Bounds.{bounds-tree}
-
-and_left : (p q : Bool) → T (p && q) → T p
-and_left true q t = tt
-and_left false q t = t
-
-and_right : (p q : Bool) → T (p && q) → T q
-and_right true q t = t
-and_right false q t = absurd t
-
-both : (p q : Bool) → T p → T q → T (p && q)
-both true q h k = k
-both false q h k = h
 
 -- what was read passed row 6
 
@@ -78,31 +65,8 @@ trees-more : (n : ℕ) (c : Core) (cs : List Core) → Trees (c.arity + n) cs �
 trees-more n c cs h = (ap suc (length-drop_f c.arity (plant cs) ∙ omega (arith, h.0)), (omega (arith, h.0), h.1))
 
 -- a literal has no children
-by-lit : (P : ℕ → Type 0) → P 22 → P 23 → P 24 → P 25 → (k : ℕ) → T (leb 22 k && leb k 25) → P k
-by-lit P a b c d k t = go (dec_le k 22) (dec_le k 23) (dec_le k 24)
-  where
-    lo : 22 ≤ k
-    lo = leb→le 22 k (and_left (leb 22 k) (leb k 25) t)
-
-    hi : k ≤ 25
-    hi = leb→le k 25 (and_right (leb 22 k) (leb k 25) t)
-
-    go : Dec (k ≤ 22) → Dec (k ≤ 23) → Dec (k ≤ 24) → P k
-    go (yes l) q r = subst P (omega (arith, lo, l)) a
-    go (no f) (yes l) r = subst P (omega (arith, lo, f, l)) b
-    go (no f) (no g) (yes l) = subst P (omega (arith, lo, g, l)) c
-    go (no f) (no g) (no h) = subst P (omega (arith, hi, h)) d
-
-lit-leaf : (k : ℕ) → T (leb 22 k && leb k 25) → (f n : ℕ) → T (count_ok (row_of k f) n) → n ≡ 0
-unfolding row_of
-lit-leaf = by-lit (λ (k : ℕ). (f n : ℕ) → T (count_ok (row_of k f) n) → n ≡ 0) none none none none
-  where
-    none : (f n : ℕ) → T (leb 0 n && leb n 0) → n ≡ 0
-    none f n h = omega (arith, leb→le n 0 (and_right (leb 0 n) (leb n 0) h))
-
 node-leaf : (t : ℕ) (p : Place) (x : Raw) → T (node_ok t p x) → T (is_lit x) → x.arity ≡ 0
-unfolding node_ok
-node-leaf t p x h l = lit-leaf x.kind l x.form x.arity (and_right (ltb 0 p.left && allows p.class x.kind x.arity && fields_ok t x && form_ok (row_of x.kind x.form) x.form) (count_ok (row_of x.kind x.form) x.arity) h)
+node-leaf t p x h l = lit-leaf x.kind l x.form x.arity (tested t p x h).count
 
 length-below : (n : ℕ) (x : Raw) (i m : ℕ) (ps : List Place) → length (below n x i m ps) ≡ m + length ps
 unfolding below
@@ -233,7 +197,7 @@ file-same n bs = go (read bs) refl
 -- the whole entry: what a function of the port that meets `entry_f` gives
 pub entry-same : (runs words : ℕ) (bytes : List ℕ) (room : ℕ) → entry_f runs words bytes room ≡ entry runs words bytes room
 unfolding entry_f entry
-entry-same runs words bytes room = ap {B = Entry} (λ (x : Entry). elim (leb 1 runs && leb runs 16 && leb 16384 words) [ false ↦ refusedE 1 | true ↦ x ]) (go (read bytes) refl)
+entry-same runs words bytes room = ap {B = Entry} (λ (x : Entry). elim (enough runs words) [ false ↦ refusedE 1 | true ↦ x ]) (go (read bytes) refl)
   where
     go : (x : Read) → read bytes ≡ x → entry_read_f runs room x ≡ entry_read runs room x
     go (bad r) e = refl

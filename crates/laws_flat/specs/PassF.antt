@@ -1,6 +1,6 @@
 -- The pass over a script, a file's bytes, and the entry, with the walks on the list: `pass`, `pass_file` and `entry` of the definition
 -- without a tree. Assumes nothing: these are definitions.
-use Rattle.std.specs.Prelude.{Bool, true, false, ◌&&◌, ◌||◌, List, [], ◌∷◌, map, ℕ, zero, suc, ◌+◌, eqb, leb, length}
+use Rattle.std.specs.Prelude.{Bool, true, false, ◌&&◌, ◌||◌, List, [], ◌∷◌, map, ℕ, zero, suc, ◌+◌, eqb, length}
 use Rattle.std.proofs.Math.Option.{Option, none, some}
 use Rattle.def_tree.specs.Base.{member}
 use Rattle.def_tree.specs.Tree.{Tree, Core, flat, plant}
@@ -13,7 +13,7 @@ use Rattle.def_file.specs.Script.{Script}
 use Rattle.def_file.specs.Read.{Read, bad, script, read}
 use Rattle.def_file.specs.Core.{back, core_nodes}
 use Rattle.def_pass.specs.Script.{Answer, no!, yes!, root_of}
-use Rattle.def_pass.specs.Entry.{Entry, refused, written}
+use Rattle.def_pass.specs.Entry.{Entry, refused, written, enough}
 use Rattle.laws_flat.specs.WalkF.{OutcomeF, refused_f, result_f, runs_f}
 
 abbrev pub some! : ℕ → Bool
@@ -68,4 +68,4 @@ entry_read_f runs room (bad r) = refused r
 entry_read_f runs room (script s) = written room s (pass_f runs s)
 
 unfoldable pub entry_f : ℕ → ℕ → List ℕ → ℕ → Entry
-entry_f runs words bytes room = elim (leb 1 runs && leb runs 16 && leb 16384 words) [ false ↦ refused 1 | true ↦ entry_read_f runs room (read bytes) ]
+entry_f runs words bytes room = elim (enough runs words) [ false ↦ refused 1 | true ↦ entry_read_f runs room (read bytes) ]

@@ -18,8 +18,9 @@ use Rattle.def_file.specs.Read.{Place, fields_ok, node_ok, below, fills, nodes_o
 use Rattle.def_file.specs.Core.{has_text, core_node, core_from, core_nodes, Out, ident_at, back}
 use Rattle.def_pass.specs.Tree.{Tree, Forest, node, nil, cons, heights, kids}
 use Rattle.laws_pass.specs.Readable.{form_of, row_at, FitsF, Readable}
-use Rattle.laws_pass.proofs.Tests.{is_T, is_true, and_left, and_right, both}
-use Rattle.laws_pass.proofs.Keep.{All, all_append}
+use Rattle.def_file.proofs.Tested.{tested, all-tests, lit-kind, lit-leaf}
+use Rattle.def_tree.proofs.Tests.{is_T, is_true, and_left, and_right, both}
+use Rattle.laws_pass.proofs.All.{All, all_append, get_d-all, get_d-in}
 use Rattle.laws_pass.proofs.Keep as Keep
 use Rattle.laws_pass.specs.Again.{raws_of, outcome, RefillsIn, RefillsOf, ResultFills}
 use Rattle.laws_pass.specs.Readable.{ReadableOut}
@@ -29,7 +30,7 @@ use Rattle.def_pass.specs.Script.{core_tree, pass_tree, pass, answer}
 use Rattle.laws_pass.proofs.Readable.{result-readable}
 use Rattle.laws_pass.proofs.Origin.{Named, NamedT, NamedF, NamedC, NamedOut, out-named, flat-named}
 use Rattle.laws_pass.proofs.Names.{names-few}
-use Rattle.laws_pass.proofs.FromFile.{At, lit-kind, lit-place, lit-leaf, ReadOk, ReadsOk, read_ok, Whole, whole}
+use Rattle.laws_pass.proofs.FromFile.{At, lit-place, ReadOk, ReadsOk, read_ok, Whole, whole}
 
 -- a node of a file, its place aside
 pub record Fine (t : ℕ) (x : Raw) : Type 0 where
@@ -38,16 +39,7 @@ pub record Fine (t : ℕ) (x : Raw) : Type 0 where
   pub count : T (count_ok (row_of x.kind x.form) x.arity)
 
 fine : (t : ℕ) (p : Place) (x : Raw) → T (node_ok t p x) → Fine t x
-unfolding node_ok
-fine t p x h =
-    let r = row_of x.kind x.form in
-    let a = ltb 0 p.left in
-    let b = allows p.class x.kind x.arity in
-    let c = fields_ok t x in
-    let d = form_ok r x.form in
-    let e = count_ok r x.arity in
-    let h₄ = and_left (a && b && c && d) e h in
-    record { fields = and_right (a && b) c (and_left (a && b && c) d h₄); form = and_right (a && b && c) d h₄; count = and_right (a && b && c && d) e h }
+fine t p x h = let i = tested t p x h in record { fields = i.fields; form = i.form; count = i.count }
 
 pub all-fine : (t : ℕ) (xs : List Raw) (ps : List Place) → T (fills t ps xs) → All (Fine t) xs
 unfolding fills
@@ -62,16 +54,6 @@ all-fine t (x ∷ xs) (p ∷ ps) h = go (node_ok t p x) refl h (λ k. all-fine t
 zero-fine : (t : ℕ) → Fine t zero_node
 unfolding row_of
 zero-fine t = record { fields = tt; form = tt; count = tt }
-
-get_d-all : {A : Type 0} (P : A → Type 0) (xs : List A) (n : ℕ) (d : A) → All P xs → P d → P (get_or xs n d)
-get_d-all P [] n d h k = k
-get_d-all P (x ∷ xs) zero d h k = h.0
-get_d-all P (x ∷ xs) (suc n) d h k = get_d-all P xs n d h.1 k
-
-pub get_d-in : {A : Type 0} (P : A → Type 0) (xs : List A) (n : ℕ) (d : A) → All P xs → n < length xs → P (get_or xs n d)
-get_d-in P [] n d h l = absurd (omega (arith, l))
-get_d-in P (x ∷ xs) zero d h l = h.0
-get_d-in P (x ∷ xs) (suc n) d h l = get_d-in P xs n d h.1 (omega (arith, l))
 
 -- the text of a node that uses it
 abbrev pub Texted : ℕ → Raw → Type 0
@@ -221,14 +203,7 @@ module _ (s : Script) where
     ident-texted i l = get_d-in (Texted n) (idents s) i zero_node (all-texted n [] s.nodes ok tt) l
 
     ok5 : (p : Place) (x : Raw) → T (ltb 0 p.left) → T (allows p.class x.kind x.arity) → Fine n x → T (node_ok n p x)
-    unfolding node_ok
-    ok5 p x a b h =
-        let r = row_of x.kind x.form in
-        let a' = ltb 0 p.left in
-        let b' = allows p.class x.kind x.arity in
-        let c' = fields_ok n x in
-        let d' = form_ok r x.form in
-        both (a' && b' && c' && d') (count_ok r x.arity) (both (a' && b' && c') d' (both (a' && b') c' (both a' b' a b) h.fields) h.form) h.count
+    ok5 p x a b h = all-tests n p x (record { room = a; allowed = b; fields = h.fields; form = h.form; count = h.count })
 
     put : (p : Place) (ps : List Place) (x : Raw) (xs : List Raw) → T (node_ok n p x) → T (fills n (below (p.left - 1) x 0 x.arity ps) xs) → T (fills n (p ∷ ps) (x ∷ xs))
     unfolding fills

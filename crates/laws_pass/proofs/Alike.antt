@@ -18,10 +18,12 @@ use Rattle.def_file.specs.Script.{Script, is_lit, has_id, same_id, node_at, zero
 use Rattle.def_file.specs.Core.{back, lit_out, id_out, plain_out, ident_at, core_nodes}
 use Rattle.def_pass.specs.Script.{core_tree, pass_tree, answer, pass, root_of}
 use Rattle.def_pass.specs.Paired.{Agree, Paired, Together, AlikeNode, AlikeRoots, Alike, KeptLit, KeptAll, Kept}
-use Rattle.laws_pass.proofs.Tests.{is_true, is_T, lit-no-id}
+use Rattle.def_tree.proofs.Tests.{is_true, is_T}
+use Rattle.def_file.proofs.Tested.{lit-no-id}
 use Rattle.laws_pass.proofs.Idents.{same_id-refl}
 use Rattle.laws_pass.proofs.Pairs.{Twin, twins-at, idents-twins, same-cores}
-use Rattle.laws_pass.proofs.Keep.{All, OkId}
+use Rattle.laws_pass.proofs.All.{All}
+use Rattle.laws_pass.proofs.Keep.{OkId}
 use Rattle.laws_pass.proofs.Origin.{NamedC, NamedOut, Named, to-ident, void-named, zero-named, lit_kind, id_kind, flat-named, out-named}
 
 all-get : {A : Type 0} (P : A → Type 0) (xs : List A) (n : ℕ) (d : A) → All P xs → n < length xs → P (get_or xs n d)

@@ -13,7 +13,7 @@ use Rattle.def_pass.specs.Twice.{twice, flag, flags, flag_named, flagged}
 use Rattle.def_pass.specs.Walk as Walk
 use Rattle.def_pass.specs.Walk.{St}
 use Rattle.laws_pass.specs.Assigns.{Assign, plain, plains, nothing, skeleton, skeletons, target, target_o, Expressions, listed, own_assign, assigns, assigns_f, LastBlock, Here, Outside, OutsideF, KeptOut, AssignsKept}
-use Rattle.laws_pass.proofs.Tests.{is_T, is_true, or_left, or_right}
+use Rattle.def_tree.proofs.Tests.{is_T, is_true, or_left, or_right}
 use Rattle.laws_pass.proofs.Flags.{inner, by_way}
 use Rattle.laws_pass.proofs.Effects.{GF, QF, VF, Left, LastOther, fixed, Passed, pass-does}
 use Rattle.laws_pass.proofs.TreeLaws.{TreeLaw, TreeEffects, law, effects, started}
@@ -208,14 +208,14 @@ module _ (asked : ℕ → Bool) where
   out t s (Walk.result k c u ms) h = h.related.0
 
 -- with bindings flagged
+form-flag : (p c : Bool) (f : ℕ) → pick p (pick (p && c) (f + 2) f % 2) (pick (p && c) (f + 2) f) ≡ pick p (f % 2) f
+form-flag true true f = omega arith
+form-flag true false f = refl
+form-flag false c f = refl
+
 mutual
   plain-flag : (b : ℕ → Bool) (t : Tree) → plain (flag b t) ≡ plain t
-  plain-flag b (node k f a ts) = ap₂ (λ (g : ℕ) (us : Forest). node k g a us) (go (eqb k 20) (b a)) (by_way (λ us. plains us ≡ plains ts) b k f ts (plain-named b ts) (plain-flags (twice ts) ts) (plain-flags b ts))
-    where
-      go : (p c : Bool) → pick p (pick (p && c) (f + 2) f % 2) (pick (p && c) (f + 2) f) ≡ pick p (f % 2) f
-      go true true = omega arith
-      go true false = refl
-      go false c = refl
+  plain-flag b (node k f a ts) = ap₂ (λ (g : ℕ) (us : Forest). node k g a us) (form-flag (eqb k 20) (b a) f) (by_way (λ us. plains us ≡ plains ts) b k f ts (plain-named b ts) (plain-flags (twice ts) ts) (plain-flags b ts))
 
   plain-flags : (b : ℕ → Bool) (ts : Forest) → plains (flags b ts) ≡ plains ts
   plain-flags b nil = refl
@@ -227,12 +227,7 @@ mutual
 
 mutual
   names-flag : (b : ℕ → Bool) (t : Tree) → skeleton (flag b t) ≡ skeleton t
-  names-flag b (node k f a ts) = ap₂ {C = Tree} (λ (g : ℕ) (us : Forest). elim (eqb k 20 || in_pattern k) [ true ↦ node k g a us | false ↦ nothing ]) (go (eqb k 20) (b a)) (by_way (λ us. skeletons us ≡ skeletons ts) b k f ts (names-named b ts) (names-flags (twice ts) ts) (names-flags b ts))
-    where
-      go : (p c : Bool) → pick p (pick (p && c) (f + 2) f % 2) (pick (p && c) (f + 2) f) ≡ pick p (f % 2) f
-      go true true = omega arith
-      go true false = refl
-      go false c = refl
+  names-flag b (node k f a ts) = ap₂ {C = Tree} (λ (g : ℕ) (us : Forest). elim (eqb k 20 || in_pattern k) [ true ↦ node k g a us | false ↦ nothing ]) (form-flag (eqb k 20) (b a) f) (by_way (λ us. skeletons us ≡ skeletons ts) b k f ts (names-named b ts) (names-flags (twice ts) ts) (names-flags b ts))
 
   names-flags : (b : ℕ → Bool) (ts : Forest) → skeletons (flags b ts) ≡ skeletons ts
   names-flags b nil = refl

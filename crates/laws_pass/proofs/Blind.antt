@@ -12,7 +12,7 @@ use Rattle.def_pass.specs.Targets.{aims, aimed_at, first_is, targets, targets_f}
 use Rattle.def_pass.specs.Twice.{unflagged, is_function, is_named, among, no_literal, declarator, declarators, vars, vars_f, params, any_of, twice, flag, flags, flag_named, flagged}
 use Rattle.def_pass.specs.Walk.{as_ident, is_bind, but_last}
 use Rattle.def_pass.specs.Relabel.{has_origin, relabel, relabel_f}
-use Rattle.laws_pass.proofs.Tests.{is_T, or_left, or_right}
+use Rattle.def_tree.proofs.Tests.{is_T, or_left, or_right}
 
 -- a choice between two relabelled things, by two tests that agree
 pub pick_same : {A B : Type 0} (F : A → B) (c d : Bool) (x y : A) (x' y' : B) → d ≡ c → x' ≡ F x → y' ≡ F y → pick d x' y' ≡ F (pick c x y)

@@ -12,7 +12,7 @@ use Rattle.def_pass.specs.Tree.{Tree, Forest, node, nil, cons, kids, is_member, 
 use Rattle.def_pass.specs.Relabel.{has_origin, relabel, relabel_f}
 use Rattle.def_pass.specs.Scope
 use Rattle.def_pass.specs.Scope.{VarInfo, Scope as Sc, Stack, Init, no_init, recorded, seen, VarType}
-use Rattle.laws_pass.proofs.Tests.{is_T}
+use Rattle.def_tree.proofs.Tests.{is_T}
 use Rattle.laws_pass.proofs.Blind.{pick_same, elim-same, on_o, ident-num, same-count_o}
 
 module _ (r : ℕ → ℕ) where

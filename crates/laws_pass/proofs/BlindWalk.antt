@@ -16,7 +16,7 @@ use Rattle.def_pass.specs.Scope as Scope
 use Rattle.def_pass.specs.Scope.{VarInfo, Stack, Init}
 use Rattle.def_pass.specs.Walk as Walk
 use Rattle.def_pass.specs.Walk.{St, M, Walks, get, when, modify, mark, grow, in_scope, visit_mut_stmts, plain}
-use Rattle.laws_pass.proofs.Tests.{is_T, and_left}
+use Rattle.def_tree.proofs.Tests.{is_T, and_left}
 use Rattle.laws_pass.proofs.Blind.{pick_same, elim-same, on_o, Bound, bound, ident-num, same_kind, same-form, same_head, same-tail, same-but_last, same_count, same-targets, same-flagged, same-height, same-this, same-bound, same-idents, same-idents_f}
 use Rattle.laws_pass.proofs.Void.{same-void}
 use Rattle.laws_pass.proofs.BlindScope.{on_b, on_ob, on_i, on, find-same, here-same, const-same, change-same, prevent-same, add_read-same, add_write-same, sensitive-same, barrier-same, add_const-same, ident_of-same, prevented-same, prevented_o-same, var_prevented-same, same_this-same, declare-same, close-same, ending-same, recorded-same, live_same}

@@ -9,12 +9,12 @@ use lib.Dec.{T, eqb, ltb}
 use Rattle.def_tree.specs.Base.{pick, or_else}
 use Rattle.def_tree.specs.Combine.{Res, stop, done, Nothing, and_then, ◌>>◌, ret, iff, each, split}
 use Rattle.def_pass.specs.Tree as Tree'
-use Rattle.def_pass.specs.Tree.{Tree, Forest, node, nil, cons, kind, form, num, kids, head_t, tail_f}
+use Rattle.def_pass.specs.Tree.{Tree, Forest, node, nil, cons, kind, form, num, kids, head_t}
 use Rattle.def_pass.specs.Twice.{is_args}
 use Rattle.def_pass.specs.Scope as Scope
 use Rattle.def_pass.specs.Scope.{VarInfo, Stack}
 use Rattle.def_pass.specs.Walk as Walk
-use Rattle.def_pass.specs.Walk.{St, M, Walks}
+use Rattle.def_pass.specs.Walk.{St, M}
 use Rattle.laws_pass.specs.Branch.{Cleared, WriteClears, Ends, NeverTaken}
 use Rattle.laws_pass.proofs.Single.{Fresh, unbound}
 use Rattle.laws_pass.proofs.Tests.{pick-ok, pick_known}

@@ -18,7 +18,7 @@ use Rattle.def_pass.specs.Walk.{St}
 use Rattle.laws_pass.specs.Reached.{Step, opens, prevents, reads, writes, senses, bars, declares, stores, begins, fixes, Reached, first, step, closes, counts, same, full, bare, inner}
 use Rattle.laws_pass.specs.Constants.{LookUpFree}
 use Rattle.laws_pass.proofs.Tests.{elim-ok}
-use Rattle.laws_pass.proofs.Keep.{All}
+use Rattle.laws_pass.proofs.All.{All}
 use Rattle.laws_pass.proofs.Measure.{Const, Kept, all, same-prevent, same-change, same_read, same_write, same-barrier, same-sensitive, same-declare}
 use Rattle.laws_pass.proofs.Effects.{Went, full-does, bare-does, inner-does}
 use Rattle.laws_pass.proofs.StateLaws.{StateLaw, StateEffects, law, effects}

@@ -1,10 +1,9 @@
 -- Demand 3, about the pass over two files, and about the whole entry. Assumes nothing.
 use mathlib.Core.Path.{refl, sym, subst, subst₂}
-use mathlib.Core.Bool.{Bool, true, false, ◌&&◌}
-use lib.Dec.{leb}
+use mathlib.Core.Bool.{Bool, true, false}
 use Rattle.def_file.specs.Read.{Read, read}
 use Rattle.def_pass.specs.Script.{pass, pass_read, pass_file}
-use Rattle.def_pass.specs.Entry.{refused, entry_read, entry}
+use Rattle.def_pass.specs.Entry.{refused, enough, entry_read, entry}
 use Rattle.def_pass.specs.Paired.{Alike, Kept, AlikeEntry}
 use Rattle.laws_pass.specs.Demand.{Demand3, Demand3Entry}
 use Rattle.laws_pass.proofs.Alike.{alike, kept}
@@ -21,7 +20,7 @@ demand3 as' bs a b p q P n = (
 
 pub demand3-entry : Demand3Entry
 unfolding entry
-demand3-entry as' bs a b p q P runs words room room' = go (leb 1 runs && leb runs 16 && leb 16384 words)
+demand3-entry as' bs a b p q P runs words room room' = go (enough runs words)
   where
     go : (c : Bool) → AlikeEntry a b (elim c [ false ↦ refused 1 | true ↦ entry_read runs room (read as') ]) (elim c [ false ↦ refused 1 | true ↦ entry_read runs room' (read bs) ])
     go false = refl

@@ -16,7 +16,9 @@ use Rattle.def_pass.specs.Twice.{is_twice, is_args, flagged}
 use Rattle.def_pass.specs.Scope as Scope
 use Rattle.def_pass.specs.Walk as Walk
 use Rattle.def_pass.specs.Walk.{St, M, Walks, when, modify, mark, grow, in_scope, visit_mut_stmts, plain}
-use Rattle.laws_pass.proofs.Tests.{is_T, and_left, and_right, or_left, or_right, pick-ok}
+use Rattle.def_tree.proofs.Tests.{is_T, and_left, and_right, or_left, or_right}
+use Rattle.laws_pass.proofs.All.{All}
+use Rattle.laws_pass.proofs.Tests.{pick-ok}
 use Rattle.laws_pass.specs.Branch.{Ends}
 use Rattle.laws_pass.proofs.Branch.{never}
 
@@ -439,10 +441,6 @@ module _ (L : Law) where
     loose p t h = weaken (λ u q. (q.0, q.1)) h
 
     -- identifiers
-    abbrev All : {A : Type 0} → (A → Type 0) → List A → Type 0
-    All P [] = Unit {0}
-    All P (x ∷ xs) = P x × All P xs
-
     abbrev IdT : Tree → Type 0
     IdT t = L.Id (num t)
 

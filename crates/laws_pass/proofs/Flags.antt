@@ -43,11 +43,11 @@ mutual
   named-counts b nil = refl
   named-counts b (cons t ts) = ap₂ ◌+◌ (flag-count b t) (flag-counts (twice ts) ts)
 
-flag-length : (b : ℕ → Bool) (ts : Forest) → length_f (flags b ts) ≡ length_f ts
+pub flag-length : (b : ℕ → Bool) (ts : Forest) → length_f (flags b ts) ≡ length_f ts
 flag-length b nil = refl
 flag-length b (cons t ts) = ap suc (flag-length b ts)
 
-named-length : (b : ℕ → Bool) (ts : Forest) → length_f (flag_named b ts) ≡ length_f ts
+pub named-length : (b : ℕ → Bool) (ts : Forest) → length_f (flag_named b ts) ≡ length_f ts
 named-length b nil = refl
 named-length b (cons t ts) = ap suc (flag-length (twice ts) ts)
 

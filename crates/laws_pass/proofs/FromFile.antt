@@ -17,7 +17,7 @@ use Rattle.def_file.specs.declared.kinds.Class.TheVariants.{Root, Statement, Exp
 use Rattle.def_file.specs.declared.kinds.Row.{Row}
 use Rattle.def_file.specs.Kinds.{allows, row_of, form_ok, count_ok}
 use Rattle.def_file.specs.Script.{Script, is_lit, has_id, is_arguments, place_of, idents}
-use Rattle.def_file.specs.Read.{Place, fields_ok, node_ok, below, fills, nodes_ok, nodes_from, ends_from, texts_from, rising, distinct, Read, bad, script, checked, u32, read}
+use Rattle.def_file.specs.Read.{Place, node_ok, below, fills, nodes_ok, nodes_from, ends_from, texts_from, rising, distinct, Read, bad, script, checked, u32, read}
 use Rattle.def_pass.specs.Tree.{Tree, Forest, node, nil, cons, kind, kids, head_t, tail_f, counts, height, heights}
 use Rattle.def_file.specs.Core.{core_node, core_from, core_nodes}
 use Rattle.def_pass.specs.Script.{core_tree, pass_tree, pass, answer}
@@ -27,7 +27,9 @@ use Rattle.laws_pass.specs.Assigns.{Assign, target_o, Expressions, listed, own_a
 use Rattle.laws_pass.specs.FromFile.{NoInit, NoInitF, Stands, StandsIn, TreesIn, TreesOf, FileTrees}
 use Rattle.laws_pass.proofs.Readable.{init-value, body_ok, result-readable}
 use Rattle.laws_pass.proofs.Assigns.{assigns-kept, at-kind, none_left, none_right}
-use Rattle.laws_pass.proofs.Tests.{is_T, is_true, and_left, and_right, both}
+use Rattle.def_file.proofs.Nodes.{nodes-length}
+use Rattle.def_file.proofs.Tested.{Tested, tested, zero_of, lit-kind, lit-leaf}
+use Rattle.def_tree.proofs.Tests.{is_T, is_true, and_left, and_right, both}
 
 -- a tree at a place
 pub record At (p : Place) (t : Tree) : Type 0 where
@@ -57,21 +59,6 @@ parted l x i (suc m) ps (cons t ts) h =
     record { fits = (h.0.allowed, h.0.fits, r.fits); low = omega (arith, h.0.low, r.low); len = ap suc r.len; rest = r.rest }
 
 -- literals
-pub lit-kind : (k : ℕ) → T (leb 22 k && leb k 25) → (P : ℕ → Type 0) → P 22 → P 23 → P 24 → P 25 → P k
-lit-kind k h P a b c d = go (eqb k 22) refl (eqb k 23) refl (eqb k 24) refl
-  where
-    l : 22 ≤ k
-    l = leb→le 22 k (and_left (leb 22 k) (leb k 25) h)
-
-    m : k ≤ 25
-    m = leb→le k 25 (and_right (leb 22 k) (leb k 25) h)
-
-    go : (x : Bool) → eqb k 22 ≡ x → (y : Bool) → eqb k 23 ≡ y → (z : Bool) → eqb k 24 ≡ z → P k
-    go true e y f z g = subst P (sym (eqb→eq k 22 (is_T _ e))) a
-    go false e true f z g = subst P (sym (eqb→eq k 23 (is_T _ f))) b
-    go false e false f true g = subst P (sym (eqb→eq k 24 (is_T _ g))) c
-    go false e false f false g = (let q : 25 ≡ k = omega (arith, l, m, eqb-false k 22 e, eqb-false k 23 f, eqb-false k 24 g) in subst P q d)
-
 abbrev Four : Class → Type 0
 Four c = (m : ℕ) → (T (allows c 22 m) → T (allows c 22 0)) × (T (allows c 23 m) → T (allows c 22 0)) × (T (allows c 24 m) → T (allows c 22 0)) × (T (allows c 25 m) → T (allows c 22 0))
 
@@ -96,13 +83,6 @@ four Head m = (λ h. h, λ h. h, λ h. h, λ h. h)
 
 pub lit-place : (k : ℕ) → T (leb 22 k && leb k 25) → (c : Class) (m : ℕ) → T (allows c k m) → T (allows c 22 0)
 lit-place k h = lit-kind k h (λ n. (c : Class) (m : ℕ) → T (allows c n m) → T (allows c 22 0)) (λ c m. (four c m).0) (λ c m. (four c m).1) (λ c m. (four c m).2) (λ c m. (four c m).3)
-
-zero_of : (n : ℕ) → T (leb 0 n && leb n 0) → n ≡ 0
-zero_of n h = (let l = leb→le n 0 (and_right (leb 0 n) (leb n 0) h) in omega (arith, l))
-
-pub lit-leaf : (k : ℕ) → T (leb 22 k && leb k 25) → (f n : ℕ) → T (count_ok (row_of k f) n) → n ≡ 0
-unfolding row_of
-lit-leaf k h = lit-kind k h (λ m. (f n : ℕ) → T (count_ok (row_of m f) n) → n ≡ 0) (λ f n. zero_of n) (λ f n. zero_of n) (λ f n. zero_of n) (λ f n. zero_of n)
 
 -- bindings and identifiers have form 0
 id-form : (k f : ℕ) → T (eqb k 20 || eqb k 21) → T (form_ok (row_of k f) f) → f ≡ 0
@@ -133,33 +113,12 @@ placed p x f a us e n l z w u c o =
       low = omega (arith, l, y);
     }
 
--- the five tests of a node
-pub record Tested (p : Place) (x : Raw) : Type 0 where
-  room : T (ltb 0 p.left)
-  allowed : T (allows p.class x.kind x.arity)
-  form : T (form_ok (row_of x.kind x.form) x.form)
-  count : T (count_ok (row_of x.kind x.form) x.arity)
-
-pub tested : (t : ℕ) (p : Place) (x : Raw) → T (node_ok t p x) → Tested p x
-unfolding node_ok
-tested t p x h =
-    let r = row_of x.kind x.form in
-    let a = ltb 0 p.left in
-    let b = allows p.class x.kind x.arity in
-    let c = fields_ok t x in
-    let d = form_ok r x.form in
-    let e = count_ok r x.arity in
-    let h₄ = and_left (a && b && c && d) e h in
-    let h₃ = and_left (a && b && c) d h₄ in
-    let h₂ = and_left (a && b) c h₃ in
-    record { room = and_left a b h₂; allowed = and_right a b h₂; form = and_right (a && b && c) d h₄; count = and_right (a && b && c && d) e h }
-
 -- a node's core, and its tree
 module _ (s : Script) where
   abbrev grown : Core → Forest → Forest
   grown c ts = cons (node c.kind c.form c.num (take_f c.arity ts)) (drop_f c.arity ts)
 
-  core_at : (n : ℕ) (p : Place) (x : Raw) (ps : List Place) (ts : Forest) → Tested p x → Split (p.left - 1) x 0 x.arity ps ts → Filled (p ∷ ps) (grown (core_node s n x) ts)
+  core_at : {t : ℕ} (n : ℕ) (p : Place) (x : Raw) (ps : List Place) (ts : Forest) → Tested t p x → Split (p.left - 1) x 0 x.arity ps ts → Filled (p ∷ ps) (grown (core_node s n x) ts)
   unfolding core_node
   core_at n p x ps ts o h = go (is_lit x) refl (has_id x) refl
     where
@@ -216,11 +175,6 @@ test : (b : Bool) (n : ℕ) (x : Read) → (2 ≤ n) × (n ≤ 7) → (T b → R
 test true n x l h = h tt
 test false n x l h = l
 
-from-count : (n : ℕ) (bs : List ℕ) → length (nodes_from n bs) ≡ n
-unfolding nodes_from
-from-count zero bs = refl
-from-count (suc n) bs = ap suc (from-count n (drop 16 bs))
-
 pub read_ok : (bs : List ℕ) → ReadsOk (read bs)
 unfolding read
 read_ok bs =
@@ -238,7 +192,7 @@ read_ok bs =
     record { few = few n (drop 32 bs) (and_right (leb 1 n) (leb n 1024) (and_left (leb 1 n && leb n 1024) (leb t 256) (and_left (leb 1 n && leb n 1024 && leb t 256) (leb b 4096) h₃))); shape = h₆; names = h₇ }))))))
   where
     few : (n : ℕ) (bs : List ℕ) → T (leb n 1024) → length (nodes_from n bs) ≤ 1024
-    few n bs h = subst (λ (m : ℕ). m ≤ 1024) (sym (from-count n bs)) (leb→le n 1024 h)
+    few n bs h = subst (λ (m : ℕ). m ≤ 1024) (sym (nodes-length n bs)) (leb→le n 1024 h)
 
 -- and its tree
 pub record Whole (s : Script) : Type 0 where

@@ -10,7 +10,7 @@ use lib.ListN.{length, get_or}
 use Rattle.def_tree.specs.Base.{pick}
 use Rattle.def_file.specs.declared.Raw.{Raw}
 use Rattle.def_file.specs.Script.{Script, has_id, same_id, known, enter, enter_all, idents, place_of, zero_node, node_at}
-use Rattle.laws_pass.proofs.Tests.{is_true, is_T, both, or_left, or_right}
+use Rattle.def_tree.proofs.Tests.{is_true, is_T, both, or_left, or_right}
 
 pub same_id-refl : (x : Raw) → T (same_id x x)
 same_id-refl x = both (eqb x.text x.text) (eqb x.bits x.bits) (eqb_refl x.text) (eqb_refl x.bits)

@@ -6,7 +6,9 @@ use mathlib.Core.Option.{Option, none, some}
 use mathlib.Core.List.{List, [], ◌∷◌, ◌++◌, map}
 use Prim.Native.Nat.{ℕ, suc, ◌+◌}
 use lib.Dec.{T, eqb, eqb→eq}
-use Rattle.laws_pass.proofs.Tests.{is_T, pick-ok, pick_known, elim-ok}
+use Rattle.def_tree.proofs.Tests.{is_T}
+use Rattle.laws_pass.proofs.All.{All, all_map, all_append}
+use Rattle.laws_pass.proofs.Tests.{pick-ok, pick_known, elim-ok}
 use Rattle.laws_pass.proofs.Effects.{Law, Effects, GF, VF, VO, VB, VI, Passed, pass-does}
 use Rattle.laws_pass.proofs.Single.{Single, ids, has-mem, ids-append, ids-map, ids-change, pick_id, single-append, single-put, Fresh, unbound}
 use lib.ListN.{length}
@@ -16,18 +18,6 @@ use Rattle.def_pass.specs.Twice.{unflagged, is_function, is_named, twice, flag, 
 use Rattle.def_pass.specs.Scope as Scope
 use Rattle.def_pass.specs.Walk as Walk
 use Rattle.def_pass.specs.Walk.{St}
-
-abbrev pub All : {A : Type 0} → (A → Type 0) → List A → Type 0
-All P [] = Unit {0}
-All P (x ∷ xs) = P x × All P xs
-
-pub all_map : {A : Type 0} (P : A → Type 0) (f : A → A) → ((a : A) → P a → P (f a)) → (xs : List A) → All P xs → All P (map f xs)
-all_map P f h [] t = tt
-all_map P f h (x ∷ xs) t = (h x t.0, all_map P f h xs t.1)
-
-pub all_append : {A : Type 0} (P : A → Type 0) (xs : List A) (y : A) → All P xs → P y → All P (xs ++ (y ∷ []))
-all_append P [] y t h = (h, tt)
-all_append P (x ∷ xs) y t h = (t.0, all_append P xs y t.1 h)
 
 module _ (N : ℕ → ℕ → ℕ → Type 0) (to-ident : (f a : ℕ) → N 20 f a → N 21 (unflagged f) a) (n-void : N 30 0 0) (n-zero : N 22 0 0) where
   abbrev mutual

@@ -10,14 +10,14 @@ use Rattle.def_tree.specs.Base.{pick}
 use Rattle.def_tree.specs.Tree.{Core}
 use Rattle.def_file.specs.declared.Raw.{Raw}
 use Rattle.def_file.specs.Script.{Script, same_id, has_id, known, enter, enter_all, idents, zero_node, node_at}
-use Rattle.def_file.specs.Core.{Out, has_text, ident_at, back}
+use Rattle.def_file.specs.Core.{Out, ident_at, lit_out, id_out, plain_out, back}
 use Rattle.laws_pass.specs.Again.{raws_of}
-use Rattle.laws_pass.proofs.Tests.{is_T, and_left, and_right, both}
+use Rattle.def_tree.proofs.Tests.{is_T, and_left, and_right, both}
 use Rattle.def_file.specs.Read.{Read, bad, script, read}
 use Rattle.def_pass.specs.Walk.{Rooted, Outcome, refused, result}
 use Rattle.def_pass.specs.Script.{Root, root_of, answer, pass_tree, core_tree, pass}
 use Rattle.laws_pass.specs.Once.{Free, Once, FewIn, FewOf, RootsFew}
-use Rattle.laws_pass.proofs.Keep.{All, all_append}
+use Rattle.laws_pass.proofs.All.{All, all_append}
 use Rattle.laws_pass.proofs.Keep as Keep
 use Rattle.laws_pass.proofs.Single.{or_no}
 use Rattle.laws_pass.proofs.Origin.{NamedC, Named, NamedOut, to-ident, void-named, zero-named, out-named}
@@ -107,18 +107,12 @@ module _ (s : Script) where
   unfolding back
   back-known c h = go (leb 22 c.kind && leb c.kind 25) refl (eqb c.kind 20 || eqb c.kind 21) refl
     where
-      id_raw : Raw
-      id_raw = record { kind = c.kind; form = 0; arity = c.arity; text = (ident_at s c.num).text; bits = (ident_at s c.num).bits }
-
-      plain_raw : Raw
-      plain_raw = record { kind = c.kind; form = c.form; arity = c.arity; text = pick (has_text c.kind) (node_at s c.num).text 0; bits = 0 }
-
       made : Bool → Bool → Raw
-      made u v = (pick {A = Out} u (record { raw = node_at s c.num; origin = c.num }) (pick {A = Out} v (record { raw = id_raw; origin = c.num }) (record { raw = plain_raw; origin = c.num }))).raw
+      made u v = (pick {A = Out} u (lit_out s c) (pick {A = Out} v (id_out s c) (plain_out s c))).raw
 
       go : (u : Bool) → (leb 22 c.kind && leb c.kind 25) ≡ u → (v : Bool) → (eqb c.kind 20 || eqb c.kind 21) ≡ v → T (has_id (made u v)) → Known (idents s) (made u v)
       go true e v d i = absurd (no_lit (node_at s c.num).kind (h.lit (is_T _ e)) i)
-      go false e true d i = in_list id_raw (idents s) c.num (h.ident (is_T _ d)) refl refl
+      go false e true d i = in_list (id_out s c).raw (idents s) c.num (h.ident (is_T _ d)) refl refl
       go false e false d i = absurd (subst T d i)
 
   backs-known : (cs : List Core) → All (NamedC s) cs → All (λ (x : Raw). T (has_id x) → Known (idents s) x) (raws_of s cs)

@@ -15,8 +15,10 @@ use Rattle.def_file.specs.Core.{ident_at}
 use Rattle.def_file.specs.Read.{Read, bad, script, read}
 use Rattle.def_pass.specs.Walk.{Rooted, Outcome, refused, result}
 use Rattle.def_pass.specs.Script.{answer, pass_tree, core_tree, pass, pass_read, pass_file, root_of}
+use Rattle.laws_pass.specs.Grown.{ids_of}
 use Rattle.laws_pass.specs.Once.{Free, Once, OnceIn, RootsOnce}
-use Rattle.laws_pass.proofs.Keep.{All, OkId}
+use Rattle.laws_pass.proofs.All.{All}
+use Rattle.laws_pass.proofs.Keep.{OkId}
 use Rattle.laws_pass.proofs.Single.{mem, Single, or_no, no-sym}
 use Rattle.laws_pass.proofs.Origin.{Named, NamedOut, to-ident, void-named, zero-named, out-named}
 
@@ -94,17 +96,14 @@ module _ (s : Script) where
   abbrev Has : Rooted → Type 0
   Has m = OkId (Named s) (to-ident s) (void-named s) (zero-named s) m.0
 
-  abbrev numbers : List Rooted → List ℕ
-  numbers ms = map (λ (m : Rooted). m.0) ms
-
-  free : (i : ℕ) → i < length (idents s) → (ms : List Rooted) → All Has ms → mem i (numbers ms) ≡ false → Free (ident_at s i) (map (root_of s) ms)
+  free : (i : ℕ) → i < length (idents s) → (ms : List Rooted) → All Has ms → mem i (ids_of ms) ≡ false → Free (ident_at s i) (map (root_of s) ms)
   unfolding root_of
   free i l [] h e = tt
   free i l (m ∷ ms) h e =
-      let p = or_no (eqb m.0 i) (mem i (numbers ms)) e in
+      let p = or_no (eqb m.0 i) (mem i (ids_of ms)) e in
       (lone-ne (idents s) (lone-idents s) i m.0 (λ q. eqb-false m.0 i p.0 (sym q)) l (h.0.ok.ident tt), free i l ms h.1 p.1)
 
-  once : (ms : List Rooted) → All Has ms → Single (numbers ms) → Once (map (root_of s) ms)
+  once : (ms : List Rooted) → All Has ms → Single (ids_of ms) → Once (map (root_of s) ms)
   unfolding root_of
   once [] h e = tt
   once (m ∷ ms) h e = (free m.0 (h.0.ok.ident tt) ms h.1 e.0, once ms h.1 e.1)

@@ -18,7 +18,7 @@ use Rattle.laws_pass.specs.OnePass.{by_name, by_value, OnePass, Lone, LoneIn, Fi
 use Rattle.laws_pass.proofs.Single.{Single, ids, has-mem}
 use Rattle.laws_pass.proofs.Effects.{Went, full-does, bare-does, inner-does, run-does}
 use Rattle.laws_pass.proofs.Keep as Keep
-use Rattle.laws_pass.proofs.Keep.{All}
+use Rattle.laws_pass.proofs.All.{All}
 
 pub marks-once : OnePass
 marks-once i bs = one-pass prevent (λ b. eqb b.id i) (λ b. value_is i b.value) (λ b. refl) (λ b. refl) bs

@@ -17,9 +17,9 @@ use Rattle.def_file.specs.declared.Raw.{Raw}
 use Rattle.def_file.specs.Script.{Script, is_lit, has_id, is_arguments, node_at, zero_node, idents, place_of}
 use Rattle.def_file.specs.Core.{core_node, core_from, core_nodes}
 use Rattle.def_pass.specs.Script.{core_tree, pass_tree}
-use Rattle.laws_pass.proofs.Tests.{is_T}
+use Rattle.def_tree.proofs.Tests.{is_T}
 use Rattle.laws_pass.proofs.Idents.{ident-lt}
-use Rattle.laws_pass.proofs.Keep.{All}
+use Rattle.laws_pass.proofs.All.{All}
 use Rattle.laws_pass.proofs.Keep as Keep
 
 abbrev pub lit_kind : ℕ → Bool

@@ -14,7 +14,8 @@ use Rattle.def_file.specs.declared.Raw.{Raw}
 use Rattle.def_file.specs.Script.{Script, is_lit, has_id, same_id, is_arguments, node_at, zero_node, known, enter, enter_all, idents, place_of}
 use Rattle.def_file.specs.Core.{core_node, core_from, core_nodes}
 use Rattle.def_pass.specs.Paired.{Agree, Paired, Number}
-use Rattle.laws_pass.proofs.Tests.{is_true, is_T, and_left, lit-no-id}
+use Rattle.def_tree.proofs.Tests.{is_true, is_T, and_left}
+use Rattle.def_file.proofs.Tested.{lit-no-id}
 
 -- the nodes at one number of two scripts, where they have identifiers
 pub record Twin (a b : Script) (x y : Raw) : Type 0 where

@@ -20,7 +20,8 @@ use Rattle.def_pass.specs.Walk as Walk
 use Rattle.laws_pass.specs.Small.{SmallOut}
 use Rattle.laws_pass.specs.Assigns.{nothing, skeleton, skeletons, LastBlock, Expressions}
 use Rattle.laws_pass.specs.Readable.{form_of, row_at, Fits, FitsF, Readable, ReadableOut, ResultReadable}
-use Rattle.laws_pass.proofs.Tests.{is_T, and_left, and_right, both, or_right, pick-ok}
+use Rattle.def_tree.proofs.Tests.{is_T, and_left, and_right, both, or_right}
+use Rattle.laws_pass.proofs.Tests.{pick-ok}
 use Rattle.laws_pass.proofs.Effects.{GF, QF, VF, Passed, pass-does}
 use Rattle.laws_pass.proofs.TreeLaws.{TreeLaw, TreeEffects, law, effects, started}
 use Rattle.laws_pass.proofs.Small.{stays-small}

@@ -13,7 +13,7 @@ use Rattle.def_tree.specs.Tree.{Core, length_f, take_f, drop_f, plant, flat, fla
 use Rattle.def_file.specs.declared.Raw.{Raw}
 use Rattle.def_file.specs.Script.{Script, is_lit, has_id, known, enter, enter_all, idents, is_arguments, place_of, zero_node, node_at}
 use Rattle.def_file.specs.Read.{Read, bad, script, checked, nodes_ok, read}
-use Rattle.def_file.specs.Core.{has_text, core_node, core_from, core_nodes, Out, ident_at, back}
+use Rattle.def_file.specs.Core.{has_text, core_node, core_from, core_nodes, Out, ident_at, lit_out, id_out, plain_out, back}
 use Rattle.laws_roundtrip.specs.Fits.{Narrow, Fits}
 use Rattle.def_file.specs.Write.{head_bytes, node_bytes, end_bytes, text_bytes, file}
 use Rattle.laws_roundtrip.proofs.Nodes.{node-bytes-length}
@@ -26,16 +26,11 @@ use Rattle.def_pass.specs.Walk as Walk
 use Rattle.def_pass.specs.Script.{core_tree, pass_tree, pass, answer}
 use Rattle.laws_pass.specs.Again.{raws_of, outcome, RefillsIn, AgainIn, AgainOf, ReadsAgain}
 use Rattle.laws_pass.specs.Readable.{Readable, ReadableOut}
-use Rattle.laws_pass.proofs.Keep.{All, all_append}
+use Rattle.laws_pass.proofs.All.{All, all_append, get_d-all}
 use Rattle.laws_pass.proofs.Keep as Keep
 use Rattle.laws_pass.proofs.FromFile.{ReadOk, ReadsOk, read_ok, Whole, whole}
 use Rattle.laws_pass.proofs.Readable.{result-readable}
 use Rattle.laws_pass.proofs.Again.{fills-again}
-
-get_d-all : {A : Type 0} (P : A → Type 0) (xs : List A) (n : ℕ) (d : A) → All P xs → P d → P (get_or xs n d)
-get_d-all P [] n d h k = k
-get_d-all P (x ∷ xs) zero d h k = h.0
-get_d-all P (x ∷ xs) (suc n) d h k = get_d-all P xs n d h.1 k
 
 all_get_d : (P : Raw → Type 0) (xs : List Raw) → ((k : ℕ) → P (get_or xs k zero_node)) → All P xs
 all_get_d P [] h = tt
@@ -162,17 +157,11 @@ module _ (s : Script) (ok : All Narrow s.nodes) where
   unfolding back
   back-narrow c h = go (leb 22 c.kind && leb c.kind 25) (eqb c.kind 20 || eqb c.kind 21) refl
     where
-      id_raw : Raw
-      id_raw = record { kind = c.kind; form = 0; arity = c.arity; text = (ident_at s c.num).text; bits = (ident_at s c.num).bits }
-
-      plain_raw : Raw
-      plain_raw = record { kind = c.kind; form = c.form; arity = c.arity; text = pick (has_text c.kind) (node_at s c.num).text 0; bits = 0 }
-
       word : (b : Bool) → pick b (node_at s c.num).text 0 < 4294967296
       word true = (at-narrow c.num).text
       word false = omega arith
 
-      go : (u v : Bool) → (eqb c.kind 20 || eqb c.kind 21) ≡ v → Narrow (pick {A = Out} u (record { raw = node_at s c.num; origin = c.num }) (pick {A = Out} v (record { raw = id_raw; origin = c.num }) (record { raw = plain_raw; origin = c.num }))).raw
+      go : (u v : Bool) → (eqb c.kind 20 || eqb c.kind 21) ≡ v → Narrow (pick {A = Out} u (lit_out s c) (pick {A = Out} v (id_out s c) (plain_out s c))).raw
       go true v e = at-narrow c.num
       go false true e = record { kind = h.kind; form = omega arith; arity = h.arity; text = (ident-narrow c.num).text; bits = (ident-narrow c.num).bits }
       go false false e = record { kind = h.kind; form = h.form e; arity = h.arity; text = word (has_text c.kind); bits = omega arith }

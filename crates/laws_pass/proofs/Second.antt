@@ -3,7 +3,7 @@ use mathlib.Core.Path.{◌≡◌, refl, sym, ap, ap₂, ◌∙◌, subst}
 use mathlib.Core.Bool.{Bool, true, false, ◌&&◌, ◌||◌, not}
 use mathlib.Core.Option.{Option, none, some}
 use mathlib.Core.List.{List, [], ◌∷◌, ◌++◌, map}
-use Prim.Native.Nat.{ℕ, suc, ◌+◌}
+use Prim.Native.Nat.{ℕ, ◌+◌}
 use lib.Dec.{T, eqb, ltb, eqb_refl, eqb→eq}
 use lib.ListN.{length}
 use Rattle.def_tree.specs.Base.{pick}
@@ -18,7 +18,9 @@ use Rattle.def_pass.specs.Scope.{VarInfo, Stack}
 use Rattle.def_pass.specs.Walk as Walk
 use Rattle.def_pass.specs.Walk.{St}
 use Rattle.laws_pass.specs.Second.{Marked, DeclareMarks, FlaggedMarked, FlagsUnseen}
-use Rattle.laws_pass.proofs.Tests.{is_true, is_T, pick-ok, pick_known, elim-ok}
+use Rattle.def_tree.proofs.Tests.{is_true, is_T}
+use Rattle.laws_pass.proofs.Flags.{flag-length, named-length}
+use Rattle.laws_pass.proofs.Tests.{pick-ok, pick_known, elim-ok}
 
 -- of the bindings of a scope
 abbrev In : ℕ → List VarInfo → Type 0
@@ -106,21 +108,13 @@ module _ (s : Script) where
       go true e = subst (λ (j : ℕ). back s (core j (pick c g f) n a) ≡ back s (core j f n a)) (sym (eqb→eq k 20 (is_T (eqb k 20) e))) refl
       go false e = refl
 
-  lengths : (b : ℕ → Bool) (ts : Forest) → length_f (flags b ts) ≡ length_f ts
-  lengths b nil = refl
-  lengths b (cons t ts) = ap suc (lengths b ts)
-
-  length-named : (b : ℕ → Bool) (ts : Forest) → length_f (flag_named b ts) ≡ length_f ts
-  length-named b nil = refl
-  length-named b (cons t ts) = ap suc (lengths (twice ts) ts)
-
   mutual
     unseen : (b : ℕ → Bool) (t : Tree) (xs ys : List Core) → backs xs ≡ backs ys → backs (flat (flag b t) xs) ≡ backs (flat t ys)
     unseen b (node k f a ts) xs ys h =
         let inside : Forest = elim (is_named k f) [ true ↦ flag_named b ts | false ↦ flags (twice ts) ts ] in
         let us : Forest = elim (is_function k) [ true ↦ inside | false ↦ flags b ts ] in
         go us (elim-ok Same (is_function k) inside (flags b ts)
-        (elim-ok Same (is_named k f) (flag_named b ts) (flags (twice ts) ts) (length-named b ts, unseen-named b ts xs ys h) (lengths (twice ts) ts, unseens (twice ts) ts xs ys h)) (lengths b ts, unseens b ts xs ys h))
+        (elim-ok Same (is_named k f) (flag_named b ts) (flags (twice ts) ts) (named-length b ts, unseen-named b ts xs ys h) (flag-length (twice ts) ts, unseens (twice ts) ts xs ys h)) (flag-length b ts, unseens b ts xs ys h))
       where
         Same : Forest → Type 0
         Same us = (length_f us ≡ length_f ts) × (backs (flats us xs) ≡ backs (flats ts ys))

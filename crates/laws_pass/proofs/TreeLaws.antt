@@ -12,7 +12,7 @@ use Rattle.def_pass.specs.Scope as Scope
 use Rattle.def_pass.specs.Scope.{VarInfo, Stack}
 use Rattle.def_pass.specs.Walk as Walk
 use Rattle.laws_pass.proofs.Tests.{pick-ok, elim-ok}
-use Rattle.laws_pass.proofs.Keep.{All, all_map, all_append}
+use Rattle.laws_pass.proofs.All.{All, all_map, all_append}
 use Rattle.laws_pass.proofs.Effects.{Law, Effects, GF, QF, VF, VO, VB, VI, Left, LastOther}
 
 -- every value and constant of the open scopes, of which V holds

@@ -1,10 +1,11 @@
 -- Nodes and their 16 bytes each. Assumes nothing.
-use mathlib.Core.Path.{◌≡◌, refl, ap, ap₂}
+use mathlib.Core.Path.{◌≡◌, refl, ap₂}
 use mathlib.Core.List.{List, [], ◌∷◌, ◌++◌}
 use Prim.Native.Nat.{ℕ, zero, suc, ◌+◌, ◌*◌, ◌≤◌}
 use native.Mathlib.Omega.{arith}
 use lib.ListN.{length, get_or, drop, length-drop}
 use lib.Seq.{drop-drop}
+pub use Rattle.def_file.proofs.Nodes.{nodes-length}
 use Rattle.def_file.specs.declared.Raw.{Raw}
 use Rattle.def_file.specs.Script.{zero_node}
 use Rattle.def_file.specs.Read.{raw_of, nodes_from}
@@ -52,8 +53,3 @@ unfolding nodes_from
 narrow-nodes zero bs h k = record { kind = omega arith; form = omega arith; arity = omega arith; text = omega arith; bits = omega arith }
 narrow-nodes (suc n) bs h zero = narrow-raw bs h
 narrow-nodes (suc n) bs h (suc k) = narrow-nodes n (drop 16 bs) (bytes_drop 16 bs h) k
-
-pub nodes-length : (n : ℕ) (bs : List ℕ) → length (nodes_from n bs) ≡ n
-unfolding nodes_from
-nodes-length zero bs = refl
-nodes-length (suc n) bs = ap suc (nodes-length n (drop 16 bs))

@@ -1,11 +1,11 @@
 -- Demand 3 under a table. Assumes nothing.
 use mathlib.Core.Path.{◌≡◌, refl, sym, ap, ap₂, ◌∙◌, subst, subst₂}
-use mathlib.Core.Bool.{Bool, true, false, ◌&&◌}
+use mathlib.Core.Bool.{Bool, true, false}
 use mathlib.Core.List.{List, [], ◌∷◌}
 use Prim.Native.Nat.{ℕ, suc, ◌-◌}
 use native.Mathlib.Omega.{arith}
 use borrow.Author.Tests.{leb-true}
-use lib.Dec.{T, leb, ltb}
+use lib.Dec.{T, leb}
 use lib.ListN.{length}
 use Rattle.std.specs.Prelude.{Option, Some, None}
 use Rattle.def_tree.specs.Base.{pick, to_nat}
@@ -14,9 +14,8 @@ use Rattle.def_kinds.specs.Pairs.{under, parents, pairs}
 use Rattle.def_kinds.specs.Lent.{is_table, within}
 use Rattle.def_file.specs.declared.kinds.Class.TheVariants.{Root}
 use Rattle.def_file.specs.declared.Raw.{Raw}
-use Rattle.def_file.specs.Kinds.{allows, row_of, form_ok, count_ok}
 use Rattle.def_file.specs.Script.{Script, is_lit, has_id, is_arguments, idents, place_of}
-use Rattle.def_file.specs.Read.{Read, bad, script, Place, fields_ok, node_ok, below, fills, nodes_ok, read}
+use Rattle.def_file.specs.Read.{Read, bad, script, Place, node_ok, below, fills, nodes_ok, read}
 use Rattle.def_file.specs.Core.{core_node, core_from, core_nodes}
 use Rattle.def_pass.specs.Script.{Answer}
 use Rattle.def_pass.specs.Entry.{Entry}
@@ -24,8 +23,8 @@ use Rattle.def_pass.specs.Paired as paired
 use Rattle.laws_roundtrip.proofs.Texts.{both}
 use Rattle.laws_roundtrip.proofs.Header.{passed}
 use Rattle.laws_roundtrip.proofs.Round.{found}
-use Rattle.laws_pass.proofs.FromFile.{lit-leaf}
-use Rattle.laws_pass.proofs.Tests.{is_T}
+use Rattle.def_file.proofs.Tested.{tested, lit-leaf}
+use Rattle.def_tree.proofs.Tests.{is_T}
 use Rattle.laws_pass.proofs.Pairs.{same-cores}
 use Rattle.laws_pass.proofs.Demand.{demand3, demand3-entry}
 use Rattle.def_under.specs.Reading.{pairs_ok, read_under, constant, lent}
@@ -54,10 +53,7 @@ Leaves [] = Unit {0}
 Leaves (x ∷ xs) = (is_lit x ≡ true → x.arity ≡ 0) × Leaves xs
 
 leaf : (t : ℕ) (p : Place) (x : Raw) → node_ok t p x ≡ true → is_lit x ≡ true → x.arity ≡ 0
-unfolding node_ok
-leaf t p x e l =
-    let c = both (ltb 0 p.left && allows p.class x.kind x.arity && fields_ok t x && form_ok (row_of x.kind x.form) x.form) (count_ok (row_of x.kind x.form) x.arity) e in
-    lit-leaf x.kind (is_T _ l) x.form x.arity (is_T _ c.1)
+leaf t p x e l = lit-leaf x.kind (is_T _ l) x.form x.arity (tested t p x (is_T _ e)).count
 
 leaves : (t : ℕ) (ps : List Place) (xs : List Raw) → fills t ps xs ≡ true → Leaves xs
 unfolding fills

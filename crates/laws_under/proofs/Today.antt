@@ -1,12 +1,11 @@
 -- What is read under a table is read without it, and so passed. Assumes nothing.
 use mathlib.Core.Path.{◌≡◌, sym, ap, ◌∙◌}
-use mathlib.Core.Bool.{true, false, ◌&&◌}
+use mathlib.Core.Bool.{true, false}
 use mathlib.Core.List.{List}
 use Prim.Native.Nat.{ℕ}
-use lib.Dec.{leb}
 use Rattle.def_file.specs.Read.{Read, read}
 use Rattle.def_pass.specs.Script.{pass_read, pass_file}
-use Rattle.def_pass.specs.Entry.{Entry, refused, entry_read, entry}
+use Rattle.def_pass.specs.Entry.{Entry, refused, enough, entry_read, entry}
 use Rattle.def_under.specs.Reading.{lent}
 use Rattle.def_under.specs.Entry.{pass_under, entry_under}
 use Rattle.def_under.proofs.Reading.{lent-read}
@@ -16,7 +15,7 @@ pub unchanged : (T bs : List ℕ) → lent T bs ≡ read bs → Unchanged T bs
 unfolding pass_under pass_file entry_under entry
 unchanged T bs e = record {
   pass = λ n. ap (pass_read n) e;
-  entry = λ runs words room. ap {B = Entry} (λ (x : Read). elim (leb 1 runs && leb runs 16 && leb 16384 words) [ false ↦ refused 1 | true ↦ entry_read runs room x ]) e;
+  entry = λ runs words room. ap {B = Entry} (λ (x : Read). elim (enough runs words) [ false ↦ refused 1 | true ↦ entry_read runs room x ]) e;
 }
 
 pub once-read : OnceRead

@@ -9,7 +9,7 @@ use Rattle.def_file.specs.Script.{same_text}
 use Rattle.def_pass.specs.Tree.{Tree, node, nil, cons, count, count_o}
 use Rattle.def_pass.specs.Scope.{VarType, param, v_var, v_let, v_const, ScopeKind, cond, loop, block, fn, VarInfo, Stack, new_scope, defined, with_value, change, is_some, mark_of, idx_val, find_binding, find_binding_from_current, has_constant, find_constant, scope_for, write_prevents_inline, read_prevents_inlining, should_prevent_inline_because_of_scope, var_inline_prevented, is_inline_prevented, has_same_this, in_loop, values_in, values_of, recorded_nodes, live, Init, no_init, recorded, seen, declare, add_read, add_write, close, prevent_inline, prevent_inline_of_params, mark_this_sensitive, store_inline_barrier}
 use Rattle.def_pass.specs.Walk.{St, M, declaring, mark, grow, opening, insert_const}
-use Rattle.laws_vectors.specs.Vector.{chunks}
+use Rattle.def_pass.specs.Vector.{chunks}
 
 -- calls of four bytes, and the numbers printed, of two bytes, each with their length
 pub record Played : Type 0 where

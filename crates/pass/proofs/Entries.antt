@@ -29,7 +29,7 @@ use Rattle.refusal.specs.Number.{number}
 use Rattle.file_write.specs.Written.{Answer as Said, refused as no_room, wrote, says, in_room, written as writes, left as leaves, result_bytes, Wrote}
 use Rattle.file_write.proofs.Tied.{wrote-file}
 use Rattle.def_pass.specs.Script.{root_of}
-use Rattle.def_pass.specs.Entry.{Entry, refused, passed, written, entry_read}
+use Rattle.def_pass.specs.Entry.{Entry, refused, passed, written, enough, entry_read}
 use Rattle.def_pass.specs.Walk.{root_marks}
 use Rattle.laws_flat.specs.WalkF.{OutcomeF, refused_f}
 use Rattle.laws_flat.specs.PassF.{answer_f, pass_f, entry_read_f}
@@ -43,7 +43,7 @@ use Rattle.pass_run.specs.declared.Ran.{Ran}
 use Rattle.pass_answers.specs.declared.Inlined.{Inlined}
 use Rattle.pass_run.specs.Run.{outcome}
 use Rattle.pass_run.specs.Inline.{read_runs, Final, FileIs}
-use Rattle.pass_answers.specs.Entry.{enough, numbers, inlined, left}
+use Rattle.pass_answers.specs.Entry.{numbers, inlined, left}
 use Rattle.pass_answers.specs.Under.{InlineUnderIs}
 use Rattle.pass_run.proofs.Files.{node-count}
 

@@ -7,14 +7,13 @@ use Prim.Native.Nat.{ℕ}
 use native.Mathlib.Omega.{arith}
 use lib.Dec.{T as Test}
 use lib.ListN.{length, get_or}
-use Rattle.def_tree.specs.Base.{to_nat}
 use Rattle.words.specs.Moved.{Cleared}
 use Rattle.def_file.specs.declared.Raw.{Raw}
 use Rattle.def_file.specs.Script.{Script, zero_node}
 use Rattle.def_file.specs.Read.{Read, bad, script, nodes_ok}
 use Rattle.def_under.specs.Reading.{lent}
 use Rattle.def_under.specs.Entry.{pass_under}
-use Rattle.std.specs.Prelude.{Result, Ok, Err, Option as Maybe, Some, None}
+use Rattle.std.specs.Prelude.{Result, Ok, Err, Option as Maybe}
 use Rattle.refusal.specs.declared.Refusal.{Refusal}
 use Rattle.refusal.specs.declared.Refusal.TheVariants.{Call}
 use Rattle.refusal.specs.Number.{number}
@@ -30,7 +29,7 @@ use Rattle.file_copy.specs.Copy.{WordsAre}
 use Rattle.pass_run.specs.declared.Ran.{Ran}
 use Rattle.pass_answers.specs.declared.Roots.{Roots}
 use Rattle.pass_run.specs.Inline.{read_runs, Final, FileIs}
-use Rattle.pass_answers.specs.Entry.{enough}
+use Rattle.def_pass.specs.Entry.{enough}
 use Rattle.pass_roots.specs.Listing.{Known, roots_in, Listing, refused, listed, in_room, left, SaysSo, WroteRoots}
 use Rattle.pass_roots.specs.declared.Root.{Root as Binding}
 use Rattle.pass_roots.specs.Nth.{nth, nth_is}

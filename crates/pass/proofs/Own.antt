@@ -1,5 +1,5 @@
 -- Lent the constant table, a call has the promise that it has without one. Assumes nothing.
-use Rattle.std.proofs.Common.{ℕ, List, length, sym, ap, ◌∙◌}
+use Rattle.std.proofs.Common.{ℕ, List}
 use Rattle.file_kinds.specs.declared.TheConstants.{KINDS}
 use Rattle.pass_answers.specs.declared.Inlined.{Inlined}
 use Rattle.pass_answers.specs.declared.Roots.{Roots}

@@ -5,7 +5,8 @@ ghost use Rattle.std.specs.Prelude.{◌≡◌, true, false, length, Err};
 ghost use Rattle.refusal.specs.declared.Refusal.TheVariants.{Call};
 ghost use Rattle.def_under.specs.Reading.{lent};
 ghost use Rattle.pass_run.specs.Inline.{FileIs};
-ghost use Rattle.pass_answers.specs.Entry.{enough, inlined, InlineIs};
+ghost use Rattle.def_pass.specs.Entry.{enough};
+ghost use Rattle.pass_answers.specs.Entry.{inlined, InlineIs};
 ghost use Rattle.pass_answers.specs.Roots.{counted, bound, RootsIs, RootIs};
 ghost use Rattle.pass_answers.specs.Under.{InlineUnderIs, RootsUnderIs, RootUnderIs};
 

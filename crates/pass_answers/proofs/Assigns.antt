@@ -1,6 +1,6 @@
 -- The assignments of the port's result bytes. Assumes nothing.
 use mathlib.Core.Path.{◌≡◌, refl, ap, ◌∙◌}
-use mathlib.Core.Bool.{Bool, true, false, ◌&&◌}
+use mathlib.Core.Bool.{Bool, true, false}
 use mathlib.Core.List.{List, ◌++◌}
 use Prim.Native.Nat.{ℕ}
 use lib.Dec.{leb}
@@ -8,7 +8,7 @@ use lib.ListN.{length, drop}
 use Rattle.def_file.specs.Script.{Script}
 use Rattle.def_file.specs.Read.{Read, bad, script, read}
 use Rattle.def_pass.specs.Script.{Answer, no!, yes!, pass}
-use Rattle.def_pass.specs.Entry.{Entry, refused, passed, written, entry_read, entry}
+use Rattle.def_pass.specs.Entry.{Entry, refused, passed, written, enough, entry_read, entry}
 use Rattle.def_pass.specs.Paired.{file_of}
 use Rattle.laws_pass.specs.FromFile.{TreesIn, TreesOf}
 use Rattle.laws_pass.proofs.FromFile.{file-trees}
@@ -36,7 +36,7 @@ kept_read bs runs room (script s) e h = kept-written bs room s e (pass runs s) h
 
 kept_entry : (runs words : ℕ) (bs : List ℕ) (room : ℕ) → Kept bs (entry runs words bs room)
 unfolding entry
-kept_entry runs words bs room = go (leb 1 runs && leb runs 16 && leb 16384 words)
+kept_entry runs words bs room = go (enough runs words)
   where
     go : (p : Bool) → Kept bs (elim p [ false ↦ refused 1 | true ↦ entry_read runs room (read bs) ])
     go true = kept_read bs runs room (read bs) refl (file-trees runs bs)

@@ -7,7 +7,7 @@ use lib.Dec.{leb}
 use lib.ListN.{length}
 use Rattle.def_file.specs.Script.{Script}
 use Rattle.def_file.specs.Read.{Read, script, read}
-use Rattle.def_pass.specs.Entry.{Entry, refused, passed, written, entry_read, entry}
+use Rattle.def_pass.specs.Entry.{Entry, refused, passed, written, enough, entry_read, entry}
 use Rattle.def_pass.specs.Script.{Root, Answer, no!, yes!, pass, pass_read, pass_file}
 use Rattle.def_pass.specs.Paired.{Alike, AlikeRoots, AlikeEntry, file_of}
 use Rattle.laws_pass.proofs.Demand.{demand3, demand3-entry}
@@ -32,7 +32,7 @@ holds s room (yes! k c xs rs) = go (leb (length (file_of s xs)) room)
 
 holds-entry : (runs words : ℕ) (bs : List ℕ) (room : ℕ) (s : Script) → read bs ≡ script s → Holds s (pass_file runs bs) (entry runs words bs room)
 unfolding entry pass_file
-holds-entry runs words bs room s q = go (leb 1 runs && leb runs 16 && leb 16384 words)
+holds-entry runs words bs room s q = go (enough runs words)
   where
     go : (p : Bool) → Holds s (pass_read runs (read bs)) (elim p [ false ↦ refused 1 | true ↦ entry_read runs room (read bs) ])
     go false = tt
@@ -67,8 +67,8 @@ module _ {Z : Type 0} (R : Z → Z → Type 0) (stop : ℕ → Z) (of of' : List
   over-alike : (as' bs : List ℕ) (runs n m : ℕ) → leb 16384 n ≡ leb 16384 m → Alike a b (pass_file runs as') (pass_file runs bs) → R (roots.over_roots stop of runs n as') (roots.over_roots stop of' runs m bs)
   unfolding roots.over_roots
   over-alike as' bs runs n m e h =
-      subst (λ (p : Bool). R (by (leb 1 runs && leb runs 16 && leb 16384 n) (roots.said stop of (pass_file runs as'))) (by (leb 1 runs && leb runs 16 && p) (roots.said stop of' (pass_file runs bs)))) e
-      (go (leb 1 runs && leb runs 16 && leb 16384 n))
+      subst (λ (p : Bool). R (by (enough runs n) (roots.said stop of (pass_file runs as'))) (by (leb 1 runs && leb runs 16 && p) (roots.said stop of' (pass_file runs bs)))) e
+      (go (enough runs n))
     where
       by : Bool → Z → Z
       by p x = elim p [ false ↦ stop 1 | true ↦ x ]

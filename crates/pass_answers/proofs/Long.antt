@@ -14,10 +14,9 @@ use Rattle.def_kinds.specs.Lent.{is_table, within}
 use Rattle.def_under.specs.Reading.{parts_under, read_under, constant, lent}
 use Rattle.def_under.specs.Entry.{pass_under, entry_under}
 use Rattle.def_pass.specs.Script.{Root, pass_read, pass_file}
-use Rattle.def_pass.specs.Entry.{Entry, refused, entry_read, entry}
+use Rattle.def_pass.specs.Entry.{Entry, refused, enough, entry_read, entry}
 use Rattle.pass_roots.specs.Listing as lists
 use Rattle.pass_roots.specs.Nth.{nth}
-use Rattle.pass_answers.specs.Entry.{enough}
 use Rattle.pass_answers.specs.Roots.{said, over_roots, stopped, given}
 use Rattle.pass_answers.specs.Under.{over_under}
 use Rattle.pass_answers.specs.Long.{cut_at, CutAlike, CutAlikeUnder}

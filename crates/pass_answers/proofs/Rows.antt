@@ -1,6 +1,6 @@
 -- The walks refuse by 8 or 9 alone, and a refusal's number is one of 1 to 10. Assumes nothing.
 use mathlib.Core.Path.{◌≡◌, ap}
-use mathlib.Core.Bool.{Bool, true, false, ◌&&◌}
+use mathlib.Core.Bool.{Bool, true, false}
 use mathlib.Core.Option.{Option, none, some}
 use mathlib.Core.List.{List}
 use Prim.Native.Nat.{ℕ, ◌*◌, ◌≤◌}
@@ -11,7 +11,7 @@ use Rattle.def_pass.specs.Tree.{Tree}
 use Rattle.def_file.specs.Script.{Script}
 use Rattle.def_file.specs.Read.{Read, bad, script, read}
 use Rattle.def_pass.specs.Script.{Root, Answer, no!, yes!, answer, core_tree, pass_tree, pass, pass_read, pass_file}
-use Rattle.def_pass.specs.Entry.{Entry, refused, passed, written, entry_read, entry}
+use Rattle.def_pass.specs.Entry.{Entry, refused, passed, written, enough, entry_read, entry}
 use Rattle.def_pass.specs.Paired.{file_of}
 use Rattle.pass_roots.specs.Listing as lists
 use Rattle.pass_roots.specs.Nth.{nth}
@@ -91,7 +91,7 @@ r-entry_read n room (script s) h = r-written room s (pass n s) (r-pass n s)
 
 r-entry : (runs words : ℕ) (bs : List ℕ) (room : ℕ) → EntryRow (entry runs words bs room)
 unfolding entry
-r-entry runs words bs room = go (leb 1 runs && leb runs 16 && leb 16384 words)
+r-entry runs words bs room = go (enough runs words)
   where
     go : (p : Bool) → EntryRow (elim p [ false ↦ refused 1 | true ↦ entry_read runs room (read bs) ])
     go true = r-entry_read runs room (read bs) (r-read bs)
@@ -105,7 +105,7 @@ module _ {Z : Type 0} (R : Z → Type 0) (stop : ℕ → Z) (of : List Root → 
 
   r-over : (runs words : ℕ) (bs : List ℕ) → R (roots.over_roots stop of runs words bs)
   unfolding roots.over_roots pass_file
-  r-over runs words bs = go (leb 1 runs && leb runs 16 && leb 16384 words)
+  r-over runs words bs = go (enough runs words)
     where
       go : (p : Bool) → R (elim p [ false ↦ stop 1 | true ↦ roots.said stop of (pass_file runs bs) ])
       go true = r-said (pass_file runs bs) (r-pass_read runs (read bs) (r-read bs))

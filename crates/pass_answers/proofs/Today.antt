@@ -18,9 +18,9 @@ use Rattle.pass_roots.specs.Nth.{nth}
 use Rattle.pass_answers.specs.declared.Inlined.{Inlined}
 use Rattle.pass_answers.specs.declared.Roots.{Roots}
 use Rattle.pass_answers.specs.declared.RootBinding.{RootBinding}
-use Rattle.pass_answers.specs.Entry.{enough, numbers, left, InlineIs}
+use Rattle.pass_answers.specs.Entry.{numbers, left, InlineIs}
 use Rattle.pass_answers.specs.Roots as roots
-use Rattle.pass_answers.specs.Roots.{said, over_roots, listing, nth_root, RootsIs, RootIs, stopped, given, nth_numbers}
+use Rattle.pass_answers.specs.Roots.{said, over_roots, RootsIs, RootIs, stopped, given, nth_numbers}
 use Rattle.pass_answers.specs.Under.{over_under, InlineUnderIs, RootsUnderIs, RootUnderIs}
 use Rattle.pass_answers.specs.Today.{Unchanged, Own}
 

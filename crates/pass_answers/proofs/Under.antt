@@ -12,7 +12,7 @@ use Rattle.def_kinds.specs.Lent.{is_table, within}
 use Rattle.def_file.specs.Script.{Script}
 use Rattle.def_file.specs.Read.{Read, bad, script, read}
 use Rattle.def_pass.specs.Script.{Root, Answer, no!, yes!, pass, pass_read}
-use Rattle.def_pass.specs.Entry.{Entry, refused, passed, entry_read}
+use Rattle.def_pass.specs.Entry.{Entry, refused, passed, enough, entry_read}
 use Rattle.def_under.specs.Reading.{pairs_ok, read_under, constant, lent}
 use Rattle.def_under.specs.Laws.{script_in, six}
 use Rattle.def_under.specs.Entry.{pass_under, entry_under}
@@ -22,7 +22,7 @@ use Rattle.pass_roots.specs.Nth.{nth}
 use Rattle.pass_answers.specs.declared.Inlined.{Inlined}
 use Rattle.pass_answers.specs.declared.Roots.{Roots}
 use Rattle.pass_answers.specs.declared.RootBinding.{RootBinding}
-use Rattle.pass_answers.specs.Entry.{enough, numbers}
+use Rattle.pass_answers.specs.Entry.{numbers}
 use Rattle.pass_answers.specs.Roots as roots
 use Rattle.pass_answers.specs.Rows.{EntryRow, ListingRow}
 use Rattle.pass_answers.specs.Under.{over_under, RowUnder, EntryRowUnder, ListingRowUnder, NthRowUnder, RowsUnder}

@@ -1,16 +1,12 @@
 -- What the C function of the pass answers, and what it leaves in both buffers, by the definition's entry. Assumes nothing: these are definitions.
-use Rattle.std.specs.Prelude.{◌≡◌, Bool, ◌&&◌, List, ◌++◌, ℕ, leb, length, drop, Result, Ok, Err}
+use Rattle.std.specs.Prelude.{◌≡◌, List, ◌++◌, ℕ, length, drop, Result, Ok, Err}
 use Rattle.def_tree.specs.Base.{to_nat}
-use Rattle.def_pass.specs.Entry.{Entry, refused, passed, entry}
+use Rattle.def_pass.specs.Entry.{Entry, refused, passed, enough, entry}
 use Rattle.file_copy.specs.Copy.{WordsAre}
 use Rattle.refusal.specs.declared.Refusal.{Refusal}
 use Rattle.refusal.specs.Number.{number}
 use Rattle.pass_answers.specs.declared.Done.{Done}
 use Rattle.pass_answers.specs.declared.Inlined.{Inlined}
-
--- row 1
-abbrev pub enough : ℕ → ℕ → Bool
-enough runs words = leb 1 runs && leb runs 16 && leb 16384 words
 
 -- the four numbers of an answer
 abbrev pub numbers : Entry → Inlined

@@ -11,7 +11,7 @@ use Rattle.refusal.specs.declared.Refusal.{Refusal}
 use Rattle.refusal.specs.Number.{number}
 use Rattle.pass_answers.specs.declared.Roots.{Roots}
 use Rattle.pass_answers.specs.declared.RootBinding.{RootBinding}
-use Rattle.pass_answers.specs.Entry.{enough}
+use Rattle.def_pass.specs.Entry.{enough}
 
 -- a refusal, or what is said of the root bindings, oldest first
 module _ {Z : Type 0} (stop : ℕ → Z) (of : List Root → Z) where

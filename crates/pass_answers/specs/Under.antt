@@ -2,7 +2,7 @@
 use Rattle.std.specs.Prelude.{◌≡◌, ◌⊎◌, ◌≤◌, true, false, List, ℕ, length}
 use Rattle.def_pass.specs.Script.{Root}
 use Rattle.def_pass.specs.Entry as entries
-use Rattle.def_pass.specs.Entry.{Entry, passed}
+use Rattle.def_pass.specs.Entry.{Entry, passed, enough}
 use Rattle.def_under.specs.Entry.{pass_under, entry_under}
 use Rattle.file_copy.specs.Copy.{WordsAre}
 use Rattle.pass_roots.specs.Listing as lists
@@ -11,7 +11,7 @@ use Rattle.pass_roots.specs.Nth.{nth}
 use Rattle.pass_answers.specs.declared.Inlined.{Inlined}
 use Rattle.pass_answers.specs.declared.Roots.{Roots}
 use Rattle.pass_answers.specs.declared.RootBinding.{RootBinding}
-use Rattle.pass_answers.specs.Entry.{enough, numbers, left}
+use Rattle.pass_answers.specs.Entry.{numbers, left}
 use Rattle.pass_answers.specs.Roots as roots
 use Rattle.pass_answers.specs.Rows.{Row}
 use Rattle.pass_answers.specs.Roots.{said, NthRoot, stopped, given, nth_numbers}

@@ -14,7 +14,7 @@ use Rattle.def_tree.proofs.Whole.{Whole, whole_drop}
 use Rattle.def_tree.specs.Combine.{Res, stop, done, Nothing, and_then, ret, iff, ◌>>◌, tree_at}
 use Rattle.def_pass.specs.Tree.{is_ident, is_cheap, has_this, head_t, tail_f}
 use Rattle.def_pass.specs.Scope as def
-use Rattle.def_pass.specs.Scope.{VarInfo, Stack, VarType, is_var, is_const, declare, add_const, is_inline_prevented, prevent_inline, find_binding, mark_of, has_same_this}
+use Rattle.def_pass.specs.Scope.{VarInfo, Stack, VarType, is_const, add_const, is_inline_prevented, prevent_inline, find_binding, mark_of, has_same_this}
 use Rattle.def_pass.specs.Walk.{St, M, when, mark, grow, declare_m, declr_analysis, over_m, stays, takes, read_once?}
 use Rattle.std.specs.Bool.{then_some}
 use Rattle.scope.specs.Given.{value_at}

@@ -5,7 +5,7 @@ use Rattle.def_tree.specs.Tree.{Tree, Core, no_core, count}
 use Rattle.def_tree.specs.Combine.{done, M as MS, Nothing, ◌>>=◌, ◌>>◌, ret, iff, Flat, act_f, cut_first, set_arity, tree_at}
 use Rattle.def_pass.specs.Scope as def
 use Rattle.def_pass.specs.Tree.{is_ident, is_cheap, has_this}
-use Rattle.def_pass.specs.Scope.{Stack, place_or, is_param, param_o, is_const, barred, is_inline_prevented, prevent_inline, find_binding}
+use Rattle.def_pass.specs.Scope.{Stack, is_const, is_inline_prevented, prevent_inline, find_binding}
 use Rattle.def_pass.specs.Walk.{St, M, when, mark, insert_const, declare_m, as_ident, read_once?, takes}
 use Rattle.def_tree.specs.Base.{pick}
 use Rattle.words_nodes.specs.Nodes.{tree_from}

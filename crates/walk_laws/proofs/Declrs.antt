@@ -19,7 +19,7 @@ use Rattle.def_tree.specs.Tree.{Tree, Forest, Core, no_core, count, counts, kind
 use Rattle.def_tree.specs.Combine as Split
 use Rattle.def_tree.specs.Combine.{Res, stop, done, M, and_then, ret, iff, Flat, node_at, re_arity, set_arity, tree_at, forest_at, Walks, ReWalks, on_rest, act_f, skip, skips, many, split_f, same, split_r, cut_first, carry}
 use Rattle.def_tree.proofs.Whole.{kind_at, form-at, num-at, whole_drop}
-use Rattle.def_tree.proofs.Sims.{Sim, SimF, sim-skip, sim-skips, sim-split}
+use Rattle.def_tree.proofs.Sims.{Sim, SimF, sim-skip, sim-skips, sim-split, then-assoc}
 use Rattle.words.specs.Layout.{tree, node_of}
 use Rattle.words.proofs.Nodes.{tree-at, tree-length}
 use Rattle.words_scopes.specs.State.{Good, stack}
@@ -108,10 +108,6 @@ module _ {ft : Tree → M St Tree} (v : WalksF) {w : List ℕ} {n q p d : ℕ} (
   name-stop {u} {e} z x = split-stop (v.full (suc p)) skips n (q + 1) z (subst (λ (k : ℕ). Did w u (Err e) (v.full k (q + 1) (abs w))) (add-one p) x)
 
 -- the first walk of a declarator, and what follows
-assoc : {S A B C : Type 0} (r : Res S A) (f : A → M S B) (g : B → M S C) → and_then (and_then r f) g ≡ and_then r (λ a s. and_then (f a s) g)
-assoc (stop n) f g = refl
-assoc (done s a) f g = refl
-
 module _ (v : WalksF) {w : List ℕ} {n q p d : ℕ} (h : Here w 1 q p d) (ar : n ≡ (node_of w q).arity) where
   -- what follows it
   abbrev behind : ℕ → Flat St → Res (Flat St) ℕ
@@ -124,7 +120,7 @@ module _ (v : WalksF) {w : List ℕ} {n q p d : ℕ} (h : Here w 1 q p d) (ar : 
   unfolding visit_mut_var_declarator_f
   as-walks {y} {b} z =
       let n' : n ≡ (node_at (abs w) q).arity = ar ∙ ap (λ c. c.arity) (sym (node-is h)) in
-      did-to (sym (assoc (split_f skip (many (v.full (suc p))) (node_at (abs w) q).arity (q + 1) (abs w)) (λ j st. declr_to_f v p (head_bind (forest_at (record { nodes = st.nodes; rest = set_pat_mode declaring st.rest }) (node_at (abs w) q).arity (q + 1))) st.rest.inlining st.rest.var_decl_kind (node_at (abs w) q).arity (q + 1) (record { nodes = st.nodes; rest = set_pat_mode declaring st.rest })) (fin q)))
+      did-to (sym (then-assoc (split_f skip (many (v.full (suc p))) (node_at (abs w) q).arity (q + 1) (abs w)) (λ j st. declr_to_f v p (head_bind (forest_at (record { nodes = st.nodes; rest = set_pat_mode declaring st.rest }) (node_at (abs w) q).arity (q + 1))) st.rest.inlining st.rest.var_decl_kind (node_at (abs w) q).arity (q + 1) (record { nodes = st.nodes; rest = set_pat_mode declaring st.rest })) (fin q)))
       (did-to (ap₂ {C = Res (Flat St) ℕ} (λ k m. and_then (split_f skip (many (v.full k)) m (q + 1) (abs w)) (turned m)) (add-one p) n') z)
 
   pub declr-stop : {u : List ℕ} {e : Refusal} → Did w u (Err e) (split_f skip (many (v.full (p + 1))) n (q + 1) (abs w)) → Did w u (Err e) (visit_mut_var_declarator_f v p q (abs w))
@@ -276,7 +272,7 @@ module _ {ft : Tree → M St Tree} (v : WalksF) (p : ℕ) (sim : Sim ft (v.full 
         let m : n ≡ suc (n - 1) = omega (arith, bd.some) in
         ap (λ (b : Bool). and_then (iff b (same (name_last_f v p) n (q + 1)) (split_r skip G n (q + 1)) (abs w)) (fin q)) nc
         ∙ ap (λ (m : ℕ). and_then (split_r skip G m (q + 1) (abs w)) (fin q)) m
-        ∙ assoc (G (n - 1) (q + 1 + count (tree_at (abs w) (q + 1))) (abs w)) (λ r. ret (suc r.0, r.1)) (fin q)
+        ∙ then-assoc (G (n - 1) (q + 1 + count (tree_at (abs w) (q + 1))) (abs w)) (λ r. ret (suc r.0, r.1)) (fin q)
         ∙ ap (λ (i : ℕ). and_then (G (n - 1) i (abs w)) (fin1 q)) name-end
 
     abbrev taken : ℕ → F (ℕ × ℕ)
@@ -306,14 +302,14 @@ module _ {ft : Tree → M St Tree} (v : WalksF) (p : ℕ) (sim : Sim ft (v.full 
         init-stop {u} {e} o r =
             let full : Did w u (Err e) (v.full (suc p) j (abs w)) = subst (λ (k : ℕ). Did w u (Err e) (v.full k j (abs w))) (add-one p) r in
             let part = split-stop (v.full (suc p)) skips (n - 1) j (λ y. omega (arith, o, bd.some, y)) full in
-            did-to (sym (assoc (W (n - 1) j (abs w)) taken (fin1 q)) ∙ ap by-stays (sym z) ∙ stays-is b g) (did-stop (λ i st. and_then (taken i st) (fin1 q)) part)
+            did-to (sym (then-assoc (W (n - 1) j (abs w)) taken (fin1 q)) ∙ ap by-stays (sym z) ∙ stays-is b g) (did-stop (λ i st. and_then (taken i st) (fin1 q)) part)
 
         pub init-then : {u s : List ℕ} {a : Result ℕ Refusal} {e : ℕ} → Did w u (Ok e) (W (n - 1) j (abs w)) → Did u s a (declr_after q k (named f x) (n - 1) j e (abs u)) → Did w s a (declr_end_f v p q (some t) true k n (q + 1) (abs w))
         init-then {u} {s} {a} {e} r l =
             let ts = forest_at (abs u) (n - 1) j in
             let names : declr_after q k (named f x) (n - 1) j e (abs u) ≡ declr_after q k t (n - 1) j e (abs u) = ap (λ (f : St → Res St Bool). and_then (on_rest f (abs u)) (λ gone st. and_then (iff gone (cut_first (n - 1) j e) (ret (n - 1, e)) st) (fin1 q))) (ap (λ (z : ℕ). takes k (named z x) ts) form-is ∙ ap (λ (z : ℕ). takes k (named (form t) z) ts) num-is ∙ sym (takes-name k t ts)) in
-            let last : Did u s a (and_then (taken e (abs u)) (fin1 q)) = did-to (names ∙ sym (assoc (act_f (takes k t) (n - 1) j (abs u)) (λ gone. iff gone (cut_first (n - 1) j e) (ret (n - 1, e))) (fin1 q))) l in
-            did-to (sym (assoc (W (n - 1) j (abs w)) taken (fin1 q)) ∙ ap by-stays (sym z) ∙ stays-is b g) (did_then (λ i st. and_then (taken i st) (fin1 q)) r last)
+            let last : Did u s a (and_then (taken e (abs u)) (fin1 q)) = did-to (names ∙ sym (then-assoc (act_f (takes k t) (n - 1) j (abs u)) (λ gone. iff gone (cut_first (n - 1) j e) (ret (n - 1, e))) (fin1 q))) l in
+            did-to (sym (then-assoc (W (n - 1) j (abs w)) taken (fin1 q)) ∙ ap by-stays (sym z) ∙ stays-is b g) (did_then (λ i st. and_then (taken i st) (fin1 q)) r last)
 
         pub init-none : {s : List ℕ} {a : Result ℕ Refusal} → n ≡ 1 → Did w s a (declr_after q k (named f x) 0 j j (abs w)) → Did w s a (declr_end_f v p q (some t) true k n (q + 1) (abs w))
         init-none {s} {a} o l = let m : 0 ≡ n - 1 = omega (arith, o) in init-then (unwalked o) (subst (λ (m : ℕ). Did w s a (declr_after q k (named f x) m j j (abs w))) m l)

@@ -1,4 +1,5 @@
 -- How the walks of the port are put together: each form of a handler, from what was done in its parts. Assumes nothing.
+use Rattle.def_tree.proofs.Sims.{then-assoc}
 use Rattle.std.proofs.Common.{Result, Ok, Err, IsErrAnd}
 use mathlib.Core.Path.{◌≡◌, refl, sym, ap, ap₂, ◌∙◌, subst}
 use mathlib.Core.Bool.{Bool, true, false, ◌&&◌, not}
@@ -307,15 +308,11 @@ pub kind-plain : (k : ℕ) → Off k 0 handlers → get_or handlers k h_plain �
 kind-plain k o = off-plain k 0 k handlers (omega arith) o
 
 -- an identifier: what each step did, and what follows it. const_f, value_f and swap_f of the steps are these
-assoc : {S A B C : Type 0} (r : Res S A) (f : A → M S B) (g : B → M S C) → and_then (and_then r f) g ≡ and_then r (λ a s. and_then (f a s) g)
-assoc (stop n) f g = refl
-assoc (done s a) f g = refl
-
 abbrev pub swaps_f : ℕ → Tree → Walk St
 swaps_f p e i = act (λ t. replace p t e) i >> put e i
 
 swap-then : {B : Type 0} (p : ℕ) (e : Tree) (i : ℕ) (g : ℕ → M (Flat St) B) (st : Flat St) → and_then (swaps_f p e i st) g ≡ and_then (act (λ t. replace p t e) i st) (λ x st₁. and_then (put e i st₁) g)
-swap-then p e i g st = assoc (act (λ t. replace p t e) i st) (λ x. put e i) g
+swap-then p e i g st = then-assoc (act (λ t. replace p t e) i st) (λ x. put e i) g
 
 value-is : {A : Type 0} (p i : ℕ) (e : Tree) (g : ℕ → F ℕ) (r : Res (Flat St) A) → and_then (and_then r (λ x. swaps_f p e i)) g ≡ and_then r (λ x st. and_then (act (λ t. replace p t e) i st) (λ y st₁. and_then (put e i st₁) g))
 value-is p i e g (stop n) = refl
@@ -345,4 +342,4 @@ module _ (v : WalksF) (p i : ℕ) {w : List ℕ} where
 -- Analysis
 pub analysis-then : (i : ℕ) {w u x : List ℕ} {a : Result ℕ Refusal} → Act w u 0 (and_then (act test_read i (abs w)) (λ y. act (λ t. mark (add_read (num t) (eqb (form t) 1))) i)) → Did u x a (skip i (abs u)) → Did w x a (ident_analysis_f i (abs w))
 unfolding ident_analysis_f
-analysis-then i {w} s d = did-to (assoc (act test_read i (abs w)) (λ y. act (λ t. mark (add_read (num t) (eqb (form t) 1))) i) (λ y. skip i)) (act-then (λ y. skip i) s d)
+analysis-then i {w} s d = did-to (then-assoc (act test_read i (abs w)) (λ y. act (λ t. mark (add_read (num t) (eqb (form t) 1))) i) (λ y. skip i)) (act-then (λ y. skip i) s d)
