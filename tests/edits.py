@@ -5,6 +5,7 @@ does not hold any more, not one that failed with another's.
 usage: edits.py [--anew] [CRATE[/LABEL]..]     all of them, if none is named
 
 Where a function stands on another one that the same edit changes, its goals are not tried: what is not refused yet is tried again without what is.
+What tests/seeds.py kept of a crate under NEGBOSUN_SEEDS is what `rt ci` proved of it: its edits begin with that, and the others with a proof of the crate.
 Of each edit of which all is refused a note is kept under ~/.cache/negbosun, by a sum of all that its checks read: the kit, the edit, the texts of its
 crate and of those below, and this program. --anew looks at none of them.
 """
@@ -102,10 +103,22 @@ def refused(said, crate, sort, name):
     return False
 
 
+CHECKS = []
+
+
 def check(crates, crate, home, seed):
+    CHECKS.append(crate)
     words = [kit.kit() + '/bin/rattle', 'check', *kit.words(crates, crate), '--jobs', '1', '--incremental', seed]
     ran = subprocess.run(words, cwd=home, stdin=subprocess.DEVNULL, stdout=subprocess.PIPE, stderr=subprocess.STDOUT, errors='replace')
     return ran.returncode, ran.stdout
+
+
+def linked(one, other):
+    """Gives what was proved a second name where it can: a check replaces such a file, and changes none."""
+    if one.endswith('.oantt'):
+        with contextlib.suppress(OSError):
+            return os.link(one, other)
+    return shutil.copy2(one, other)
 
 
 def copied(crate, home):
@@ -131,7 +144,7 @@ def tried(crates, crate, edit, seed):
                 break
             # each begins with what the crate's own proof left
             shutil.rmtree(over, ignore_errors=True)
-            shutil.copytree(seed, over)
+            shutil.copytree(seed, over, copy_function=linked)
             status, text = check(crates, crate, home, over)
             said = messages(text)
             if status != 1 or 'logic=not-proved' not in text:
@@ -201,12 +214,19 @@ def main(argv):
     jobs = int(os.environ.get('JOBS') or os.cpu_count() or 1)
     with tempfile.TemporaryDirectory(prefix='seeds-') as room, concurrent.futures.ThreadPoolExecutor(jobs) as pool:
 
+        def seed_of(crate):
+            """What the proof of a crate left, or where it goes."""
+            kept = os.path.join(os.environ.get('NEGBOSUN_SEEDS') or room, crate)
+            return kept if 'NEGBOSUN_SEEDS' in os.environ and os.path.isdir(kept) else os.path.join(room, crate + '-seed')
+
         def seeded(crate):
             """Proves the crate as it stands, so that an edit's check proves only what it changes."""
             lacking = kit.lacking(crates, crate)
             if lacking:
                 return 'the libraries below are not built (run rt ci first): %s' % ' '.join(lacking)
-            home, seed = os.path.join(room, crate), os.path.join(room, crate + '-seed')
+            home, seed = os.path.join(room, crate), seed_of(crate)
+            if os.path.isdir(seed):
+                return None
             os.makedirs(home)
             copied(crate, home)
             kept = os.path.join(kit.folder(crate), 'out', 'incremental')
@@ -219,7 +239,7 @@ def main(argv):
             why = seed_done.result()
             if why:
                 return [name for group in groups_of(edit) for _, name in group.names] or ['nothing'], [why]
-            return tried(crates, crate, edit, os.path.join(room, crate + '-seed'))
+            return tried(crates, crate, edit, seed_of(crate))
 
         # The crates of the most edits first; all seeds before the edits that wait for them.
         order = sorted(by_crate, key=lambda it: -len(by_crate[it]))
@@ -240,6 +260,7 @@ def main(argv):
                         it.write(where + '\n')
             elif told and not left:
                 failed += 1
+    print('%d edits in %d checks' % (len(results), len(CHECKS)))
     print('%d passed, %d failed' % (passed, failed))
     return 1 if failed else 0
 
