@@ -20,14 +20,14 @@ abbrev pub index_of : ℕ → List ℕ → ℕ
 index_of n [] = 0
 index_of n (m ∷ ms) = elim (eqb n m) [ true ↦ 0 | false ↦ suc (index_of n ms) ]
 
--- 20, 21, 25, 29, 37 and 47 use a text
+-- does the node use a text, and its number
 abbrev pub has_text_number : Raw → Bool
 has_text_number x = uses_text x.kind
 
 abbrev pub text_number : Raw → ℕ
 text_number x = x.text
 
--- 20 and 21 have a context; the 8 bytes of a number are none
+-- a binding's or an identifier's context; the 8 bytes of a number are none
 abbrev pub context : Raw → ℕ
 context x = x.bits
 

@@ -1,21 +1,23 @@
 -- The core of a script, which names everything by numbers, and the way back to file nodes. Assumes nothing: these are definitions.
 -- A core has, of an identifier, its number in the order of first appearance; of a literal, its origin, which is its node's number; of a
 -- property, member or pattern property, the number of the node whose text it has. Of a name it has only whether it is `arguments`.
-use Rattle.std.specs.Prelude.{Bool, ◌&&◌, ◌||◌, List, [], ◌∷◌, ℕ, suc, eqb, leb, get_or}
+use Rattle.std.specs.Prelude.{Bool, ◌||◌, List, [], ◌∷◌, ℕ, suc, get_or}
 use Rattle.def_tree.specs.Base.{pick, to_nat}
 use Rattle.def_tree.specs.Tree.{Core}
 use Rattle.def_file.specs.declared.Raw.{Raw}
+use Rattle.def_file.specs.declared.kind.Kind.TheVariants.{BindingIdent, Ident, Null, Str, Prop, Member, PatProp}
+use Rattle.def_file.specs.Named.{number_of, is_kind, is_between}
 use Rattle.def_file.specs.Script.{Script, is_lit, has_id, idents, place_of, zero_node, node_at, is_arguments}
 
--- 29 property, 37 member, 47 pattern property: a text that no step looks at
+-- the kinds with a text that no step looks at
 abbrev pub has_text : ℕ → Bool
-has_text k = eqb k 29 || eqb k 37 || eqb k 47
+has_text k = is_kind Prop k || is_kind Member k || is_kind PatProp k
 
--- the core of node number n
+-- the core of node number n; every literal is a `Null` there
 unfoldable pub core_node : Script → ℕ → Raw → Core
 unfolding idents
 core_node s n x =
-    pick (is_lit x) (record { kind = 22; form = 0; arity = 0; num = n })
+    pick (is_lit x) (record { kind = number_of Null; form = 0; arity = 0; num = n })
     (pick (has_id x) (record { kind = x.kind; form = to_nat (is_arguments s x); arity = x.arity; num = place_of x (idents s) })
     (record { kind = x.kind; form = x.form; arity = x.arity; num = n }))
 
@@ -49,5 +51,5 @@ plain_out s c = record { raw = record { kind = c.kind; form = c.form; arity = c.
 unfoldable pub back : Script → Core → Out
 unfolding idents
 back s c =
-    pick (leb 22 c.kind && leb c.kind 25) (lit_out s c)
-    (pick (eqb c.kind 20 || eqb c.kind 21) (id_out s c) (plain_out s c))
+    pick (is_between Null Str c.kind) (lit_out s c)
+    (pick (is_kind BindingIdent c.kind || is_kind Ident c.kind) (id_out s c) (plain_out s c))

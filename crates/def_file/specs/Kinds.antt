@@ -3,44 +3,47 @@
 -- Assumes nothing: these are definitions.
 use Rattle.std.specs.Prelude.{Bool, ◌&&◌, ◌||◌, not, List, [], ◌∷◌, ℕ, ◌+◌, ◌/◌, ◌%◌, eqb, leb, get_or}
 use Rattle.def_tree.specs.Base.{pick}
+use Rattle.def_file.specs.Named.{is_kind, is_between}
+use Rattle.def_file.specs.declared.kind.Kind.TheVariants as Kind
 use Rattle.def_file.specs.declared.kinds.Class.{Class}
 use Rattle.def_file.specs.declared.kinds.Row.{Row}
 pub use Rattle.def_file.specs.declared.kinds.Class.TheVariants.{Root, Statement, Expression, Binding, Name, Target, Block, Declarator, Catch, Case, Property, PatternProperty, Updated, Assigned, Destructured, Start, Head}
 
 -- s and e of document 01
 abbrev pub is_stmt : ℕ → Bool
-is_stmt k = (leb 2 k && leb k 5) || (leb 7 k && leb k 16) || eqb k 18 || eqb k 43 || eqb k 44
+is_stmt k = is_between Kind.Block Kind.VarDecl k || is_between Kind.FnDecl Kind.Try k || is_kind Kind.Switch k || is_kind Kind.Break k || is_kind Kind.Continue k
 
 abbrev pub is_expr : ℕ → Bool
-is_expr k = leb 21 k && leb k 42 && not (eqb k 29)
+is_expr k = is_between Kind.Ident Kind.Seq k && not (is_kind Kind.Prop k)
 
--- request 4: where 20 may, 45 and 46 may stand as declarator name, catch binding, for head without declaration, left of `=`, and left in a 48
+-- request 4: where a binding may, a pattern may stand as declarator name, catch binding, for head without declaration, left of `=`, and left in
+-- a default
 abbrev pub is_binding_name : ℕ → Bool
-is_binding_name k = eqb k 20 || eqb k 45 || eqb k 46
+is_binding_name k = is_kind Kind.BindingIdent k || is_kind Kind.ObjectPat k || is_kind Kind.ArrayPat k
 
 -- "A target is 20, 45, 46 or 48": a parameter, or what stands inside a pattern
 abbrev pub is_target : ℕ → Bool
-is_target k = is_binding_name k || eqb k 48
+is_target k = is_binding_name k || is_kind Kind.AssignPat k
 
 -- may a node of kind k with n children stand at a place
 abbrev pub allows : Class → ℕ → ℕ → Bool
-allows Root k n = eqb k 1
+allows Root k n = is_kind Kind.Script k
 allows Statement k n = is_stmt k
 allows Expression k n = is_expr k
-allows Binding k n = eqb k 20
+allows Binding k n = is_kind Kind.BindingIdent k
 allows Name k n = is_binding_name k
 allows Target k n = is_target k
-allows Block k n = eqb k 2
-allows Declarator k n = eqb k 6
-allows Catch k n = eqb k 17
-allows Case k n = eqb k 19
-allows Property k n = eqb k 29
-allows PatternProperty k n = eqb k 47
-allows Updated k n = eqb k 21 || eqb k 37 || eqb k 38
-allows Assigned k n = eqb k 20 || eqb k 37 || eqb k 38
-allows Destructured k n = is_binding_name k || eqb k 37 || eqb k 38
-allows Start k n = eqb k 5 || is_expr k
-allows Head k n = is_binding_name k || (eqb k 5 && eqb n 1)
+allows Block k n = is_kind Kind.Block k
+allows Declarator k n = is_kind Kind.VarDeclarator k
+allows Catch k n = is_kind Kind.CatchClause k
+allows Case k n = is_kind Kind.SwitchCase k
+allows Property k n = is_kind Kind.Prop k
+allows PatternProperty k n = is_kind Kind.PatProp k
+allows Updated k n = is_kind Kind.Ident k || is_kind Kind.Member k || is_kind Kind.Computed k
+allows Assigned k n = is_kind Kind.BindingIdent k || is_kind Kind.Member k || is_kind Kind.Computed k
+allows Destructured k n = is_binding_name k || is_kind Kind.Member k || is_kind Kind.Computed k
+allows Start k n = is_kind Kind.VarDecl k || is_expr k
+allows Head k n = is_binding_name k || (is_kind Kind.VarDecl k && eqb n 1)
 
 -- any count: the field for it has two bytes
 abbrev pub any : ℕ
@@ -180,7 +183,7 @@ child_of r n i = pick (eqb n 1) r.only (pick (eqb i 0) r.first (pick (eqb (i + 1
 
 -- the kinds whose text number, and whose 8 bytes, are used; of all others they are 0
 abbrev pub uses_text : ℕ → Bool
-uses_text k = eqb k 20 || eqb k 21 || eqb k 25 || eqb k 29 || eqb k 37 || eqb k 47
+uses_text k = is_kind Kind.BindingIdent k || is_kind Kind.Ident k || is_kind Kind.Str k || is_kind Kind.Prop k || is_kind Kind.Member k || is_kind Kind.PatProp k
 
 abbrev pub uses_bits : ℕ → Bool
-uses_bits k = eqb k 20 || eqb k 21 || eqb k 24
+uses_bits k = is_kind Kind.BindingIdent k || is_kind Kind.Ident k || is_kind Kind.Number k

@@ -1,5 +1,6 @@
 -- The kinds of nodes by name. Assumes nothing: these are definitions.
-use Rattle.std.specs.Prelude.{◌≡◌, ◌⊎◌, ◌<◌, ℕ, List, [], ◌∷◌, get_or}
+use Rattle.std.specs.Prelude.{◌≡◌, ◌⊎◌, ◌<◌, ◌&&◌, ℕ, List, [], ◌∷◌, eqb, leb, get_or}
+use Rattle.std.specs.Prelude as prelude
 use Rattle.def_file.specs.declared.kind.Kind.{Kind}
 use Rattle.def_file.specs.declared.kind.Kind.TheVariants.{Script, Block, Empty, ExprStmt, VarDecl, VarDeclarator, FnDecl, Return, If, While, DoWhile, For, ForIn, ForOf, Throw, Try, CatchClause, Switch, SwitchCase, BindingIdent, Ident, Null, Bool, Number, Str, This, Array, Object, Prop, Unary, Update, Bin, Assign, Cond, Call, New, Member, Computed, FnExpr, Arrow, Paren, Seq, Break, Continue, ObjectPat, ArrayPat, PatProp, AssignPat, Invalid}
 
@@ -121,3 +122,10 @@ number_of (Invalid n) = n
 
 abbrev pub IsNumberOf : Kind → ℕ → Type 0
 IsNumberOf k n = n ≡ number_of k
+
+-- is n the number of k; of one of the kinds from j to k
+abbrev pub is_kind : Kind → ℕ → prelude.Bool
+is_kind k n = eqb n (number_of k)
+
+abbrev pub is_between : Kind → Kind → ℕ → prelude.Bool
+is_between j k n = leb (number_of j) n && leb n (number_of k)

@@ -1,7 +1,9 @@
 -- A script as a tree file holds it: its nodes in preorder, and its texts. Assumes nothing: these are definitions.
-use Rattle.std.specs.Prelude.{Bool, true, false, ◌&&◌, ◌||◌, not, List, [], ◌∷◌, ◌++◌, ℕ, suc, eqb, leb, get_or}
+use Rattle.std.specs.Prelude.{Bool, true, false, ◌&&◌, ◌||◌, not, List, [], ◌∷◌, ◌++◌, ℕ, suc, eqb, get_or}
 use Rattle.def_tree.specs.Base.{pick}
 use Rattle.def_file.specs.declared.Raw.{Raw}
+use Rattle.def_file.specs.declared.kind.Kind.TheVariants.{BindingIdent, Ident, Null, Number, Str}
+use Rattle.def_file.specs.Named.{number_of, is_kind, is_between}
 
 pub record Script : Type 0 where
   pub nodes : List Raw
@@ -9,11 +11,11 @@ pub record Script : Type 0 where
 
 -- literals: null, boolean, number, string
 abbrev pub is_lit : Raw → Bool
-is_lit x = leb 22 x.kind && leb x.kind 25
+is_lit x = is_between Null Str x.kind
 
 -- bindings and identifiers
 abbrev pub has_id : Raw → Bool
-has_id x = eqb x.kind 20 || eqb x.kind 21
+has_id x = is_kind BindingIdent x.kind || is_kind Ident x.kind
 
 -- one identifier: one text and one context
 abbrev pub same_id : Raw → Raw → Bool
@@ -48,7 +50,7 @@ place_of x (y ∷ ys) = elim (same_id x y) [ true ↦ 0 | false ↦ suc (place_o
 
 -- the number 0: what stands at node number 0
 abbrev pub zero_node : Raw
-zero_node = record { kind = 24; form = 0; arity = 0; text = 0; bits = 0 }
+zero_node = record { kind = number_of Number; form = 0; arity = 0; text = 0; bits = 0 }
 
 -- nodes are numbered from 1
 abbrev pub node_at : Script → ℕ → Raw

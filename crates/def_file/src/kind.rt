@@ -1,7 +1,8 @@
 // The kinds of nodes by name.
 
-ghost use Rattle.std.specs.Prelude.{◌≡◌, ◌&&◌, ◌||◌, ℕ, eqb, leb};
-ghost use Rattle.def_file.specs.Named.{IsKindOf, IsNumberOf, Coded};
+ghost use Rattle.std.specs.Prelude.{◌≡◌, ◌||◌, ℕ};
+ghost use Rattle.def_file.specs.declared.kind.Kind.TheVariants.{FnDecl, ForIn, ForOf, BindingIdent, Ident, Null, Str, Update, Assign, Member, Computed, FnExpr, Arrow, ObjectPat, ArrayPat, AssignPat};
+ghost use Rattle.def_file.specs.Named.{IsKindOf, IsNumberOf, Coded, is_kind, is_between};
 ghost use Rattle.def_file.specs.Kinds.{is_stmt, is_expr, is_binding_name, is_target, uses_text, uses_bits};
 
 // What a node is: the kinds 1 to 48 of the tree file, and what any other number stands for.
@@ -64,21 +65,21 @@ impl Kind {
 
     // A literal: what it says is told by its own node alone.
     pub fn is_literal(self) -> bool
-        ensures { (k : ℕ) → Coded self k → result ≡ (leb 22 k && leb k 25) }
+        ensures { (k : ℕ) → Coded self k → result ≡ is_between Null Str k }
     {
         matches!(self, Kind::Null | Kind::Bool | Kind::Number | Kind::Str)
     }
 
     // A name: a binding or an identifier.
     pub fn is_name(self) -> bool
-        ensures { (k : ℕ) → Coded self k → result ≡ (eqb k 20 || eqb k 21) }
+        ensures { (k : ℕ) → Coded self k → result ≡ (is_kind BindingIdent k || is_kind Ident k) }
     {
         matches!(self, Kind::BindingIdent | Kind::Ident)
     }
 
     // In the working words: a literal or an identifier.
     pub fn is_cheap(self) -> bool
-        ensures { (k : ℕ) → Coded self k → result ≡ (eqb k 22 || eqb k 21) }
+        ensures { (k : ℕ) → Coded self k → result ≡ (is_kind Null k || is_kind Ident k) }
     {
         matches!(self, Kind::Ident | Kind::LITERAL)
     }
@@ -141,21 +142,21 @@ impl Kind {
 
     // A function.
     pub fn is_function(self) -> bool
-        ensures { (k : ℕ) → Coded self k → result ≡ (eqb k 7 || eqb k 39 || eqb k 40) }
+        ensures { (k : ℕ) → Coded self k → result ≡ (is_kind FnDecl k || is_kind FnExpr k || is_kind Arrow k) }
     {
         matches!(self, Kind::FnDecl | Kind::FnExpr | Kind::Arrow)
     }
 
     // A member: by name, by expression.
     pub fn is_member(self) -> bool
-        ensures { (k : ℕ) → Coded self k → result ≡ (eqb k 37 || eqb k 38) }
+        ensures { (k : ℕ) → Coded self k → result ≡ (is_kind Member k || is_kind Computed k) }
     {
         matches!(self, Kind::Member | Kind::Computed)
     }
 
     // A pattern: of an object, of an array.
     pub fn is_pattern(self) -> bool
-        ensures { (k : ℕ) → Coded self k → result ≡ (eqb k 45 || eqb k 46) }
+        ensures { (k : ℕ) → Coded self k → result ≡ (is_kind ObjectPat k || is_kind ArrayPat k) }
     {
         matches!(self, Kind::ObjectPat | Kind::ArrayPat)
     }
@@ -179,7 +180,7 @@ impl Kind {
 
     // A pattern, or a part of one that is no binding.
     pub fn in_pattern(self) -> bool
-        ensures { (k : ℕ) → Coded self k → result ≡ (leb 45 k && leb k 48) }
+        ensures { (k : ℕ) → Coded self k → result ≡ is_between ObjectPat AssignPat k }
     {
         matches!(
             self,
@@ -189,7 +190,7 @@ impl Kind {
 
     // A node that has a target: assignment, update, for-in, for-of.
     pub fn aims(self) -> bool
-        ensures { (k : ℕ) → Coded self k → result ≡ (eqb k 33 || eqb k 31 || eqb k 13 || eqb k 14) }
+        ensures { (k : ℕ) → Coded self k → result ≡ (is_kind Assign k || is_kind Update k || is_kind ForIn k || is_kind ForOf k) }
     {
         matches!(
             self,

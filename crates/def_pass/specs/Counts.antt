@@ -2,6 +2,8 @@
 use Rattle.std.specs.Prelude.{◌≡◌, refl, true, false, List, [], ◌∷◌, map, ℕ, zero, suc}
 use Rattle.std.proofs.Math.Option.{none}
 use Rattle.def_tree.specs.Combine.{Res, stop, done}
+use Rattle.def_file.specs.declared.kind.Kind.TheVariants.{If}
+use Rattle.def_file.specs.Named.{number_of}
 use Rattle.def_pass.specs.Tree.{Tree, node}
 use Rattle.def_pass.specs.Twice.{flagged}
 use Rattle.def_pass.specs.Scope.{v_var, count_one}
@@ -68,7 +70,7 @@ counts =
     -- function f() { { let y = 1; y; } var x = 2; x; x; } -- a block in a function, then the function
     ∷ counted 16 (script (f1 (fun (f2 (bind 1) (block (f4 (block (f2 (decl_to 1 2 (lit 5)) (do' (name 2)))) (decl_to 0 3 (lit 9)) (do' (name 3)) (do' (name 3)))))))) ((1, 0) ∷ []) 3 3
     -- if (h) { var x = 1; x; } -- out of two scopes
-    ∷ counted 1 (script (f1 (node 9 0 0 (f2 (name 2) (block (f2 (decl_to 0 1 (lit 5)) (do' (name 1)))))))) ((1, 1) ∷ []) 0 1
+    ∷ counted 1 (script (f1 (node (number_of If) 0 0 (f2 (name 2) (block (f2 (decl_to 0 1 (lit 5)) (do' (name 1)))))))) ((1, 1) ∷ []) 0 1
     ∷ []
 
 pub counts-right : map seen counts ≡ counts

@@ -1,6 +1,8 @@
 -- Cases that the worthless versions of document 01's "Imitations of the pass" fail, beside the tables: run limits, runs that change the
 -- tree after the first, and scripts at the limits of rows 8 and 9 that pass. One theorem.
 use Rattle.std.specs.Prelude.{◌≡◌, refl, true, false, List, [], ◌∷◌, map, ℕ, zero, suc}
+use Rattle.def_file.specs.declared.kind.Kind.TheVariants.{Empty, Arrow}
+use Rattle.def_file.specs.Named.{number_of}
 use Rattle.def_pass.specs.Tree.{Tree, Forest, node, nil, cons}
 use Rattle.def_pass.specs.Walk.{core_pass}
 use Rattle.def_pass.specs.Cases.{Answer, yes!, meets, script, decl, decl_to, do', name, bind, lit, array, assign, block, f1, f2, f3, f4}
@@ -33,11 +35,11 @@ three_runs_end = script (f4 (decl 1 1) (decl 0 2) (do' (assign 1 (name 3))) (do'
 
 -- b = (p) => { let b = p; let b = [p]; let p = b; }: every run has the mark, and none changes the tree
 abbrev pub always : Tree
-always = script (f1 (do' (assign 1 (node 40 0 0 (f2 (bind 2) (block (f3 (decl_to 1 1 (name 2)) (decl_to 1 1 (array (name 2))) (decl_to 1 2 (name 1)))))))))
+always = script (f1 (do' (assign 1 (node (number_of Arrow) 0 0 (f2 (bind 2) (block (f3 (decl_to 1 1 (name 2)) (decl_to 1 1 (array (name 2))) (decl_to 1 2 (name 1)))))))))
 
 -- x; 511 times, and an empty statement: 1,024 nodes
 abbrev pub wide : Tree
-wide = script (cons (node 3 0 0 nil) (many 511))
+wide = script (cons (node (number_of Empty) 0 0 nil) (many 511))
 
 -- 200 deep
 abbrev pub deep : Tree

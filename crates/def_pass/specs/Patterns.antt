@@ -1,6 +1,8 @@
 -- Request 4: patterns in each place and each mode, worked out by hand from visit_mut_pat and its callers (mod.rs) and the request's sentences,
 -- on core trees. Each row has the script, the runs, the result and the root bindings with their marks.
 use Rattle.std.specs.Prelude.{◌≡◌, refl, Bool, true, false, ◌&&◌, List, [], ◌∷◌, map, ℕ, suc, eqb}
+use Rattle.def_file.specs.declared.kind.Kind.TheVariants.{Empty, VarDecl, VarDeclarator, For, ForOf, Try, CatchClause, This, Assign, Computed, FnExpr, Arrow, ObjectPat, ArrayPat, PatProp, AssignPat}
+use Rattle.def_file.specs.Named.{number_of}
 use Rattle.def_pass.specs.Tree.{Tree, Forest, node, nil, cons}
 use Rattle.def_pass.specs.Twice.{flagged}
 use Rattle.def_pass.specs.Walk.{core_pass, Outcome, refused, result, Rooted}
@@ -11,31 +13,44 @@ use Rattle.def_pass.specs.Cases.{yes!, meets, same_mark, f1, f2, f3, f4, name, b
 
 -- builders: patterns, and what holds one
 abbrev pub array_pat : Forest → Tree
-array_pat ts = node 46 0 0 ts
+array_pat ts = node (number_of ArrayPat) 0 0 ts
 
 abbrev pub object_pat : Tree → Tree
-object_pat t = node 45 0 0 (f1 (node 47 0 0 (f1 t)))
+object_pat t = node (number_of ObjectPat) 0 0 (f1 (node (number_of PatProp) 0 0 (f1 t)))
 
 abbrev pub or_default : Tree → Tree → Tree
-or_default t e = node 48 0 0 (f2 t e)
+or_default t e = node (number_of AssignPat) 0 0 (f2 t e)
 
 abbrev pub pat_to : ℕ → Tree → Tree → Tree
-pat_to f l e = node 5 f 0 (f1 (node 6 0 0 (f2 l e)))
+pat_to f l e = node (number_of VarDecl) f 0 (f1 (node (number_of VarDeclarator) 0 0 (f2 l e)))
 
 abbrev pub pat : ℕ → Tree → Tree
-pat f l = node 5 f 0 (f1 (node 6 0 0 (f1 l)))
+pat f l = node (number_of VarDecl) f 0 (f1 (node (number_of VarDeclarator) 0 0 (f1 l)))
 
 abbrev pub to : Tree → Tree → Tree
-to l e = do' (node 33 0 0 (f2 l e))
+to l e = do' (node (number_of Assign) 0 0 (f2 l e))
 
 abbrev pub caught : Tree → Tree
-caught l = node 16 1 0 (f2 (block nil) (node 17 0 0 (f2 l (block nil))))
+caught l = node (number_of Try) 1 0 (f2 (block nil) (node (number_of CatchClause) 0 0 (f2 l (block nil))))
+
+abbrev pub empty : Tree
+empty = node (number_of Empty) 0 0 nil
 
 abbrev pub for_of : Tree → Tree → Tree
-for_of l e = node 14 0 0 (f3 l e (node 3 0 0 nil))
+for_of l e = node (number_of ForOf) 0 0 (f3 l e empty)
 
 abbrev pub at : ℕ → Tree → Tree
-at k e = node 38 0 0 (f2 (name k) e)
+at k e = node (number_of Computed) 0 0 (f2 (name k) e)
+
+abbrev pub fun_expr : Forest → Tree
+fun_expr ts = node (number_of FnExpr) 0 0 ts
+
+-- with a block (form 0), or with an expression (form 1)
+abbrev pub arrow : ℕ → Forest → Tree
+arrow f ts = node (number_of Arrow) f 0 ts
+
+abbrev pub this : Tree
+this = node (number_of This) 0 0 nil
 
 -- a script that is one function, of these parameters and this body
 abbrev pub taking : Forest → Tree
@@ -85,11 +100,11 @@ parameters =
     -- function f(a = x = 1, b) { var c = b; arguments; c; }: the assignment leaves its mode, in which b is written and no parameter
     ∷ becomes (taking (f3 (or_default (bind 1) (assign 7 (lit 5))) (bind 3) (block (f3 (decl_to 0 2 (name 3)) (do' (arguments 9)) (do' (name 2)))))) (taking (f3 (or_default (bind 1) (assign 7 (lit 5))) (bind 3) (block (f3 (decl 0 2) (do' (arguments 9)) (do' (name 3)))))) ((0, false) ∷ [])
     -- function f(a = function () { x = 1; }, b) { var c = b; arguments; c; }: a function's scope keeps the mode to itself
-    ∷ stays (taking (f3 (or_default (bind 1) (node 39 0 0 (f1 (block (f1 (do' (assign 7 (lit 5)))))))) (bind 3) (block (f3 (decl_to 0 2 (name 3)) (do' (arguments 9)) (do' (name 2)))))) ((0, false) ∷ [])
+    ∷ stays (taking (f3 (or_default (bind 1) (fun_expr (f1 (block (f1 (do' (assign 7 (lit 5)))))))) (bind 3) (block (f3 (decl_to 0 2 (name 3)) (do' (arguments 9)) (do' (name 2)))))) ((0, false) ∷ [])
     -- let x = 1; function f([a = x]) { }: a default is walked; x is read from within a function and is no var
     ∷ becomes (script (f2 (decl_to 1 7 (lit 5)) (fun (f3 (bind 0) (array_pat (f1 (or_default (bind 1) (name 7)))) (block nil))))) (script (f2 (decl 1 7) (fun (f3 (bind 0) (array_pat (f1 (or_default (bind 1) (lit 5)))) (block nil))))) ((7, false) ∷ (0, false) ∷ [])
     -- var v = ([g]) => { }; g = 1;: an arrow's parameters are walked in the mode that was left
-    ∷ stays (script (f2 (decl_to 0 2 (node 40 0 0 (f2 (array_pat (f1 (bind 1))) (block nil)))) (do' (assign 1 (lit 5))))) ((2, false) ∷ (1, true) ∷ [])
+    ∷ stays (script (f2 (decl_to 0 2 (arrow 0 (f2 (array_pat (f1 (bind 1))) (block nil)))) (do' (assign 1 (lit 5))))) ((2, false) ∷ (1, true) ∷ [])
     ∷ []
 
 -- declarators: the initialiser is walked first, once; nothing is declared and nothing taken out
@@ -121,9 +136,9 @@ bindings =
     -- for (var [b] of c) ;: declared by no name, written by force
     ∷ stays (script (f1 (for_of (pat 0 (array_pat (f1 (bind 1)))) (name 2)))) ((1, true) ∷ (2, true) ∷ [])
     -- for (var [a] = b; ; ) ;
-    ∷ stays (script (f1 (node 12 1 0 (f2 (pat_to 0 (array_pat (f1 (bind 1))) (name 2)) (node 3 0 0 nil))))) ((1, true) ∷ (2, true) ∷ [])
+    ∷ stays (script (f1 (node (number_of For) 1 0 (f2 (pat_to 0 (array_pat (f1 (bind 1))) (name 2)) empty)))) ((1, true) ∷ (2, true) ∷ [])
     -- try { [a] = b; } finally { }
-    ∷ stays (script (f1 (node 16 2 0 (f2 (block (f1 (to (array_pat (f1 (bind 1))) (name 2)))) (block nil))))) ((1, true) ∷ (2, true) ∷ [])
+    ∷ stays (script (f1 (node (number_of Try) 2 0 (f2 (block (f1 (to (array_pat (f1 (bind 1))) (name 2)))) (block nil))))) ((1, true) ∷ (2, true) ∷ [])
     ∷ []
 
 -- `=` to a pattern: the left is walked too, its names are written without force, and prevented if the right is; nothing is stored
@@ -143,8 +158,8 @@ assigned =
 abbrev pub containing : List Row
 containing =
     -- let x = (a = this) => 1; [x];   let x = function (a = this) { }; [x];
-    stays (script (f2 (decl_to 1 7 (node 40 1 0 (f2 (or_default (bind 1) (node 26 0 0 nil)) (lit 5)))) (do' (array (name 7))))) ((7, true) ∷ [])
-    ∷ becomes (script (f2 (decl_to 1 7 (node 39 0 0 (f2 (or_default (bind 1) (node 26 0 0 nil)) (block nil)))) (do' (array (name 7))))) (script (f2 (decl 1 7) (do' (array (node 39 0 0 (f2 (or_default (bind 1) (node 26 0 0 nil)) (block nil))))))) ((7, false) ∷ [])
+    stays (script (f2 (decl_to 1 7 (arrow 1 (f2 (or_default (bind 1) this) (lit 5)))) (do' (array (name 7))))) ((7, true) ∷ [])
+    ∷ becomes (script (f2 (decl_to 1 7 (fun_expr (f2 (or_default (bind 1) this) (block nil)))) (do' (array (name 7))))) (script (f2 (decl 1 7) (do' (array (fun_expr (f2 (or_default (bind 1) this) (block nil))))))) ((7, false) ∷ [])
     ∷ []
 
 -- request 8: each bound name of a pattern on the left of `=` or in a head is a target, its defaults are not

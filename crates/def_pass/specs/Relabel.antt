@@ -1,12 +1,14 @@
 -- A tree and an outcome with other origins of literals and assignments.
-use Rattle.std.specs.Prelude.{Bool, ◌||◌, ℕ, eqb}
+use Rattle.std.specs.Prelude.{Bool, ◌||◌, ℕ}
 use Rattle.def_tree.specs.Base.{pick}
+use Rattle.def_file.specs.declared.kind.Kind.TheVariants.{Null, Assign}
+use Rattle.def_file.specs.Named.{is_kind}
 use Rattle.def_pass.specs.Tree.{Tree, Forest, node, nil, cons}
 use Rattle.def_pass.specs.Walk.{Outcome, refused, result}
 
--- the number of a literal, and of an assignment (33), is its origin (see Tree)
+-- the number of a literal, and of an assignment, is its origin (see Tree)
 abbrev pub has_origin : ℕ → Bool
-has_origin k = eqb k 22 || eqb k 33
+has_origin k = is_kind Null k || is_kind Assign k
 
 abbrev mutual
   pub relabel : (ℕ → ℕ) → Tree → Tree

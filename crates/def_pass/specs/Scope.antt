@@ -2,6 +2,8 @@
 use Rattle.std.specs.Prelude.{◌≡◌, Bool, true, false, ◌&&◌, ◌||◌, not, List, [], ◌∷◌, ◌++◌, map, ℕ, zero, suc, ◌+◌, ◌-◌, ◌%◌, eqb, ltb, length}
 use Rattle.std.proofs.Math.Option.{Option, none, some}
 use Rattle.def_tree.specs.Base.{pick, or_else}
+use Rattle.def_file.specs.declared.kind.Kind.TheVariants.{Update, Call, New, Paren}
+use Rattle.def_file.specs.Named.{is_kind}
 use Rattle.def_pass.specs.Tree.{Tree, kind, num, kids, is_ident, is_member, is_cheap, head_t, count_o}
 
 -- VarType
@@ -101,8 +103,8 @@ with_value v b = record { id = b.id; kind = b.kind; alias_of = b.alias_of; read_
 abbrev pub one_more : ℕ → ℕ
 one_more n = pick (ltb n 2) (n + 1) n
 
-abbrev pub read_once : VarInfo → VarInfo
-read_once b = record { id = b.id; kind = b.kind; alias_of = b.alias_of; read_cnt = one_more b.read_cnt; inline_prevented = b.hoisted || b.inline_prevented; is_undefined = b.is_undefined; value = b.value; this_sensitive = b.this_sensitive; hoisted = b.hoisted; count = b.count }
+abbrev pub count_read : VarInfo → VarInfo
+count_read b = record { id = b.id; kind = b.kind; alias_of = b.alias_of; read_cnt = one_more b.read_cnt; inline_prevented = b.hoisted || b.inline_prevented; is_undefined = b.is_undefined; value = b.value; this_sensitive = b.this_sensitive; hoisted = b.hoisted; count = b.count }
 
 abbrev pub redeclare : Bool → Bool → Option Tree → VarInfo → VarInfo
 redeclare p u v b = record { id = b.id; kind = b.kind; alias_of = b.alias_of; read_cnt = 0; inline_prevented = p; is_undefined = u; value = v; this_sensitive = b.this_sensitive; hoisted = b.hoisted; count = b.count }
@@ -235,10 +237,10 @@ abbrev pub mark_of_id : Option ℕ → Stack → Bool
 mark_of_id none st = false
 mark_of_id (some i) st = mark_of (find_binding i st)
 
--- Scope::is_inline_prevented of an expression: 31 update, 35 call, 36 new, 41 parenthesis
+-- Scope::is_inline_prevented of an expression
 abbrev pub is_inline_prevented : Tree → Stack → Bool
 is_inline_prevented t st =
-    eqb (kind t) 31 || eqb (kind t) 35 || eqb (kind t) 36 || eqb (kind t) 41
+    is_kind Update (kind t) || is_kind Call (kind t) || is_kind New (kind t) || is_kind Paren (kind t)
     || mark_of_id (pick (is_member t) (ident_of (head_t (kids t))) (ident_of (some t))) st
 
 abbrev pub member_o : Option Tree → Bool
@@ -280,7 +282,7 @@ unfoldable pub add_read : ℕ → Bool → Stack → Stack
 add_read i args st =
     let st₁ = pick (read_prevents_inlining i st) (prevent_inline i st) st in
     let st₂ = pick args (prevent_inline_of_params st₁) st₁ in
-    pick (is_some (find_binding i st₂)) (change i read_once st₂) (add_unresolved i st₂)
+    pick (is_some (find_binding i st₂)) (change i count_read st₂) (add_unresolved i st₂)
 
 -- scope_for: (the binding is in the scope found, that scope is the current one)
 abbrev pub scope_for : Bool → ℕ → Stack → Bool × Bool
@@ -344,10 +346,6 @@ abbrev pub kept : Init → Option Tree → Option Tree
 kept no_init old = none
 kept (recorded t) old = some t
 kept (seen t) old = old
-
-abbrev pub is_none : Option Tree → Bool
-is_none none = true
-is_none (some t) = false
 
 abbrev pub idx_val_o : Option ℕ → List VarInfo → Option (ℕ × VarInfo)
 idx_val_o none bs = none

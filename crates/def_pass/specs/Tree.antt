@@ -1,9 +1,11 @@
 -- The core tree: what the walks see. A node has its kind and form (document 01), one number, and its children.
--- The number is, of a binding or identifier (20, 21): the number of the identifier, and its form is 1 where its name is `arguments`, and 2 more where it is a binding that request 3 flags;
--- of a literal (all are kind 22, form 0): its origin; of a property, a member or a pattern property (29, 37, 47): the number of the input
--- node whose text it has.
-use Rattle.std.specs.Prelude.{Bool, true, false, ◌&&◌, ◌||◌, List, ◌∷◌, ℕ, ◌+◌, max, eqb, leb}
+-- The number is, of a binding or identifier: the number of the identifier, and its form is 1 where its name is `arguments`, and 2 more where it is a binding that request 3 flags;
+-- of a literal (all are `Null`, form 0): its origin; of a property, a member or a pattern property: the number of the input node whose text
+-- it has.
+use Rattle.std.specs.Prelude.{Bool, true, false, ◌&&◌, ◌||◌, List, ◌∷◌, ℕ, ◌+◌, max, eqb}
 use Rattle.std.proofs.Math.Option.{Option, none, some}
+use Rattle.def_file.specs.declared.kind.Kind.TheVariants.{FnDecl, BindingIdent, Ident, Null, This, Unary, Member, Computed, FnExpr, ObjectPat, ArrayPat, AssignPat}
+use Rattle.def_file.specs.Named.{number_of, is_kind, is_between}
 pub use Rattle.def_tree.specs.Tree.{Tree, Forest, node, nil, cons, kind, form, num, kids, count, counts, tail_f}
 
 -- a leaf's height is 1
@@ -32,13 +34,13 @@ abbrev mutual
 
 -- kinds that the pass asks for
 abbrev pub is_ident : Tree → Bool
-is_ident t = eqb (kind t) 21
+is_ident t = is_kind Ident (kind t)
 
 abbrev pub is_lit : Tree → Bool
-is_lit t = eqb (kind t) 22
+is_lit t = is_kind Null (kind t)
 
 abbrev pub is_member : Tree → Bool
-is_member t = eqb (kind t) 37 || eqb (kind t) 38
+is_member t = is_kind Member (kind t) || is_kind Computed (kind t)
 
 -- a literal or an identifier
 abbrev pub is_cheap : Tree → Bool
@@ -50,38 +52,37 @@ head_t (cons t ts) = some t
 
 -- Expr::undefined: `void 0`, whose zero has origin 0
 abbrev pub void_zero : Tree
-void_zero = node 30 0 0 (cons (node 22 0 0 nil) nil)
+void_zero = node (number_of Unary) 0 0 (cons (node (number_of Null) 0 0 nil) nil)
 
 -- contains_this_expr: looks into arrows and the defaults of their parameters, not into functions
 abbrev mutual
   pub has_this : Tree → Bool
-  has_this (node k f a ts) = elim (eqb k 26) [ true ↦ true | false ↦ elim (eqb k 39 || eqb k 7) [ true ↦ false | false ↦ has_this_f ts ] ]
+  has_this (node k f a ts) = elim (is_kind This k) [ true ↦ true | false ↦ elim (is_kind FnExpr k || is_kind FnDecl k) [ true ↦ false | false ↦ has_this_f ts ] ]
 
   pub has_this_f : Forest → Bool
   has_this_f nil = false
   has_this_f (cons t ts) = has_this t || has_this_f ts
 
--- 45 object pattern, 46 array pattern
 abbrev pub is_pattern : Tree → Bool
-is_pattern t = eqb (kind t) 45 || eqb (kind t) 46
+is_pattern t = is_kind ObjectPat (kind t) || is_kind ArrayPat (kind t)
 
--- what patterns are made of: also 47 pattern property, 48 default
+-- what patterns are made of: also properties and defaults
 abbrev pub in_pattern : ℕ → Bool
-in_pattern k = leb 45 k && leb k 48
+in_pattern k = is_between ObjectPat AssignPat k
 
 -- BoundNames (find_pat_ids): the bindings that patterns alone lead to, in order; a default's expression binds none
 abbrev mutual
   pub bound_names : Tree → List ℕ → List ℕ
-  bound_names (node k f a ts) rest = elim (eqb k 20) [ true ↦ a ∷ rest | false ↦ elim (in_pattern k) [ true ↦ bound_names_f ts rest | false ↦ rest ] ]
+  bound_names (node k f a ts) rest = elim (is_kind BindingIdent k) [ true ↦ a ∷ rest | false ↦ elim (in_pattern k) [ true ↦ bound_names_f ts rest | false ↦ rest ] ]
 
   pub bound_names_f : Forest → List ℕ → List ℕ
   bound_names_f nil rest = rest
   bound_names_f (cons t ts) rest = bound_names t (bound_names_f ts rest)
 
--- the nodes of kind 20 and 21, in order
+-- the bindings and identifiers, in order
 abbrev mutual
   pub ident_list : Tree → List Tree → List Tree
-  ident_list (node k f a ts) rest = elim (eqb k 20 || eqb k 21) [ true ↦ node k f a nil ∷ rest | false ↦ ident_list_f ts rest ]
+  ident_list (node k f a ts) rest = elim (is_kind BindingIdent k || is_kind Ident k) [ true ↦ node k f a nil ∷ rest | false ↦ ident_list_f ts rest ]
 
   pub ident_list_f : Forest → List Tree → List Tree
   ident_list_f nil rest = rest

@@ -5,6 +5,8 @@
 use Rattle.std.specs.Prelude.{Bool, true, false, ◌&&◌, ◌||◌, not, List, [], ◌∷◌, ◌++◌, ℕ, ◌+◌, ◌-◌, eqb, ltb, length}
 use Rattle.std.proofs.Math.Option.{Option, none, some}
 use Rattle.def_tree.specs.Base.{pick}
+use Rattle.def_file.specs.declared.kind.Kind.TheVariants.{VarDecl, FnDecl, BindingIdent, FnExpr, Arrow}
+use Rattle.def_file.specs.Named.{is_kind}
 use Rattle.def_pass.specs.Tree.{Tree, Forest, node, nil, cons, kids, head_t, is_lit, is_pattern, bound_names}
 
 -- the form of a binding: is it flagged; is its name `arguments`; and the form without the flag
@@ -17,12 +19,12 @@ unflagged f = pick (is_twice f) (f - 2) f
 abbrev pub is_args : ℕ → Bool
 is_args f = eqb (unflagged f) 1
 
--- 7 function, 39 function expression, 40 arrow; of these, those whose first child is their name
+-- functions; of these, those whose first child is their name
 abbrev pub is_function : ℕ → Bool
-is_function k = eqb k 7 || eqb k 39 || eqb k 40
+is_function k = is_kind FnDecl k || is_kind FnExpr k || is_kind Arrow k
 
 abbrev pub is_named : ℕ → ℕ → Bool
-is_named k f = eqb k 7 || (eqb k 39 && eqb f 1)
+is_named k f = is_kind FnDecl k || (is_kind FnExpr k && eqb f 1)
 
 -- b for each of the names that is i
 abbrev pub among : ℕ → Bool → List ℕ → List Bool
@@ -46,7 +48,7 @@ declarators i (cons t ts) = declarator i (kids t) ++ declarators i ts
 
 abbrev mutual
   pub vars : ℕ → Tree → List Bool
-  vars i (node k f a ts) = elim (is_function k) [ true ↦ [] | false ↦ pick (eqb k 5 && eqb f 0) (declarators i ts) [] ++ vars_f i ts ]
+  vars i (node k f a ts) = elim (is_function k) [ true ↦ [] | false ↦ pick (is_kind VarDecl k && eqb f 0) (declarators i ts) [] ++ vars_f i ts ]
 
   pub vars_f : ℕ → Forest → List Bool
   vars_f i nil = []
@@ -67,7 +69,7 @@ twice ts i = let ds = params i ts ++ vars_f i ts in ltb 1 (length ds) && any_of 
 -- the bindings flagged, by the test of the function or script in which they stand; a function's name stands outside it
 abbrev mutual
   pub flag : (ℕ → Bool) → Tree → Tree
-  flag b (node k f a ts) = node k (pick (eqb k 20 && b a) (f + 2) f) a (elim (is_function k) [ true ↦ elim (is_named k f) [ true ↦ flag_named b ts | false ↦ flags (twice ts) ts ] | false ↦ flags b ts ])
+  flag b (node k f a ts) = node k (pick (is_kind BindingIdent k && b a) (f + 2) f) a (elim (is_function k) [ true ↦ elim (is_named k f) [ true ↦ flag_named b ts | false ↦ flags (twice ts) ts ] | false ↦ flags b ts ])
 
   pub flags : (ℕ → Bool) → Forest → Forest
   flags b nil = nil

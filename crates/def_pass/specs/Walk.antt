@@ -1,9 +1,12 @@
 -- mod.rs: the walks over the core tree, with refusals 8 and 9.
 -- Open recursion: a handler is no recursive function. It takes the walks of one depth less, `w`, and `walks` ties the knot by falling depth.
-use Rattle.std.specs.Prelude.{Bool, true, false, ◌&&◌, ◌||◌, not, List, [], ◌∷◌, map, ℕ, zero, suc, ◌+◌, ◌-◌, eqb, ltb, leb, length, get_or}
+use Rattle.std.specs.Prelude.{Bool, true, false, ◌&&◌, ◌||◌, not, List, [], ◌∷◌, map, ℕ, zero, suc, ◌+◌, ◌-◌, eqb, ltb, leb, length}
 use Rattle.std.proofs.Math.Option.{Option, none, some}
 use Rattle.def_tree.specs.Combine.{Res, stop, done, M as MS, Nothing, ◌>>=◌, ◌>>◌, ret, refuse, iff, within, each, split, each_but, on_kids}
 use Rattle.def_tree.specs.Base.{pick}
+use Rattle.def_file.specs.declared.kind.Kind.{Kind}
+use Rattle.def_file.specs.declared.kind.Kind.TheVariants.{Script, Block, VarDecl, VarDeclarator, FnDecl, If, While, DoWhile, For, ForIn, ForOf, Try, CatchClause, SwitchCase, BindingIdent, Ident, Unary, Update, Bin, Assign, Call, New, FnExpr, Arrow}
+use Rattle.def_file.specs.Named.{kind_of, number_of, is_kind}
 use Rattle.def_pass.specs.Tree.{Tree, Forest, node, nil, cons, kind, form, num, kids, is_ident, is_cheap, head_t, tail_f, count, height, void_zero, has_this, is_member, is_pattern, bound_names, ident_list, ident_list_f}
 use Rattle.def_pass.specs.Targets.{targets}
 use Rattle.def_pass.specs.Twice.{is_twice, is_args, unflagged, flagged}
@@ -121,7 +124,7 @@ unfoldable pub in_cond : {A : Type 0} → M A → M A
 unfolding deeper in_scope
 in_cond m = within deeper shallower (in_scope cond m)
 
--- the identifier of a node of kind 20 or 21 is written, forced or not
+-- the identifier of a binding's or identifier's node is written, forced or not
 unfoldable pub write : Bool → Tree → M Nothing
 unfolding add_write
 write force t = grow (add_write (num t) (is_args (form t)) force)
@@ -167,7 +170,7 @@ visit_mut_stmts w p ts = do
 abbrev pub plain : Walks → ℕ → Tree → M Tree
 plain w p t = on_kids (each (w.full (suc p))) t
 
--- 2 block: visit_mut_block_stmt. 1 script, and a function's body
+-- visit_mut_block_stmt; and the same of the script, or of a function's body, without the scope
 unfoldable pub visit_mut_block_stmt : Walks → ℕ → Tree → M Tree
 unfolding in_scope visit_mut_stmts
 visit_mut_block_stmt w p t = in_scope block (on_kids (visit_mut_stmts w (suc p)) t)
@@ -184,7 +187,7 @@ visit_with_child w p k t = in_scope k (w.bare p t)
 abbrev pub decl_kind_of : ℕ → VarType
 decl_kind_of f = pick (eqb f 0) v_var (pick (eqb f 1) v_let v_const)
 
--- 5 declaration: visit_mut_var_decl
+-- visit_mut_var_decl
 unfoldable pub visit_mut_var_decl : Walks → ℕ → Tree → M Tree
 visit_mut_var_decl w p t = modify (set_var_decl_kind (decl_kind_of (form t))) >> plain w p t
 
@@ -204,15 +207,28 @@ declare_m name v isChange k = do
 abbrev pub insert_const : ℕ → Option Tree → M Nothing
 insert_const i v = λ s. grow (add_const s.targeted i v) s
 
--- 6 declarator: name, and the initialiser if there is one. visit_mut_var_declarator
+-- visit_mut_var_declarator: the initialiser is walked, then it depends on the phase what is done for a name that is a binding, and unless that
+-- returns, the name is walked last. Branch by branch:
 
--- in Analysis, after the initialiser's walk: true if the name's walk is left out
+-- both phases: is the name a binding (Pat::Ident)
+abbrev pub is_bind : Tree → Bool
+is_bind t = is_kind BindingIdent (kind t)
+
+abbrev pub head_bind : Forest → Option Tree
+head_bind nil = none
+head_bind (cons t ts) = pick (is_bind t) (some t) none
+
+-- Analysis, by the initialiser: does it return
 unfoldable pub declr_analysis : Tree → Option Tree → M Bool
 unfolding declare_m
+-- none: declared, unless it is `const`
 declr_analysis name none = do
   s ← get
   when (not (is_const s.var_decl_kind)) (declare_m name no_init true s.var_decl_kind)
   ret false
+-- `const`: in the first run a constant, whose value is a literal or an identifier or nothing.
+-- A literal or an identifier: declared, and prevented as the initialiser is.
+-- Any other: declared; one that contains `this` is prevented, and returns
 declr_analysis name (some e) = do
   s ← get
   iff (is_const s.var_decl_kind) (do
@@ -225,27 +241,31 @@ declr_analysis name (some e) = do
         declare_m name (seen_init e) false s.var_decl_kind
         iff (has_this e) (mark (prevent_inline (num name)) >> ret true) (ret false)))
 
--- read_cnt is 1
-abbrev pub read_once? : Option VarInfo → Bool
-read_once? none = false
-read_once? (some b) = eqb b.read_cnt 1
+unfoldable pub over_m : Tree → Forest → M Bool
+unfolding declr_analysis
+over_m name ts = declr_analysis name (head_t (tail_f ts))
 
+-- Inlining, first: does it return with the initialiser as it is, since the name is prevented or has not the same `this`
 abbrev pub as_ident : Tree → Tree
-as_ident (node k f a ts) = node 21 (unflagged f) a ts
+as_ident (node k f a ts) = node (number_of Ident) (unflagged f) a ts
 
--- is the name a binding
-abbrev pub is_bind : Tree → Bool
-is_bind t = eqb (kind t) 20
-
--- in Inlining, of `let` and `var`: is the initialiser left as it is
 unfoldable pub stays : Tree → Forest → Stack → Bool
 stays name nil st = is_inline_prevented (as_ident name) st
 stays name (cons e es) st = is_inline_prevented (as_ident name) st || not (has_same_this (find_binding (num name) st) (some e))
 
--- and after its second walk: is it taken out
+-- Inlining, last, once the initialiser is walked again: is it taken out, or put back
+abbrev pub read_once? : Option VarInfo → Bool
+read_once? none = false
+read_once? (some b) = eqb b.read_cnt 1
+
 unfoldable pub takes : VarType → Tree → Forest → M Bool
 unfolding declare_m
+-- none: declared
 takes k name nil = declare_m name no_init false k >> ret false
+-- An identifier: declared here already.
+-- Prevented: put back, and the name is prevented too.
+-- A literal or an identifier, or any other if the name is not prevented and is read once: declared, and taken out.
+-- Any other: put back
 takes k name (cons e es) = do
   when (is_ident e) (declare_m name (recorded e) false k)
   s ← get
@@ -255,6 +275,7 @@ takes k name (cons e es) = do
         leave e
         ret true) (ret false))
 
+-- Inlining of `let` and `var`: it always returns
 unfoldable pub declr_inlining : Walks → ℕ → VarType → Tree → Forest → M Forest
 unfolding stays takes
 declr_inlining w p k name ts = λ s. iff (stays name ts s.stack) (ret ts) (do
@@ -262,25 +283,20 @@ declr_inlining w p k name ts = λ s. iff (stays name ts s.stack) (ret ts) (do
   gone ← takes k name us
   iff gone (ret (tail_f us)) (ret us)) s
 
--- the name's own walk, last
+-- the name's walk
 abbrev pub name_last : Walks → ℕ → Forest → M Forest
 name_last w p ts = split (w.full (suc p)) ret ts
 
-abbrev pub head_bind : Forest → Option Tree
-head_bind nil = none
-head_bind (cons t ts) = pick (is_bind t) (some t) none
-
-unfoldable pub over_m : Tree → Forest → M Bool
-unfolding declr_analysis
-over_m name ts = declr_analysis name (head_t (tail_f ts))
-
 unfoldable pub declr_to : Walks → ℕ → Option Tree → Bool → VarType → Forest → M Forest
 unfolding over_m declr_inlining
+-- no binding, in either phase
 declr_to w p none inl k ts = name_last w p ts
+-- Inlining, where nothing is done for `const`; Analysis
 declr_to w p (some name) inl k ts = iff inl (iff (is_const k) (name_last w p ts) (split ret (declr_inlining w p k name) ts)) (do
   over ← over_m name ts
   iff over (ret ts) (name_last w p ts))
 
+-- the whole
 unfoldable pub visit_mut_var_declarator : Walks → ℕ → Tree → M Tree
 unfolding declr_to
 visit_mut_var_declarator w p t = on_kids (λ ts. do
@@ -305,22 +321,22 @@ unfolding write
 write_name none = ret tt
 write_name (some name) = when (is_bind name) (write true name)
 
--- 7 function: visit_mut_fn_decl
+-- visit_mut_fn_decl
 unfoldable pub visit_mut_fn_decl : Walks → ℕ → Tree → M Tree
 unfolding visit_mut_function declare_name
 visit_mut_fn_decl w p t = declare_name (head_t (kids t)) >> on_kids (split ret (visit_mut_function w p true)) t
 
--- 39 function expression: visit_mut_fn_expr
+-- visit_mut_fn_expr: form 1 has a name
 unfoldable pub visit_mut_fn_expr : Walks → ℕ → Tree → M Tree
 unfolding visit_mut_function write_name
 visit_mut_fn_expr w p t = iff (eqb (form t) 1) (write_name (head_t (kids t)) >> on_kids (split ret (visit_mut_function w p false)) t) (on_kids (visit_mut_function w p false) t)
 
--- 40 arrow: visit_mut_arrow_expr
+-- visit_mut_arrow_expr
 unfoldable pub visit_mut_arrow_expr : Walks → ℕ → Tree → M Tree
 unfolding in_scope
 visit_mut_arrow_expr w p t = in_scope (fn false) (plain w p t)
 
--- 9 if: visit_mut_if_stmt
+-- visit_mut_if_stmt
 unfoldable pub tested : Walks → ℕ → Tree → M Tree
 tested w p t = do
   s ← get
@@ -333,7 +349,7 @@ unfoldable pub visit_mut_if_stmt : Walks → ℕ → Tree → M Tree
 unfolding visit_with_child tested
 visit_mut_if_stmt w p t = on_kids (split (tested w (suc p)) (each (visit_with_child w (suc p) cond))) t
 
--- 10 while, 11 do: visit_mut_while_stmt, visit_mut_do_while_stmt
+-- visit_mut_while_stmt, visit_mut_do_while_stmt
 unfoldable pub visit_mut_while_stmt : Walks → ℕ → Tree → M Tree
 unfolding write_forest visit_with_child
 visit_mut_while_stmt w p t = do
@@ -344,7 +360,7 @@ visit_mut_while_stmt w p t = do
 unfoldable pub store_inline_barrier_m : M Nothing
 store_inline_barrier_m = λ s. iff s.inlining (ret tt) (mark store_inline_barrier) s
 
--- 12 for: visit_mut_for_stmt
+-- visit_mut_for_stmt
 unfoldable pub visit_mut_for_stmt : Walks → ℕ → Tree → M Tree
 unfolding write_forest visit_with_child store_inline_barrier_m
 visit_mut_for_stmt w p t = do
@@ -353,7 +369,7 @@ visit_mut_for_stmt w p t = do
   when (eqb (form t) 0) store_inline_barrier_m
   ret t'
 
--- 13 for-in, 14 for-of: visit_mut_for_in_stmt, visit_mut_for_of_stmt
+-- visit_mut_for_in_stmt, visit_mut_for_of_stmt
 unfoldable pub visit_mut_for_in_stmt : Walks → ℕ → Tree → M Tree
 unfolding write_tree write_forest visit_with_child
 visit_mut_for_in_stmt w p t = do
@@ -365,15 +381,15 @@ visit_mut_for_in_stmt w p t = do
       write_forest true (but_last ts)
       each_but (w.full (suc p)) (visit_with_child w (suc p) loop) ts)) t
 
--- 16 try: visit_mut_try_stmt, the block's identifiers, then the handler alone
+-- visit_mut_try_stmt: the block's identifiers, then the handler alone
 abbrev pub is_catch : Tree → Bool
-is_catch t = eqb (kind t) 17
+is_catch t = is_kind CatchClause (kind t)
 
 unfoldable pub visit_mut_try_stmt : Walks → ℕ → Tree → M Tree
 unfolding write_tree
 visit_mut_try_stmt w p t = on_kids (split (λ b. write_tree true b >> ret b) (each (λ h. iff (is_catch h) (w.full (suc p) h) (ret h)))) t
 
--- 17 catch: visit_mut_catch_clause
+-- visit_mut_catch_clause
 unfoldable pub catch_param : Walks → ℕ → Tree → M Tree
 catch_param w p b = do
   b' ← w.full p b
@@ -385,12 +401,12 @@ unfoldable pub visit_mut_catch_clause : Walks → ℕ → Tree → M Tree
 unfolding in_scope catch_param
 visit_mut_catch_clause w p t = in_scope block (modify (set_pat_mode as_catch) >> on_kids (each_but (catch_param w (suc p)) (w.full (suc p))) t)
 
--- 19 case: visit_mut_switch_case; form 1 has a test
+-- visit_mut_switch_case: form 1 has a test
 unfoldable pub visit_mut_switch_case : Walks → ℕ → Tree → M Tree
 unfolding in_scope visit_mut_stmts
 visit_mut_switch_case w p t = in_scope block (iff (eqb (form t) 1) (on_kids (split (w.full (suc p)) (visit_mut_stmts w (suc p))) t) (on_kids (visit_mut_stmts w (suc p)) t))
 
--- 20 binding: visit_mut_pat, which of a pattern (45 to 48) is its children's walk alone, `plain`. The mode is the state's: what a default
+-- visit_mut_pat of a binding; of any other pattern it is its children's walk alone, `plain`. The mode is the state's: what a default
 -- assigns leaves `assigning` to the names behind it
 unfoldable pub pat_by : PatMode → Tree → M Nothing
 unfolding write declare_m
@@ -406,17 +422,17 @@ visit_mut_pat w p t = do
   when (is_bind t) (pat_by s.pat_mode t)
   ret t
 
--- 30 unary: visit_mut_unary_expr; form 6 is `delete`
+-- visit_mut_unary_expr: form 6 is `delete`
 unfoldable pub visit_mut_unary_expr : Walks → ℕ → Tree → M Tree
 unfolding write_forest
 visit_mut_unary_expr w p t = iff (eqb (form t) 6) (write_forest true (kids t) >> ret t) (plain w p t)
 
--- 31 update: visit_mut_update_expr
+-- visit_mut_update_expr
 unfoldable pub visit_mut_update_expr : Walks → ℕ → Tree → M Tree
 unfolding write_forest
 visit_mut_update_expr w p t = write_forest true (kids t) >> ret t
 
--- 35 call, 36 new: visit_mut_call_expr, visit_mut_new_expr; `call`: are the arguments written first
+-- visit_mut_call_expr, visit_mut_new_expr; `call`: are the arguments written first
 unfoldable pub visit_mut_call_expr : Bool → Walks → ℕ → Tree → M Tree
 unfolding write_forest store_inline_barrier_m
 visit_mut_call_expr call w p t = do
@@ -428,7 +444,7 @@ visit_mut_call_expr call w p t = do
   store_inline_barrier_m
   ret t'
 
--- 33 assign: target and value. visit_mut_assign_expr
+-- visit_mut_assign_expr: target and value
 abbrev pub store_value : Tree → Tree → M Nothing
 store_value l r = λ s. elim (find_binding (num l) s.stack) [ none ↦ done s tt | some b ↦ iff (var_inline_prevented b) (ret tt) (grow (change (num l) (with_value (pick (is_cheap r) (some r) none)))) s ]
 
@@ -450,7 +466,7 @@ unfolding write
 assign_last nil = ret tt
 assign_last (cons l rs) = do
   s ← get
-  iff (prevented_o (head_t rs) s.stack) (mark (prevent_each (bound_names l []))) (when (eqb (kind l) 20) (do
+  iff (prevented_o (head_t rs) s.stack) (mark (prevent_each (bound_names l []))) (when (is_bind l) (do
     write false l
     store_o l (head_t rs)))
 
@@ -474,18 +490,34 @@ unfoldable pub visit_mut_assign_expr : Walks → ℕ → Tree → M Tree
 unfolding assign_kids
 visit_mut_assign_expr w p t = modify (set_pat_mode assigning) >> on_kids (assign_kids w p (form t) (to_pattern t)) t
 
--- which handler a kind has
+-- the handlers, and which one a kind has: mod.rs has none for the others, whose children are walked
 pub data Handler : Type 0 where
   h_plain h_script h_block h_decl h_declr h_fun h_if h_while h_for h_for_in h_try h_catch h_case h_pat h_unary h_update h_assign h_call h_new h_fun_expr h_arrow : Handler
 
--- by kind, 0 to 48
-abbrev pub handlers : List Handler
-handlers =
-    h_plain ∷ h_script ∷ h_block ∷ h_plain ∷ h_plain ∷ h_decl ∷ h_declr ∷ h_fun ∷ h_plain ∷ h_if
-    ∷ h_while ∷ h_while ∷ h_for ∷ h_for_in ∷ h_for_in ∷ h_plain ∷ h_try ∷ h_catch ∷ h_plain ∷ h_case
-    ∷ h_pat ∷ h_plain ∷ h_plain ∷ h_plain ∷ h_plain ∷ h_plain ∷ h_plain ∷ h_plain ∷ h_plain ∷ h_plain
-    ∷ h_unary ∷ h_update ∷ h_plain ∷ h_assign ∷ h_plain ∷ h_call ∷ h_new ∷ h_plain ∷ h_plain ∷ h_fun_expr
-    ∷ h_arrow ∷ h_plain ∷ h_plain ∷ h_plain ∷ h_plain ∷ h_plain ∷ h_plain ∷ h_plain ∷ h_plain ∷ []
+abbrev pub handler_of : Kind → Handler
+handler_of Script = h_script
+handler_of Block = h_block
+handler_of VarDecl = h_decl
+handler_of VarDeclarator = h_declr
+handler_of FnDecl = h_fun
+handler_of If = h_if
+handler_of While = h_while
+handler_of DoWhile = h_while
+handler_of For = h_for
+handler_of ForIn = h_for_in
+handler_of ForOf = h_for_in
+handler_of Try = h_try
+handler_of CatchClause = h_catch
+handler_of SwitchCase = h_case
+handler_of BindingIdent = h_pat
+handler_of Unary = h_unary
+handler_of Update = h_update
+handler_of Assign = h_assign
+handler_of Call = h_call
+handler_of New = h_new
+handler_of FnExpr = h_fun_expr
+handler_of Arrow = h_arrow
+handler_of k = h_plain
 
 unfoldable pub handle : Handler → Walks → ℕ → Tree → M Tree
 unfolding visit_mut_block_stmt script_walk visit_mut_var_decl visit_mut_var_declarator visit_mut_fn_decl visit_mut_fn_expr visit_mut_arrow_expr visit_mut_if_stmt visit_mut_while_stmt visit_mut_for_stmt visit_mut_for_in_stmt visit_mut_try_stmt visit_mut_catch_clause visit_mut_switch_case visit_mut_pat visit_mut_unary_expr visit_mut_update_expr visit_mut_call_expr visit_mut_assign_expr
@@ -513,14 +545,14 @@ handle h_arrow w p t = visit_mut_arrow_expr w p t
 
 unfoldable pub own : Walks → ℕ → Tree → M Tree
 unfolding handle
-own w p t = handle (get_or handlers (kind t) h_plain) w p t
+own w p t = handle (handler_of (kind_of (kind t))) w p t
 
 -- the steps of visit_mut_expr after the node's own handler
 
 -- a right side of && or ||, again in a Cond scope
 unfoldable pub logical : Walks → ℕ → Tree → M Tree
 unfolding in_cond
-logical w p t = iff (eqb (kind t) 32 && ltb (form t) 2) (on_kids (split ret (each (λ r. in_cond (w.bare (suc p) r)))) t) (ret t)
+logical w p t = iff (is_kind Bin (kind t) && ltb (form t) 2) (on_kids (split ret (each (λ r. in_cond (w.bare (suc p) r)))) t) (ret t)
 
 -- `=` in Inlining: the first value of what was undefined
 abbrev pub first_value : ℕ → Tree → Tree → Tree → M Tree
@@ -587,7 +619,7 @@ unfoldable pub after : Walks → ℕ → Tree → M Tree
 unfolding logical after_assign after_ident
 after w p t = elim (is_ident t) [
   | true ↦ after_ident w p t
-  | false ↦ elim (eqb (kind t) 33 && eqb (form t) 0) [
+  | false ↦ elim (is_kind Assign (kind t) && eqb (form t) 0) [
     | true ↦ (λ s. iff s.inlining (after_assign p t) (ret t) s)
     | false ↦ logical w p t
   ]

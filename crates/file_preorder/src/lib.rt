@@ -4,6 +4,8 @@
 
 ghost use Rattle.std.specs.Prelude.{◌≡◌, ◌&&◌, ◌≤◌, get_or, [], ◌∷◌};
 ghost use Rattle.def_kinds.specs.Pairs.{pairs};
+ghost use Rattle.def_file.specs.declared.kind.Kind.TheVariants.{VarDeclarator};
+ghost use Rattle.def_file.specs.Named.{number_of};
 ghost use Rattle.def_file.specs.Kinds.{allows, row_of, form_ok, count_ok};
 ghost use Rattle.def_file.specs.Script.{zero_node};
 ghost use Rattle.def_file.specs.Read.{fields_ok, fills};
@@ -109,7 +111,7 @@ impl Nodes<'_> {
         left: usize,
         parent: Option<u8>,
     ) -> Result<Child, Refusal>
-        requires { Fitting self.file.now self.count self.texts self.table.now at (place c left) parent × ((get_or (nodes_of self.file.now self.count) at zero_node).kind ≡ 6) }
+        requires { Fitting self.file.now self.count self.texts self.table.now at (place c left) parent × ((get_or (nodes_of self.file.now self.count) at zero_node).kind ≡ number_of VarDeclarator) }
         ensures { Filled self.entry.texts self.entry.table.now (nodes_of self.entry.file.now self.entry.count) (place c left) parent at result }
     {
         let x = node_at(self.file, at);

@@ -1,8 +1,10 @@
 -- A node of the words' tree turned back into a node of the file. Assumes nothing: these are definitions.
-use Rattle.std.specs.Prelude.{◌≡◌, ◌&&◌, ◌||◌, List, ℕ, ◌+◌, ◌*◌, ◌≤◌, eqb, ltb, leb, length, get_or}
+use Rattle.std.specs.Prelude.{◌≡◌, ◌&&◌, ◌||◌, List, ℕ, ◌+◌, ◌*◌, ◌≤◌, ltb, leb, length, get_or}
 use Rattle.def_tree.specs.Base.{pick}
 use Rattle.def_tree.specs.Tree.{Core}
 use Rattle.def_file.specs.declared.Raw.{Raw}
+use Rattle.def_file.specs.declared.kind.Kind.TheVariants.{BindingIdent, Ident, Null, Str}
+use Rattle.def_file.specs.Named.{is_kind, is_between}
 use Rattle.def_file.specs.Script.{zero_node}
 use Rattle.def_file.specs.Read.{u32}
 use Rattle.def_file.specs.Core.{has_text}
@@ -32,8 +34,8 @@ plain c t = record { kind = c.kind; form = c.form; arity = c.arity; text = t; bi
 unfoldable pub back_in : List ℕ → List ℕ → Core → Raw
 unfolding node_in ident_in text_in
 back_in bs w c =
-    pick (leb 22 c.kind && leb c.kind 25) (node_in bs c.num)
-    (pick (eqb c.kind 20 || eqb c.kind 21) (named c.kind c.arity (ident_in bs w c.num)) (plain c (text_in bs c.kind c.num)))
+    pick (is_between Null Str c.kind) (node_in bs c.num)
+    (pick (is_kind BindingIdent c.kind || is_kind Ident c.kind) (named c.kind c.arity (ident_in bs w c.num)) (plain c (text_in bs c.kind c.num)))
 
 -- a file of n nodes, and words enough
 pub record Source (bs w : List ℕ) (n : ℕ) : Type 0 where

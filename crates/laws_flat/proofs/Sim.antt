@@ -7,8 +7,9 @@ use mathlib.Core.List.{[]}
 use Prim.Native.Nat.{ℕ, zero, suc}
 use native.Mathlib.Nat.{zero-add}
 use lib.Dec.{eqb, ltb}
-use lib.ListN.{length, get_or}
+use lib.ListN.{length}
 use Rattle.def_tree.specs.Base.{pick}
+use Rattle.def_file.specs.Named.{kind_of}
 use Rattle.def_pass.specs.Tree.{Tree, kind, form, num, kids, head_t, tail_f, void_zero, count, bound_names}
 use Rattle.def_pass.specs.Twice.{flagged}
 use Rattle.def_pass.specs.Scope.{VarType, is_const, ScopeKind, cond, loop, block, fn, VarInfo, prevent_each, is_inline_prevented, var_inline_prevented, find_binding, find_binding_from_current, find_constant, add_read, mark_this_sensitive, ident_of, change, with_value, defined}
@@ -18,7 +19,7 @@ use Rattle.def_tree.specs.Combine.{Res, stop, done, ◌>>=◌, ◌>>◌, ret, if
 use Rattle.def_tree.proofs.Place.{past, length-past}
 use Rattle.def_tree.proofs.Sims.{Sim, SimF, SimR, sim-skip, sim-skips, sim_put, sim-refuse, sim_then, sim-if, sim-ask, sim-node, sim-act, sim-act_n, sim-tap, sim-within, sim-each, sim-split, sim-each_but, sim-on_kids, sim-re_kids, sim_f-then, sim_f-if, sim_f-ask, sim_f-act, sim_f-tap, sim_f-within, sim_r-same, sim_r-then, sim_r-act, sim_r-ask, sim_r-if, sim_r-split, sim_r-cut_first}
 use Rattle.def_pass.specs.Walk
-use Rattle.def_pass.specs.Walk.{St, M, Walks, Handler, h_plain, h_script, h_block, h_decl, h_declr, h_fun, h_if, h_while, h_for, h_for_in, h_try, h_catch, h_case, h_pat, h_unary, h_update, h_assign, h_call, h_new, h_fun_expr, h_arrow, handlers, when, modify, mark, grow, replace, restore, opening, deeper, shallower, set_inlining, set_var_decl_kind, set_pat_mode, set_in_test, set_changed, declaring, assigning, as_param, as_catch, decl_kind_of, declare_name, write_name, write_tree, write_forest, but_last, store_inline_barrier_m, is_bind, pat_by, over_m, stays, takes, head_bind, assign_first, assign_last, to_pattern, same_ident}
+use Rattle.def_pass.specs.Walk.{St, M, Walks, Handler, h_plain, h_script, h_block, h_decl, h_declr, h_fun, h_if, h_while, h_for, h_for_in, h_try, h_catch, h_case, h_pat, h_unary, h_update, h_assign, h_call, h_new, h_fun_expr, h_arrow, handler_of, when, modify, mark, grow, replace, restore, opening, deeper, shallower, set_inlining, set_var_decl_kind, set_pat_mode, set_in_test, set_changed, declaring, assigning, as_param, as_catch, decl_kind_of, declare_name, write_name, write_tree, write_forest, but_last, store_inline_barrier_m, is_bind, pat_by, over_m, stays, takes, head_bind, assign_first, assign_last, to_pattern, same_ident}
 use Rattle.laws_flat.specs.WalkF
 
 pub record Sims (w : Walks) (v : WalkF.WalksF) : Type 0 where
@@ -226,7 +227,7 @@ module _ {w : Walks} {v : WalkF.WalksF} (h : Sims w v) where
 
   pub sim-own : (p : ℕ) → Sim (Walk.own w p) (WalkF.own_f v p)
   unfolding Walk.own WalkF.own_f
-  sim-own p = sim-node (λ s c. get_or handlers c.kind h_plain) (λ k. sim-handle k p)
+  sim-own p = sim-node (λ s c. handler_of (kind_of c.kind)) (λ k. sim-handle k p)
 
   -- the steps after a node's own handler
 

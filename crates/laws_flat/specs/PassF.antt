@@ -4,6 +4,8 @@ use Rattle.std.specs.Prelude.{Bool, true, false, ◌&&◌, ◌||◌, List, [], �
 use Rattle.std.proofs.Math.Option.{Option, none, some}
 use Rattle.def_tree.specs.Base.{member}
 use Rattle.def_tree.specs.Tree.{Tree, Core, flat, plant}
+use Rattle.def_file.specs.declared.kind.Kind.TheVariants.{VarDecl, VarDeclarator, BindingIdent, Ident}
+use Rattle.def_file.specs.Named.{is_kind}
 use Rattle.def_pass.specs.Tree.{head_t, in_pattern}
 use Rattle.def_pass.specs.Twice.{flagged}
 use Rattle.def_pass.specs.Targets.{aims}
@@ -25,12 +27,12 @@ abbrev pub bounds_l : ℕ → ℕ → List Core → List ℕ
 bounds_l n q [] = []
 bounds_l n (suc q) (c ∷ cs) = bounds_l n (c.arity + q) cs
 bounds_l zero zero (c ∷ cs) = []
-bounds_l (suc n) zero (c ∷ cs) = elim (eqb c.kind 20) [ true ↦ c.num ∷ bounds_l n c.arity cs | false ↦ elim (in_pattern c.kind) [ true ↦ bounds_l (c.arity + n) zero cs | false ↦ bounds_l n c.arity cs ] ]
+bounds_l (suc n) zero (c ∷ cs) = elim (is_kind BindingIdent c.kind) [ true ↦ c.num ∷ bounds_l n c.arity cs | false ↦ elim (in_pattern c.kind) [ true ↦ bounds_l (c.arity + n) zero cs | false ↦ bounds_l n c.arity cs ] ]
 
 -- `targets` of Targets: a node's first child is the next node of the list
 abbrev pub next_is : ℕ → List Core → Bool
 next_is i [] = false
-next_is i (c ∷ cs) = elim (eqb c.kind 5 || eqb c.kind 6) [ true ↦ some! c.arity && next_is i cs | false ↦ (eqb c.kind 21 && eqb c.num i) || member i (bounds_l 1 0 (c ∷ cs)) ]
+next_is i (c ∷ cs) = elim (is_kind VarDecl c.kind || is_kind VarDeclarator c.kind) [ true ↦ some! c.arity && next_is i cs | false ↦ (is_kind Ident c.kind && eqb c.num i) || member i (bounds_l 1 0 (c ∷ cs)) ]
 
 abbrev pub targets_l : List Core → ℕ → Bool
 targets_l [] i = false

@@ -1,14 +1,16 @@
 -- The walks of Walk, on the list of nodes with an index: each part of a handler under its other name (Combine of the crate `def_tree`).
 -- Each stands for the Rust item that Walk names at the one of the same name (`visit_mut_block_stmt_f`: `visit_mut_block_stmt`).
 -- This is what the port's functions are proved against. Assumes nothing: these are definitions.
-use Rattle.std.specs.Prelude.{Bool, true, false, ◌&&◌, not, List, [], ℕ, zero, suc, eqb, ltb, get_or}
+use Rattle.std.specs.Prelude.{Bool, true, false, ◌&&◌, not, List, [], ℕ, zero, suc, eqb, ltb}
 use Rattle.std.proofs.Math.Option.{Option, none, some}
 use Rattle.def_tree.specs.Base.{pick}
+use Rattle.def_file.specs.declared.kind.Kind.TheVariants.{CatchClause, Ident, Bin, Assign}
+use Rattle.def_file.specs.Named.{kind_of, is_kind}
 use Rattle.def_pass.specs.Tree.{Tree, form, num, kids, head_t, tail_f, void_zero, bound_names}
 use Rattle.def_pass.specs.Scope.{VarType, is_const, ScopeKind, cond, loop, block, fn, VarInfo, prevent_inline, prevent_each, is_inline_prevented, var_inline_prevented, find_binding, find_binding_from_current, find_constant, add_read, mark_this_sensitive, ident_of, change, with_value, defined}
 use Rattle.def_tree.specs.Tree.{Core, flat}
 use Rattle.def_tree.specs.Combine.{Res, stop, done, M as MS, Nothing, ◌>>=◌, ◌>>◌, ret, refuse, iff, Flat, node_at, tree_at, forest_at, Walk as One, Walks as Many, ReWalks, on_rest, act_n, act, act_f, within_f, skip, skips, put, many, split_f, each_but_f, on_kids_f, re_kids_f, same, split_r, cut_first}
-use Rattle.def_pass.specs.Walk.{Rooted, Outcome, refused, result, root_marks, set_is_first_run, St, tally, Handler, h_plain, h_script, h_block, h_decl, h_declr, h_fun, h_if, h_while, h_for, h_for_in, h_try, h_catch, h_case, h_pat, h_unary, h_update, h_assign, h_call, h_new, h_fun_expr, h_arrow, handlers, when, modify, mark, grow, replace, restore, opening, deeper, shallower, set_inlining, set_var_decl_kind, set_pat_mode, set_in_test, set_changed, declaring, assigning, as_param, as_catch, decl_kind_of, declare_name, write_name, write_tree, write_forest, but_last, store_inline_barrier_m, is_bind, pat_by, over_m, stays, takes, head_bind, assign_first, assign_last, to_pattern, same_ident, cheap_o}
+use Rattle.def_pass.specs.Walk.{Rooted, Outcome, refused, result, root_marks, set_is_first_run, St, tally, Handler, h_plain, h_script, h_block, h_decl, h_declr, h_fun, h_if, h_while, h_for, h_for_in, h_try, h_catch, h_case, h_pat, h_unary, h_update, h_assign, h_call, h_new, h_fun_expr, h_arrow, handler_of, when, modify, mark, grow, replace, restore, opening, deeper, shallower, set_inlining, set_var_decl_kind, set_pat_mode, set_in_test, set_changed, declaring, assigning, as_param, as_catch, decl_kind_of, declare_name, write_name, write_tree, write_forest, but_last, store_inline_barrier_m, is_bind, pat_by, over_m, stays, takes, head_bind, assign_first, assign_last, to_pattern, same_ident, cheap_o}
 
 abbrev pub F : Type 0 → Type 0
 F A = MS (Flat St) A
@@ -107,7 +109,7 @@ visit_mut_for_in_stmt_f v p i = do
       each_but_f (v.full (suc p)) (visit_with_child_f v (suc p) loop) n i₁)) i
 
 unfoldable pub visit_mut_try_stmt_f : WalksF → ℕ → One St
-visit_mut_try_stmt_f v p i = on_kids_f (split_f (λ i₁. act (write_tree true) i₁ >> skip i₁) (many (λ i₁ st. iff (eqb (node_at st i₁).kind 17) (v.full (suc p) i₁) (skip i₁) st))) i
+visit_mut_try_stmt_f v p i = on_kids_f (split_f (λ i₁. act (write_tree true) i₁ >> skip i₁) (many (λ i₁ st. iff (is_kind CatchClause (node_at st i₁).kind) (v.full (suc p) i₁) (skip i₁) st))) i
 
 unfoldable pub catch_param_f : WalksF → ℕ → One St
 catch_param_f v p i = do
@@ -173,12 +175,12 @@ handle_f h_fun_expr v p i = visit_mut_fn_expr_f v p i
 handle_f h_arrow v p i = visit_mut_arrow_expr_f v p i
 
 unfoldable pub own_f : WalksF → ℕ → One St
-own_f v p i = λ st. handle_f (get_or handlers (node_at st i).kind h_plain) v p i st
+own_f v p i = λ st. handle_f (handler_of (kind_of (node_at st i).kind)) v p i st
 
 -- the steps after a node's own handler
 
 unfoldable pub logical_f : WalksF → ℕ → One St
-logical_f v p i = λ st. iff (eqb (node_at st i).kind 32 && ltb (node_at st i).form 2) (on_kids_f (split_f skip (many (λ r. in_cond_f (v.bare (suc p) r)))) i) (skip i) st
+logical_f v p i = λ st. iff (is_kind Bin (node_at st i).kind && ltb (node_at st i).form 2) (on_kids_f (split_f skip (many (λ r. in_cond_f (v.bare (suc p) r)))) i) (skip i) st
 
 abbrev pub first_to : ℕ → Tree → Tree → Option VarInfo → One St
 first_to p l r none i = skip i
@@ -236,7 +238,7 @@ after_by v p false true i = λ st. iff st.rest.inlining (after_assign_f p i) (sk
 after_by v p false false i = logical_f v p i
 
 unfoldable pub after_f : WalksF → ℕ → One St
-after_f v p i = λ st. after_by v p (eqb (node_at st i).kind 21) (eqb (node_at st i).kind 33 && eqb (node_at st i).form 0) i st
+after_f v p i = λ st. after_by v p (is_kind Ident (node_at st i).kind) (is_kind Assign (node_at st i).kind && eqb (node_at st i).form 0) i st
 
 unfoldable pub visit_mut_expr_f : WalksF → ℕ → One St
 visit_mut_expr_f v p i = do

@@ -172,12 +172,12 @@ module _ (r : ℕ → ℕ) where
   -- add_read
 
   read_tail : ℕ → Stack → Stack
-  read_tail i x = pick (Scope.is_some (Scope.find_binding i x)) (Scope.change i Scope.read_once x) (Scope.add_unresolved i x)
+  read_tail i x = pick (Scope.is_some (Scope.find_binding i x)) (Scope.change i Scope.count_read x) (Scope.add_unresolved i x)
 
   read_tail-same : (i : ℕ) (x : Stack) → read_tail i (on x) ≡ on (read_tail i x)
   unfolding read_tail
-  read_tail-same i x = pick_same on (Scope.is_some (Scope.find_binding i x)) (Scope.is_some (Scope.find_binding i (on x))) (Scope.change i Scope.read_once x) (Scope.add_unresolved i x) (Scope.change i Scope.read_once (on x)) (Scope.add_unresolved i (on x))
-      (ap Scope.is_some (find-same i x) ∙ some_same (Scope.find_binding i x)) (change-same i Scope.read_once Scope.read_once (λ b. refl) x) (unresolved-same i x)
+  read_tail-same i x = pick_same on (Scope.is_some (Scope.find_binding i x)) (Scope.is_some (Scope.find_binding i (on x))) (Scope.change i Scope.count_read x) (Scope.add_unresolved i x) (Scope.change i Scope.count_read (on x)) (Scope.add_unresolved i (on x))
+      (ap Scope.is_some (find-same i x) ∙ some_same (Scope.find_binding i x)) (change-same i Scope.count_read Scope.count_read (λ b. refl) x) (unresolved-same i x)
 
   -- what comes first in a read and in a write: the identifier prevented, and the parameters if it is `arguments`
   abbrev first : ℕ → Bool → Bool → Stack → Stack

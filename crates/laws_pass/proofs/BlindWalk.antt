@@ -5,9 +5,10 @@ use mathlib.Core.Option.{Option, none, some}
 use mathlib.Core.List.{List, [], ◌∷◌, map}
 use Prim.Native.Nat.{ℕ, zero, suc, ◌+◌, ◌-◌}
 use lib.Dec.{T, eqb, ltb, leb}
-use lib.ListN.{length, get_or, length-map}
+use lib.ListN.{length, length-map}
 use Rattle.def_tree.specs.Base.{pick}
 use Rattle.def_tree.specs.Combine.{Res, stop, done, Nothing, and_then, ◌>>=◌, ◌>>◌, ret, refuse, iff, within, each, split, each_but, on_kids}
+use Rattle.def_file.specs.Named.{kind_of}
 use Rattle.def_pass.specs.Tree.{Tree, Forest, node, nil, cons, form, num, head_t, tail_f, is_ident, is_cheap, is_member, bound_names, has_this, count, height, ident_list, ident_list_f, void_zero}
 use Rattle.def_pass.specs.Relabel.{relabel, relabel_f, relabel_out}
 use Rattle.laws_pass.specs.Demand.{OriginBlind}
@@ -589,7 +590,7 @@ module _ (r : ℕ → ℕ) where
 
     own_eq : (p : ℕ) (t : Tree) → Eq rel (Walk.own w p t) (Walk.own w p (rel t))
     unfolding Walk.own
-    own_eq p (node k f a ts) = handle-eq (get_or Walk.handlers k Walk.h_plain) p (node k f a ts)
+    own_eq p (node k f a ts) = handle-eq (Walk.handler_of (kind_of k)) p (node k f a ts)
 
     -- the steps after a node's own handler
 

@@ -11,6 +11,9 @@ use lib.Dec.{T, eqb, ltb, leb, eqb→eq}
 use lib.ListN.{length, get_or}
 use Rattle.def_tree.specs.Base.{pick}
 use Rattle.def_tree.specs.Combine.{Res, stop, done, Nothing, and_then, ◌>>=◌, ◌>>◌, ret, refuse, iff, each, split, each_but, on_kids}
+use Rattle.def_file.specs.declared.kind.Kind.{Kind}
+use Rattle.def_file.specs.declared.kind.Kind.TheVariants.{Invalid}
+use Rattle.def_file.specs.Named.{kinds, kind_of}
 use Rattle.def_pass.specs.Tree.{Tree, Forest, node, nil, cons, kind, form, num, kids, head_t, tail_f, is_ident, is_cheap, is_member, bound_names, has_this, count, counts, height, ident_list, ident_list_f, void_zero}
 use Rattle.def_pass.specs.Twice.{is_twice, is_args, flagged}
 use Rattle.def_pass.specs.Scope as Scope
@@ -79,29 +82,32 @@ role h = elim h as (λ x. ℕ) [
   | Walk.h_arrow ↦ 0
 ]
 
-fits-fixed : (k : ℕ) → T (fixed k) → T (fixed (role (get_or Walk.handlers k Walk.h_plain)))
+fits-fixed : (k : ℕ) → T (fixed k) → T (fixed (role (Walk.handler_of (kind_of k))))
 fits-fixed k h = go (eqb k 31) refl (eqb k 33) refl h
   where
-    go : (p : Bool) → eqb k 31 ≡ p → (q : Bool) → eqb k 33 ≡ q → T (p || q) → T (fixed (role (get_or Walk.handlers k Walk.h_plain)))
-    go true e q d h = subst (λ (n : ℕ). T (fixed (role (get_or Walk.handlers n Walk.h_plain)))) (sym (eqb→eq k 31 (is_T _ e))) tt
-    go false e true d h = subst (λ (n : ℕ). T (fixed (role (get_or Walk.handlers n Walk.h_plain)))) (sym (eqb→eq k 33 (is_T _ d))) tt
+    go : (p : Bool) → eqb k 31 ≡ p → (q : Bool) → eqb k 33 ≡ q → T (p || q) → T (fixed (role (Walk.handler_of (kind_of k))))
+    go true e q d h = subst (λ (n : ℕ). T (fixed (role (Walk.handler_of (kind_of n))))) (sym (eqb→eq k 31 (is_T _ e))) tt
+    go false e true d h = subst (λ (n : ℕ). T (fixed (role (Walk.handler_of (kind_of n))))) (sym (eqb→eq k 33 (is_T _ d))) tt
     go false e false d h = absurd h
 
 abbrev Fits : Walk.Handler → ℕ → Type 0
 Fits h k = T (eqb (role h) 0 || eqb (role h) k)
 
-abbrev fitting : ℕ → List Walk.Handler → Bool
+abbrev role_of : Kind → ℕ
+role_of x = role (Walk.handler_of x)
+
+abbrev fitting : ℕ → List Kind → Bool
 fitting n [] = true
-fitting n (h ∷ hs) = (eqb (role h) 0 || eqb (role h) n) && fitting (suc n) hs
+fitting n (x ∷ xs) = (eqb (role_of x) 0 || eqb (role_of x) n) && fitting (suc n) xs
 
-fits-from : (hs : List Walk.Handler) (n k : ℕ) → T (fitting n hs) → Fits (get_or hs k Walk.h_plain) (k + n)
-fits-from [] n zero c = tt
-fits-from [] n (suc k) c = tt
-fits-from (x ∷ hs) n zero c = subst (Fits x) (omega arith) (and_left (eqb (role x) 0 || eqb (role x) n) (fitting (suc n) hs) c)
-fits-from (x ∷ hs) n (suc k) c = subst (Fits (get_or hs k Walk.h_plain)) (omega arith) (fits-from hs (suc n) k (and_right (eqb (role x) 0 || eqb (role x) n) (fitting (suc n) hs) c))
+fits-from : (xs : List Kind) (m n k : ℕ) → T (fitting n xs) → Fits (Walk.handler_of (get_or xs k (Invalid m))) (k + n)
+fits-from [] m n zero c = tt
+fits-from [] m n (suc k) c = tt
+fits-from (x ∷ xs) m n zero c = subst (Fits (Walk.handler_of x)) (omega arith) (and_left (eqb (role_of x) 0 || eqb (role_of x) n) (fitting (suc n) xs) c)
+fits-from (x ∷ xs) m n (suc k) c = subst (Fits (Walk.handler_of (get_or xs k (Invalid m)))) (omega arith) (fits-from xs m (suc n) k (and_right (eqb (role_of x) 0 || eqb (role_of x) n) (fitting (suc n) xs) c))
 
-fits : (k : ℕ) → Fits (get_or Walk.handlers k Walk.h_plain) k
-fits k = subst (Fits (get_or Walk.handlers k Walk.h_plain)) (omega arith) (fits-from Walk.handlers 0 k tt)
+fits : (k : ℕ) → Fits (Walk.handler_of (kind_of k)) k
+fits k = subst (Fits (Walk.handler_of (kind_of k))) (omega arith) (fits-from kinds k 0 k tt)
 
 turned : (m k : ℕ) → T (eqb m m) → T (eqb m k) → T (eqb k m)
 turned m k r h = subst (λ (n : ℕ). T (eqb n m)) (eqb→eq m k h) r
@@ -881,7 +887,7 @@ module _ (L : Law) where
 
       own-ok : (p : ℕ) (t : Tree) → L.Good p t → WO p t (Walk.own w p t)
       unfolding Walk.own
-      own-ok p t o = handle-ok (get_or Walk.handlers (kind t) Walk.h_plain) p t (λ l. fits-fixed (kind t)) (fits (kind t)) o
+      own-ok p t o = handle-ok (Walk.handler_of (kind_of (kind t))) p t (λ l. fits-fixed (kind t)) (fits (kind t)) o
 
       -- after a node's own handler
       logical-ok : (p : ℕ) (t : Tree) → L.Good p t → WT p t (Walk.logical w p t)

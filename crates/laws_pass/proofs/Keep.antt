@@ -139,7 +139,7 @@ module _ (N : ℕ → ℕ → ℕ → Type 0) (to-ident : (f a : ℕ) → N 20 f
       let st₂ = pick g (Scope.prevent_inline_of_params st₁) st₁ in
       let h₁ = pick-ok OkSt (Scope.read_prevents_inlining i st) (Scope.prevent_inline i st) st (ok-prevent i st h) h in
       let h₂ = pick-ok OkSt g (Scope.prevent_inline_of_params st₁) st₁ (ok-params st₁ h₁) h₁ in
-      pick-ok OkSt (Scope.is_some (Scope.find_binding i st₂)) (Scope.change i Scope.read_once st₂) (Scope.add_unresolved i st₂) (ok-change i Scope.read_once (λ b. refl) (λ b k. k) st₂ h₂) (ok-unresolved i st₂ h₂)
+      pick-ok OkSt (Scope.is_some (Scope.find_binding i st₂)) (Scope.change i Scope.count_read st₂) (Scope.add_unresolved i st₂) (ok-change i Scope.count_read (λ b. refl) (λ b k. k) st₂ h₂) (ok-unresolved i st₂ h₂)
 
   once_more : (bs : List Scope.VarInfo) (b : Scope.VarInfo) → Single (ids bs) → Scope.has_in b.id bs ≡ false → Single (ids (bs ++ (b ∷ [])))
   once_more bs b h e = subst Single (sym (ids-append bs b)) (single-append (ids bs) b.id h (sym (has-mem b.id bs) ∙ e))

@@ -81,7 +81,7 @@ module _ {X : Type 0} (m : List VarInfo → List Const → X) where
         let st₁ = pick (Scope.read_prevents_inlining i st) (Scope.prevent_inline i st) st in
         let st₂ = pick g (Scope.prevent_inline_of_params st₁) st₁ in
         let h = same_first (Scope.read_prevents_inlining i st) g i st in
-        same-pick (Scope.is_some (Scope.find_binding i st₂)) (Scope.change i Scope.read_once st₂) (Scope.add_unresolved i st₂) (same-change i Scope.read_once (λ b. refl) st₂ ∙ h) (same-unresolved i st₂ ∙ h)
+        same-pick (Scope.is_some (Scope.find_binding i st₂)) (Scope.change i Scope.count_read st₂) (Scope.add_unresolved i st₂) (same-change i Scope.count_read (λ b. refl) st₂ ∙ h) (same-unresolved i st₂ ∙ h)
 
     pub same_write : (i : ℕ) (g force : Bool) (st : Stack) → all (Scope.add_write i g force st) ≡ all st
     unfolding Scope.add_write

@@ -141,8 +141,8 @@ g-read i args st =
     let st₂ = pick args (Scope.prevent_inline_of_params st₁) st₁ in
     let h₁ = g-pick st (Scope.read_prevents_inlining i st) st (Scope.prevent_inline i) (g-prevent i) (g-refl st) in
     let h₂ = g-pick st args st₁ Scope.prevent_inline_of_params g-params h₁ in
-    pick-ok (Grow st) (Scope.is_some (Scope.find_binding i st₂)) (Scope.change i Scope.read_once st₂) (Scope.add_unresolved i st₂)
-    (g-trans st st₂ (Scope.change i Scope.read_once st₂) h₂ (g-change i Scope.read_once (λ b. refl) st₂)) (g-trans st st₂ (Scope.add_unresolved i st₂) h₂ (g-unresolved i st₂))
+    pick-ok (Grow st) (Scope.is_some (Scope.find_binding i st₂)) (Scope.change i Scope.count_read st₂) (Scope.add_unresolved i st₂)
+    (g-trans st st₂ (Scope.change i Scope.count_read st₂) h₂ (g-change i Scope.count_read (λ b. refl) st₂)) (g-trans st st₂ (Scope.add_unresolved i st₂) h₂ (g-unresolved i st₂))
 
 g-write : (i : ℕ) (args force : Bool) (st : Stack) → Grow st (Scope.add_write i args force st)
 unfolding Scope.add_write

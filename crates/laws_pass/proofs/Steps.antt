@@ -3,12 +3,12 @@ use mathlib.Core.Path.{◌≡◌, refl, ap}
 use mathlib.Core.Bool.{Bool, true, false}
 use mathlib.Core.Option.{none, some}
 use Prim.Native.Nat.{ℕ, suc}
-use lib.ListN.{get_or}
 use Rattle.def_tree.specs.Base.{pick}
 use Rattle.def_tree.specs.Combine.{stop, done, and_then}
+use Rattle.def_file.specs.Named.{kind_of}
 use Rattle.def_pass.specs.Tree.{Tree, node, nil, cons, kind, num}
 use Rattle.def_pass.specs.Scope.{VarInfo, find_binding, find_constant, var_inline_prevented}
-use Rattle.def_pass.specs.Walk.{St, Walks, walks, own, after, script_walk, handle, handlers, h_plain, after_ident, by_const, ident_analysis, ident_inlining, inline_value, run, runs, Outcome, result, refused, root_marks, set_changed, set_is_first_run}
+use Rattle.def_pass.specs.Walk.{St, Walks, walks, own, after, script_walk, handle, handler_of, after_ident, by_const, ident_analysis, ident_inlining, inline_value, run, runs, Outcome, result, refused, root_marks, set_changed, set_is_first_run}
 
 -- a walk opens only where depth is left
 
@@ -38,7 +38,7 @@ pub inner-suc : (d p : ℕ) (t : Tree) (s : St) → (walks (suc d)).inner p t s 
 unfolding walks
 inner-suc d p t s = refl
 
-pub own-kind : (w : Walks) (p : ℕ) (t : Tree) (s : St) → own w p t s ≡ handle (get_or handlers (kind t) h_plain) w p t s
+pub own-kind : (w : Walks) (p : ℕ) (t : Tree) (s : St) → own w p t s ≡ handle (handler_of (kind_of (kind t))) w p t s
 unfolding own
 own-kind w p t s = refl
 

@@ -111,7 +111,7 @@ module _ (V? : Option Tree → Type 0) (nothing : V? none) where
       let st₂ = pick g (Scope.prevent_inline_of_params st₁) st₁ in
       let h₁ = pick-ok HeldSt (Scope.read_prevents_inlining i st) (Scope.prevent_inline i st) st (v-prevent i st h) h in
       let h₂ = pick-ok HeldSt g (Scope.prevent_inline_of_params st₁) st₁ (v-params st₁ h₁) h₁ in
-      pick-ok HeldSt (Scope.is_some (Scope.find_binding i st₂)) (Scope.change i Scope.read_once st₂) (Scope.add_unresolved i st₂) (v-change i Scope.read_once (λ b k. k) st₂ h₂) (v-unresolved i st₂ h₂)
+      pick-ok HeldSt (Scope.is_some (Scope.find_binding i st₂)) (Scope.change i Scope.count_read st₂) (Scope.add_unresolved i st₂) (v-change i Scope.count_read (λ b k. k) st₂ h₂) (v-unresolved i st₂ h₂)
 
   pub v-write : (i : ℕ) (g force : Bool) (st : Stack) → HeldSt st → HeldSt (Scope.add_write i g force st)
   unfolding Scope.add_write

@@ -1,15 +1,17 @@
 -- Each `=` outside the initialisers is in the result exactly once, with its target as it was but for the defaults of a pattern (request 4). On
--- core trees, where the number of a node of kind 33 is its origin. Assumes nothing: these are definitions.
+-- core trees, where the number of an assignment is its origin. Assumes nothing: these are definitions.
 use Rattle.std.specs.Prelude.{◌≡◌, Bool, true, false, ◌&&◌, ◌||◌, List, [], ◌∷◌, ◌++◌, ℕ, ◌%◌, T, eqb}
 use Rattle.std.proofs.Math.Option.{Option, none, some}
 use Rattle.def_tree.specs.Base.{pick}
+use Rattle.def_file.specs.Named.{is_kind}
+use Rattle.def_file.specs.declared.kind.Kind.TheVariants as Kind
 use Rattle.def_pass.specs.Tree.{Tree, Forest, node, nil, cons, kind, head_t, tail_f, is_pattern, in_pattern}
 use Rattle.def_pass.specs.Walk.{core_pass, Outcome, refused, result}
 
 -- a tree without the flags of its bindings (request 3): of a binding's form only whether its name is `arguments`
 abbrev mutual
   pub plain : Tree → Tree
-  plain (node k f a ts) = node k (pick (eqb k 20) (f % 2) f) a (plains ts)
+  plain (node k f a ts) = node k (pick (is_kind Kind.BindingIdent k) (f % 2) f) a (plains ts)
 
   pub plains : Forest → Forest
   plains nil = nil
@@ -21,7 +23,7 @@ nothing = node 0 0 0 nil
 
 abbrev mutual
   pub skeleton : Tree → Tree
-  skeleton (node k f a ts) = elim (eqb k 20 || in_pattern k) [ true ↦ node k (pick (eqb k 20) (f % 2) f) a (skeletons ts) | false ↦ nothing ]
+  skeleton (node k f a ts) = elim (is_kind Kind.BindingIdent k || in_pattern k) [ true ↦ node k (pick (is_kind Kind.BindingIdent k) (f % 2) f) a (skeletons ts) | false ↦ nothing ]
 
   pub skeletons : Forest → Forest
   skeletons nil = nil
@@ -45,7 +47,7 @@ listed false x = []
 
 -- of a node: is it an `=` whose origin is asked for
 abbrev pub own_assign : (ℕ → Bool) → ℕ → ℕ → ℕ → Option Tree → List Assign
-own_assign asked k f a l = listed (eqb k 33 && eqb f 0 && asked a) (a, target_o l)
+own_assign asked k f a l = listed (is_kind Kind.Assign k && eqb f 0 && asked a) (a, target_o l)
 
 -- those of a tree, in order
 abbrev mutual
@@ -59,7 +61,7 @@ abbrev mutual
 -- the last tree is a block
 abbrev pub LastBlock : Forest → Type 0
 LastBlock nil = Unit {0}
-LastBlock (cons t nil) = T (eqb (kind t) 2)
+LastBlock (cons t nil) = T (is_kind Kind.Block (kind t))
 LastBlock (cons t (cons u us)) = LastBlock (cons u us)
 
 -- none is a binding or of a pattern
@@ -69,10 +71,10 @@ Expressions (cons t ts) = (skeleton t ≡ nothing) × Expressions ts
 
 -- no `=` that is asked for stands in an initialiser, which is an expression, or below a binding, an identifier or a literal; a function ends in a block
 pub record Here (asked : ℕ → Bool) (k : ℕ) (ts : Forest) : Type 0 where
-  pub inits : T (eqb k 6) → assigns_f asked (tail_f ts) ≡ []
-  pub values : T (eqb k 6) → Expressions (tail_f ts)
-  pub leaves : T (eqb k 20 || eqb k 21 || eqb k 22) → assigns_f asked ts ≡ []
-  pub ends : T (eqb k 7 || eqb k 39) → LastBlock ts
+  pub inits : T (is_kind Kind.VarDeclarator k) → assigns_f asked (tail_f ts) ≡ []
+  pub values : T (is_kind Kind.VarDeclarator k) → Expressions (tail_f ts)
+  pub leaves : T (is_kind Kind.BindingIdent k || is_kind Kind.Ident k || is_kind Kind.Null k) → assigns_f asked ts ≡ []
+  pub ends : T (is_kind Kind.FnDecl k || is_kind Kind.FnExpr k) → LastBlock ts
 
 abbrev mutual
   pub Outside : (ℕ → Bool) → Tree → Type 0

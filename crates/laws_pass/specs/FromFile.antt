@@ -2,6 +2,8 @@
 use Rattle.std.specs.Prelude.{◌≡◌, refl, Bool, true, false, ◌&&◌, ◌⊎◌, List, [], ◌∷◌, map, ℕ, T, eqb}
 use Rattle.std.proofs.Math.Option.{Option, some}
 use Rattle.def_tree.specs.Tree.{flat}
+use Rattle.def_file.specs.Named.{number_of, is_kind}
+use Rattle.def_file.specs.declared.kind.Kind.TheVariants as Kind
 use Rattle.def_file.specs.Script.{Script}
 use Rattle.def_file.specs.Read.{Read, bad, script, read}
 use Rattle.def_pass.specs.Tree.{Tree, Forest, node, nil, cons, head_t, tail_f}
@@ -14,7 +16,7 @@ use Rattle.laws_pass.specs.Assigns.{Assign, target_o, assigns, assigns_f}
 -- no `=` that is asked for stands in an initialiser
 abbrev mutual
   pub NoInit : (ℕ → Bool) → Tree → Type 0
-  NoInit asked (node k f a ts) = (T (eqb k 6) → assigns_f asked (tail_f ts) ≡ []) × NoInitF asked ts
+  NoInit asked (node k f a ts) = (T (is_kind Kind.VarDeclarator k) → assigns_f asked (tail_f ts) ≡ []) × NoInitF asked ts
 
   pub NoInitF : (ℕ → Bool) → Forest → Type 0
   NoInitF asked nil = Unit {0}
@@ -23,7 +25,7 @@ abbrev mutual
 -- the `=` with origin o and target l stands in the tree, outside every initialiser
 abbrev mutual
   pub Stands : ℕ → Option Tree → Tree → Type 0
-  Stands o l (node k f a ts) = (T (eqb k 33 && eqb f 0) × (a ≡ o) × (head_t ts ≡ l)) ⊎ StandsIn o l (eqb k 6) ts
+  Stands o l (node k f a ts) = (T (is_kind Kind.Assign k && eqb f 0) × (a ≡ o) × (head_t ts ≡ l)) ⊎ StandsIn o l (is_kind Kind.VarDeclarator k) ts
 
   -- of a declarator only the name is looked at
   pub StandsIn : ℕ → Option Tree → Bool → Forest → Type 0
@@ -40,7 +42,7 @@ abbrev pub stands_in : ℕ → Outcome → List Assign
 stands_in o (refused n) = []
 stands_in o (result k c t ms) = of_origin o t
 
-pub thrice : stands_in 9 (core_pass 16 (node 1 0 0 (f3 (decl_to 0 1 (node 33 0 9 (f2 (bind 2) (lit 5)))) (decl_to 0 3 (name 1)) (decl_to 0 4 (node 27 0 0 (f2 (name 3) (name 3))))))) ≡ (9, some (bind 2)) ∷ (9, some (bind 2)) ∷ (9, some (bind 2)) ∷ []
+pub thrice : stands_in 9 (core_pass 16 (node (number_of Kind.Script) 0 0 (f3 (decl_to 0 1 (node (number_of Kind.Assign) 0 9 (f2 (bind 2) (lit 5)))) (decl_to 0 3 (name 1)) (decl_to 0 4 (node (number_of Kind.Array) 0 0 (f2 (name 3) (name 3))))))) ≡ (9, some (bind 2)) ∷ (9, some (bind 2)) ∷ (9, some (bind 2)) ∷ []
 unfolding core_pass
 thrice = refl
 

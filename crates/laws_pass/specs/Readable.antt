@@ -1,10 +1,12 @@
--- A result tree fits the kinds' places again, 200 deep, with 1,024 nodes. On core trees: all literals are of kind 22, and the form of a binding
+-- A result tree fits the kinds' places again, 200 deep, with 1,024 nodes. On core trees: all literals are `Null`, and the form of a binding
 -- or an identifier tells whether it is `arguments`. Assumes nothing: these are definitions.
-use Rattle.std.specs.Prelude.{◌&&◌, ◌||◌, ℕ, zero, suc, T, eqb}
+use Rattle.std.specs.Prelude.{◌&&◌, ◌||◌, ℕ, zero, suc, T}
 use Rattle.def_tree.specs.Base.{pick}
 use Rattle.def_tree.specs.Tree.{length_f}
 use Rattle.def_file.specs.declared.kinds.Row.{Row}
 use Rattle.def_file.specs.declared.kinds.Class.TheVariants.{Root}
+use Rattle.def_file.specs.declared.kind.Kind.TheVariants.{BindingIdent, Ident}
+use Rattle.def_file.specs.Named.{is_kind}
 use Rattle.def_file.specs.Kinds.{allows, row_of, form_ok, count_ok, child_of}
 use Rattle.def_pass.specs.Tree.{Tree, Forest, node, nil, cons, kind, kids}
 use Rattle.def_pass.specs.Walk.{core_pass, Outcome, refused, result}
@@ -12,7 +14,7 @@ use Rattle.laws_pass.specs.Small.{Small}
 
 -- the form by which a kind's row is found
 abbrev pub form_of : ℕ → ℕ → ℕ
-form_of k f = pick (eqb k 20 || eqb k 21) 0 f
+form_of k f = pick (is_kind BindingIdent k || is_kind Ident k) 0 f
 
 abbrev pub row_at : ℕ → ℕ → Row
 row_at k f = row_of k (form_of k f)

@@ -1,6 +1,8 @@
 -- A step on the state of the pass that leaves the nodes alone. Assumes nothing: these are definitions.
 use Rattle.std.specs.Prelude.{◌≡◌, List, ℕ, Result, Ok, Err}
 use Rattle.def_tree.specs.Tree.{Tree, node, nil}
+use Rattle.def_file.specs.declared.kind.Kind.TheVariants.{BindingIdent}
+use Rattle.def_file.specs.Named.{number_of}
 use Rattle.def_tree.specs.Combine.{Res, stop, done, Flat}
 use Rattle.def_pass.specs.Walk.{St}
 use Rattle.refusal.specs.declared.Refusal.{Refusal}
@@ -11,7 +13,7 @@ use Rattle.words_state.specs.State.{abs}
 
 -- the name of a declarator: only its form, whether it is flagged (request 3), and its number are looked at
 abbrev pub named : ℕ → ℕ → Tree
-named f x = node 20 f x nil
+named f x = node (number_of BindingIdent) f x nil
 
 -- an answer: its value and the state, or the number of its refusal
 abbrev pub done_of : {S A : Type 0} → Result A Refusal → S → Res S A

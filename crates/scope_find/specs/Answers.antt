@@ -1,8 +1,10 @@
 -- Answers that may be none, and the parts of a write. Assumes nothing: these are definitions.
-use Rattle.std.specs.Prelude.{Option as Answer, Some, None, Bool, true, false, ◌||◌, not, ℕ, eqb}
+use Rattle.std.specs.Prelude.{Option as Answer, Some, None, Bool, true, false, ◌||◌, not, ℕ}
 use Rattle.std.proofs.Math.Option.{Option, none, some}
 use Rattle.def_tree.specs.Base.{pick}
 use Rattle.def_tree.specs.Tree.{Core}
+use Rattle.def_file.specs.declared.kind.Kind.TheVariants.{BindingIdent, Ident}
+use Rattle.def_file.specs.Named.{is_kind}
 use Rattle.def_pass.specs.Scope.{Stack, v_var, change, defined, prevent_inline, scope_for, has_constant, append, fresh}
 
 -- an answer as the definition's option
@@ -22,4 +24,4 @@ write_to x force st = pick (scope_for true x st).0 (write_bound x (not (scope_fo
 
 -- a binding or an identifier
 abbrev pub is_name : Core → Bool
-is_name c = eqb c.kind 20 || eqb c.kind 21
+is_name c = is_kind BindingIdent c.kind || is_kind Ident c.kind

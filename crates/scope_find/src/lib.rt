@@ -8,6 +8,8 @@ ghost use Rattle.def_pass.specs.Scope.{is_some, const_in, find_binding, find_bin
 ghost use Rattle.def_tree.specs.Tree.{kids};
 ghost use Rattle.def_pass.specs.Tree.{head_t};
 ghost use Rattle.def_pass.specs.Twice.{is_twice, unflagged, is_args};
+ghost use Rattle.def_file.specs.declared.kind.Kind.TheVariants.{BindingIdent, Ident};
+ghost use Rattle.def_file.specs.Named.{number_of};
 ghost use Rattle.words.specs.Layout.{yes, node_of};
 ghost use Rattle.words.specs.Place.{placed};
 ghost use Rattle.words_scopes.specs.Kinds.{type_of, kind_of};
@@ -381,7 +383,7 @@ pub fn ident_prevented(w: &[u32], x: u8) -> bool
 
 // The identifier of node i.
 pub fn ident_at(w: &[u32], i: usize) -> u8
-    requires { (HasNode w.now i) × (((node_of w.now i).kind ≡ 20) ⊎ ((node_of w.now i).kind ≡ 21)) }
+    requires { (HasNode w.now i) × (((node_of w.now i).kind ≡ number_of BindingIdent) ⊎ ((node_of w.now i).kind ≡ number_of Ident)) }
     ensures { result ≡ (node_of w.now i).num }
 {
     num_at(w, i) as u8
@@ -389,7 +391,7 @@ pub fn ident_at(w: &[u32], i: usize) -> u8
 
 // The name that node i is.
 pub fn name_at(w: &[u32], i: usize) -> Name
-    requires { (HasNode w.now i) × (((node_of w.now i).kind ≡ 20) ⊎ ((node_of w.now i).kind ≡ 21)) }
+    requires { (HasNode w.now i) × (((node_of w.now i).kind ≡ number_of BindingIdent) ⊎ ((node_of w.now i).kind ≡ number_of Ident)) }
     ensures { (result.ident ≡ (node_of w.now i).num) × (result.form ≡ (node_of w.now i).form) }
 {
     Name {

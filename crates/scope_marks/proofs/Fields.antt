@@ -13,7 +13,7 @@ use lib.Dec.{ltb}
 use lib.Seq.{ext_get_or}
 use Rattle.def_tree.specs.Base.{pick}
 use Rattle.def_tree.specs.Tree.{Tree}
-use Rattle.def_pass.specs.Scope.{VarInfo, Scope, Stack, is_fn, is_param, change, sensitive_now, prevent, one_more, read_once, prevent_param, prevent_inline_of_params, on_bindings}
+use Rattle.def_pass.specs.Scope.{VarInfo, Scope, Stack, is_fn, is_param, change, sensitive_now, prevent, one_more, count_read, prevent_param, prevent_inline_of_params, on_bindings}
 use Rattle.words.specs.Tab.{tab, tab-ext, length-tab, get_d-tab, below_or_not}
 use Rattle.words.specs.Layout.{yes}
 use Rattle.words_scopes.specs.State.{bind_at, Head, head_at, heads_at, heads, flags, binds, consts, split, scope_of, stack, Good, HasBinding, Becomes, Fits, place}
@@ -35,16 +35,16 @@ with-mark m b = record { id = b.id; kind = b.kind; alias_of = b.alias_of; read_c
 
 module _ (w : List ℕ) (g : Good w) (k : ℕ) (h : k < get_or w 1 0) where
   read-now : (n p : ℕ) → n ≡ one_more (bind_at w k).read_cnt → yes p ≡ ((bind_at w k).hoisted || (bind_at w k).inline_prevented) → (x : ℕ) → place x (heads w) (binds w) ≡ suc k
-      → Becomes w (set (set w (4112 + k * 10 + 3) n) (4112 + k * 10 + 4) p) (change x read_once (stack w))
+      → Becomes w (set (set w (4112 + k * 10 + 3) n) (4112 + k * 10 + 4) p) (change x count_read (stack w))
   read-now n p e q =
       let u : List ℕ = set w (4112 + k * 10 + 3) n in
       let gu : Good u = words.field-good w g k h 3 n (omega arith) (omega arith) in
       let t = words.field-kept w g k h 3 n (omega arith) (omega arith) in
       let c : get_or u 1 0 ≡ get_or w 1 0 = t.counts 1 (omega arith) (omega arith) in
       let hu : k < get_or u 1 0 = omega arith in
-      let this : bind_at (set u (4112 + k * 10 + 4) p) k ≡ read_once (bind_at w k) =
+      let this : bind_at (set u (4112 + k * 10 + 4) p) k ≡ count_read (bind_at w k) =
       store-this u gu k hu 4 p (omega arith) (omega arith) ∙ ap (with-mark (yes p)) (store-this w g k h 3 n (omega arith) (omega arith)) ∙ rw (q, e) refl in
-      words.changed g (words.kept_then t (words.field-kept u gu k hu 4 p (omega arith) (omega arith))) k h read_once this
+      words.changed g (words.kept_then t (words.field-kept u gu k hu 4 p (omega arith) (omega arith))) k h count_read this
       (λ j a d. words.field-other u gu k hu 4 p (omega arith) (omega arith) j (omega arith) d ∙ words.field-other w g k h 3 n (omega arith) (omega arith) j a d)
       (words.field-good u gu k hu 4 p (omega arith) (omega arith))
 
@@ -59,11 +59,11 @@ module _ (w : List ℕ) (g : Good w) (k : ℕ) (h : k < get_or w 1 0) where
     hoisted-same : (bind_at u k).hoisted ≡ (bind_at w k).hoisted
     hoisted-same = ap yes (words.field-same w g k h 3 n (omega arith) (omega arith) k 7 (omega arith) (λ z. omega arith))
 
-    pub read-marked : (bind_at u k).hoisted ≡ true → (x : ℕ) → place x (heads w) (binds w) ≡ suc k → Becomes w (set u (4112 + k * 10 + 4) 1) (change x read_once (stack w))
+    pub read-marked : (bind_at u k).hoisted ≡ true → (x : ℕ) → place x (heads w) (binds w) ≡ suc k → Becomes w (set u (4112 + k * 10 + 4) 1) (change x count_read (stack w))
     read-marked m = read-now n 1 e (sym (rw (sym hoisted-same ∙ m) refl))
 
-    pub read-plain : (bind_at u k).hoisted ≡ false → (x : ℕ) → place x (heads w) (binds w) ≡ suc k → Becomes w u (change x read_once (stack w))
-    read-plain z = store-becomes w g k h 3 n (omega arith) (omega arith) read_once (rw (e, sym hoisted-same ∙ z) refl)
+    pub read-plain : (bind_at u k).hoisted ≡ false → (x : ℕ) → place x (heads w) (binds w) ≡ suc k → Becomes w u (change x count_read (stack w))
+    read-plain z = store-becomes w g k h 3 n (omega arith) (omega arith) count_read (rw (e, sym hoisted-same ∙ z) refl)
 
 -- the parameters, from a place on
 drop-params : (a l : ℕ) (bs : List VarInfo) → l ≤ a → drop a (params_from l bs) ≡ map prevent_param (drop a bs)

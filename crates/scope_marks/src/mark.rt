@@ -1,6 +1,6 @@
 // Marks: what changes the scopes and adds nothing to them.
 ghost use Rattle.std.specs.Prelude.{◌≡◌, ◌≤◌, get_or};
-ghost use Rattle.def_pass.specs.Scope.{is_some, is_fn, find_binding, change, sensitive_now, read_once, add_unresolved, prevent_inline_of_params, store_inline_barrier};
+ghost use Rattle.def_pass.specs.Scope.{is_some, is_fn, find_binding, change, sensitive_now, count_read, add_unresolved, prevent_inline_of_params, store_inline_barrier};
 ghost use Rattle.def_tree.specs.Base.{pick};
 ghost use Rattle.words_scopes.specs.State.{Good, HasScope, Becomes, stack, heads, flags, binds, consts, split};
 ghost use Rattle.scope_find.specs.Look.{scope_at, fn_start, params_from};
@@ -36,7 +36,7 @@ pub fn add_unresolved(w: &mut [u32], x: u8)
 // A read of x is counted at its innermost binding, which is prevented if it is hoisted; without a binding x is unresolved.
 pub fn count_read(w: &mut [u32], x: u8)
     requires { Good w.old }
-    ensures { Becomes w.old w.new (pick (is_some (find_binding x (stack w.old))) (change x read_once (stack w.old)) (add_unresolved x (stack w.old))) }
+    ensures { Becomes w.old w.new (pick (is_some (find_binding x (stack w.old))) (change x count_read (stack w.old)) (add_unresolved x (stack w.old))) }
 {
     let Some(k) = find_binding(w, x) else {
         add_unresolved(w, x);

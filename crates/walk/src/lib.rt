@@ -9,6 +9,8 @@ ghost use Rattle.std.specs.Prelude.{◌+◌, ◌≡◌, true};
 ghost use Rattle.std.proofs.Math.Option.{some};
 ghost use Rattle.def_tree.specs.Combine.{many, split_f, each_but_f, skip, tree_at};
 ghost use Rattle.def_tree.specs.Tree.{count};
+ghost use Rattle.def_file.specs.declared.kind.Kind.TheVariants.{Ident};
+ghost use Rattle.def_file.specs.Named.{number_of};
 ghost use Rattle.words.specs.Layout.{node_of, tree};
 ghost use Rattle.words_nodes.specs.Nodes.{Planted, tree_from};
 ghost use Rattle.words_scopes.specs.Kinds.{kind_of};
@@ -662,7 +664,7 @@ fn own(w: &mut [u32], p: usize, d: usize, i: usize) -> Result<usize, Refusal>
 // The steps of visit_mut_expr at an identifier: a constant is followed; in Analysis it is read; in Inlining its value takes its place.
 #[cycle(walks)]
 fn ident(w: &mut [u32], p: usize, d: usize, i: usize) -> Result<usize, Refusal>
-    requires { (Here w.old 1 i p (d + 1)) × ((node_of w.old i).kind ≡ 21) }
+    requires { (Here w.old 1 i p (d + 1)) × ((node_of w.old i).kind ≡ number_of Ident) }
     ensures { Did w.old w.new result (after_ident_f (walks_f d) p i (abs w.old)) }
 {
     if let Some(m) = constant(w, i) {

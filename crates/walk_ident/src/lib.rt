@@ -7,6 +7,8 @@ ghost use Rattle.def_tree.specs.Combine.{on_rest};
 ghost use Rattle.def_pass.specs.Tree.{void_zero};
 ghost use Rattle.def_pass.specs.Scope.{find_binding};
 ghost use Rattle.def_pass.specs.Walk.{opening, deeper, same_ident};
+ghost use Rattle.def_file.specs.declared.kind.Kind.TheVariants.{Ident};
+ghost use Rattle.def_file.specs.Named.{number_of};
 ghost use Rattle.refusal.specs.Number.{refused};
 ghost use Rattle.words.specs.Layout.{node_of, tree};
 ghost use Rattle.words_scopes.specs.State.{Good, Becomes, stack};
@@ -70,7 +72,7 @@ fn test_read(w: &mut [u32], x: u8)
 
 // The identifier at node i is read, in Analysis.
 pub fn ident_analysis(w: &mut [u32], i: usize)
-    requires { (Planted w.old) × (i < size w.old) × ((node_of w.old i).kind ≡ 21) }
+    requires { (Planted w.old) × (i < size w.old) × ((node_of w.old i).kind ≡ number_of Ident) }
     ensures { Act w.old w.new 0 (analysis_f i (abs w.old)) }
 {
     let name = name_at(w, i);
@@ -80,7 +82,7 @@ pub fn ident_analysis(w: &mut [u32], i: usize)
 
 // What becomes of the identifier at node i, in Inlining.
 pub fn fate(w: &[u32], i: usize) -> Found
-    requires { (Planted w.now) × (i < size w.now) × ((node_of w.now i).kind ≡ 21) }
+    requires { (Planted w.now) × (i < size w.now) × ((node_of w.now i).kind ≡ number_of Ident) }
     ensures { Fated w.now i result }
 {
     let x = ident_at(w, i);
@@ -124,7 +126,7 @@ fn counted(w: &mut [u32], x: u8, changed: bool)
 
 // The value of binding b takes the place of the identifier at node i, a change that is counted unless it is the same identifier.
 pub fn inline_value(w: &mut [u32], i: usize, p: u32, b: usize) -> Result<usize, Refusal>
-    requires { (Planted w.old) × (i < size w.old) × ((node_of w.old i).kind ≡ 21) × (Has w.old b) }
+    requires { (Planted w.old) × (i < size w.old) × ((node_of w.old i).kind ≡ number_of Ident) × (Has w.old b) }
     ensures did { Did w.old w.new result (value_f p (value_by w.old b) i (abs w.old)) }
     ensures kept { OnErr result (w.new ≡ w.old) }
 {
@@ -148,7 +150,7 @@ pub fn inline_undefined(w: &mut [u32], i: usize, p: u32) -> Result<usize, Refusa
 
 // How many nodes the constant that the identifier at node i names has, in the first run.
 pub fn constant(w: &[u32], i: usize) -> Option<usize>
-    requires { (Planted w.now) × (i < size w.now) × ((node_of w.now i).kind ≡ 21) }
+    requires { (Planted w.now) × (i < size w.now) × ((node_of w.now i).kind ≡ number_of Ident) }
     ensures { (count_of result ≡ counted_o (constant_at (abs w.now) i)) × (IfSome result (λ m. m ≤ 512)) }
 {
     if !is_first_run(w) {
@@ -160,7 +162,7 @@ pub fn constant(w: &[u32], i: usize) -> Option<usize>
 
 // The constant, of m nodes, takes the place of the identifier at node i.
 pub fn inline_constant(w: &mut [u32], i: usize, p: u32, m: usize) -> Result<usize, Refusal>
-    requires { (Planted w.old) × (i < size w.old) × ((node_of w.old i).kind ≡ 21) × (some m ≡ counted_o (constant_at (abs w.old) i)) × (m ≤ 512) }
+    requires { (Planted w.old) × (i < size w.old) × ((node_of w.old i).kind ≡ number_of Ident) × (some m ≡ counted_o (constant_at (abs w.old) i)) × (m ≤ 512) }
     ensures did { Did w.old w.new result (const_f p (value_tree (constant_at (abs w.old) i)) i (abs w.old)) }
     ensures kept { OnErr result (w.new ≡ w.old) }
 {

@@ -8,12 +8,12 @@ use mathlib.Core.Logic.{◌⊎◌, ⊎_elim, inl, inr}
 use Prim.Native.Nat.{ℕ, zero, suc, ◌+◌, ◌-◌}
 use native.Mathlib.Omega.{arith}
 use lib.Dec.{eqb}
-use lib.ListN.{get_or}
 use borrow.Author.Tests.{eqb-true, eq-eqb, ne_eqb}
 use Rattle.def_tree.specs.Tree.{Core, count}
 use Rattle.def_tree.specs.Combine.{node_at, tree_at, many}
 use Rattle.words.specs.Layout.{tree, node_of}
-use Rattle.def_pass.specs.Walk.{h_plain, handlers, to_pattern}
+use Rattle.def_file.specs.Named.{kind_of}
+use Rattle.def_pass.specs.Walk.{h_plain, handler_of, to_pattern}
 use Rattle.words_nodes.specs.Nodes.{tree_from}
 use Rattle.words_state.specs.State.{abs}
 use Rattle.laws_flat.specs.WalkF.{WalksF, walks_f, handle_f, plain_f, own_f, after_f, after_ident_f}
@@ -41,8 +41,8 @@ settled-parts false false true e = absurd (never e)
 settled-parts false true c e = absurd (never e)
 settled-parts true b c e = absurd (never e)
 
-plain-kind : (k : ℕ) → (eqb k 21 ≡ true) ⊎ (eqb k 22 ≡ true) → get_or handlers k h_plain ≡ h_plain
-plain-kind k o = ⊎_elim (λ e. ap (λ (m : ℕ). get_or handlers m h_plain) (eqb-true k 21 e)) (λ e. ap (λ (m : ℕ). get_or handlers m h_plain) (eqb-true k 22 e)) o
+plain-kind : (k : ℕ) → (eqb k 21 ≡ true) ⊎ (eqb k 22 ≡ true) → handler_of (kind_of k) ≡ h_plain
+plain-kind k o = ⊎_elim (λ e. ap (λ (m : ℕ). handler_of (kind_of m)) (eqb-true k 21 e)) (λ e. ap (λ (m : ℕ). handler_of (kind_of m)) (eqb-true k 22 e)) o
 
 -- of these two, what is no identifier has no step behind it
 literal : (k : ℕ) → (eqb k 21 ≡ true) ⊎ (eqb k 22 ≡ true) → (k ≡ 21 → ⊥) → (not (eqb k 21) && (not (eqb k 32) && not (eqb k 33))) ≡ true

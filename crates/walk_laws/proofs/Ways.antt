@@ -19,7 +19,10 @@ use Rattle.words.specs.Layout.{tree, node_of}
 use Rattle.words.proofs.Nodes.{tree-at}
 use Rattle.def_pass.specs.Scope.{VarType, ScopeKind, VarInfo, prevent_each, add_read, find_constant}
 use Rattle.def_pass.specs.Tree.{bound_names}
-use Rattle.def_pass.specs.Walk.{St, modify, opening, restore, deeper, shallower, set_inlining, set_in_test, set_conds, set_var_decl_kind, set_pat_mode, as_param, decl_kind_of, set_changed, tally, same_ident, replace, when, mark, to_pattern, Handler, handlers, h_plain}
+use Rattle.def_file.specs.declared.kind.Kind.{Kind}
+use Rattle.def_file.specs.declared.kind.Kind.TheVariants.{Invalid}
+use Rattle.def_file.specs.Named.{kinds, kind_of}
+use Rattle.def_pass.specs.Walk.{St, modify, opening, restore, deeper, shallower, set_inlining, set_in_test, set_conds, set_var_decl_kind, set_pat_mode, as_param, decl_kind_of, set_changed, tally, same_ident, replace, when, mark, to_pattern, Handler, handler_of, h_plain}
 use Rattle.words_nodes.specs.Nodes.{Planted, tree_from}
 use Rattle.words_state.specs.State.{rest, abs, Fielded, Act, Turns}
 use Rattle.words_state.proofs.Fields.{ok-self}
@@ -290,22 +293,22 @@ module _ (v : WalksF) (p i : ℕ) {w u : List ℕ} {a : Result ℕ Refusal} wher
   after-assign e s d = subst (λ (b : Bool). Did w u a (after_by v p b (eqb (node_at (abs w) i).kind 33 && eqb (node_at (abs w) i).form 0) i (abs w))) (sym e) (subst (λ (b : Bool). Did w u a (after_by v p false b i (abs w))) (sym s) d)
 
 -- which handler a kind has
-pub own-by : (v : WalksF) (g : Handler) {w u : List ℕ} {a : Result ℕ Refusal} {i p d k : ℕ} → Here w 1 i p d → k ≡ (node_of w i).kind → get_or handlers k h_plain ≡ g → Did w u a (handle_f g v p i (abs w)) → Did w u a (own_f v p i (abs w))
+pub own-by : (v : WalksF) (g : Handler) {w u : List ℕ} {a : Result ℕ Refusal} {i p d k : ℕ} → Here w 1 i p d → k ≡ (node_of w i).kind → handler_of (kind_of k) ≡ g → Did w u a (handle_f g v p i (abs w)) → Did w u a (own_f v p i (abs w))
 unfolding own_f
-own-by v g {w} {u} {a} {i} {p} {d} {k} h e s x = subst (λ (y : Handler). Did w u a (handle_f y v p i (abs w))) (sym (ap (λ (m : ℕ). get_or handlers m h_plain) (kind-is h e) ∙ s)) x
+own-by v g {w} {u} {a} {i} {p} {d} {k} h e s x = subst (λ (y : Handler). Did w u a (handle_f y v p i (abs w))) (sym (ap (λ (m : ℕ). handler_of (kind_of m)) (kind-is h e) ∙ s)) x
 
--- handlers from index n on, of which each is the default one or has an index that k is not
-abbrev Off : ℕ → ℕ → List Handler → Type 0
+-- kinds from number n on, of which each has the default handler or a number that k is not
+abbrev Off : ℕ → ℕ → List Kind → Type 0
 Off k n [] = Unit {0}
-Off k n (h ∷ hs) = ((h ≡ h_plain) ⊎ (k ≡ n → ⊥)) × Off k (suc n) hs
+Off k n (x ∷ xs) = ((handler_of x ≡ h_plain) ⊎ (k ≡ n → ⊥)) × Off k (suc n) xs
 
-pub off-plain : (k n m : ℕ) (hs : List Handler) → k ≡ n + m → Off k n hs → get_or hs m h_plain ≡ h_plain
+pub off-plain : (k n m : ℕ) (xs : List Kind) → k ≡ n + m → Off k n xs → handler_of (get_or xs m (Invalid k)) ≡ h_plain
 off-plain k n m [] e o = refl
-off-plain k n zero (h ∷ hs) e o = ⊎_elim (λ x. x) (λ z. absurd (omega (arith, z, e))) o.0
-off-plain k n (suc m) (h ∷ hs) e o = off-plain k (suc n) m hs (omega (arith, e)) o.1
+off-plain k n zero (x ∷ xs) e o = ⊎_elim (λ h. h) (λ z. absurd (omega (arith, z, e))) o.0
+off-plain k n (suc m) (x ∷ xs) e o = off-plain k (suc n) m xs (omega (arith, e)) o.1
 
-pub kind-plain : (k : ℕ) → Off k 0 handlers → get_or handlers k h_plain ≡ h_plain
-kind-plain k o = off-plain k 0 k handlers (omega arith) o
+pub kind-plain : (k : ℕ) → Off k 0 kinds → handler_of (kind_of k) ≡ h_plain
+kind-plain k o = off-plain k 0 k kinds (omega arith) o
 
 -- an identifier: what each step did, and what follows it. const_f, value_f and swap_f of the steps are these
 abbrev pub swaps_f : ℕ → Tree → Walk St

@@ -4,6 +4,8 @@ use Rattle.std.specs.Prelude.{◌≡◌, List, ℕ, suc, ◌+◌, ◌≤◌, ◌
 use Rattle.std.proofs.Math.Option.{Option, none, some}
 use Rattle.def_tree.specs.Combine.{done, ◌>>◌, and_then, iff, node_at, tree_at, forest_at, set_arity, Walk as One, Walks as Many, on_rest, skip, many, split_f, each_but_f, on_kids_f}
 use Rattle.def_tree.specs.Tree.{Tree, Core}
+use Rattle.def_file.specs.declared.kind.Kind.TheVariants.{CatchClause, BindingIdent, Ident, Null, Bin, Assign}
+use Rattle.def_file.specs.Named.{number_of, is_kind}
 use Rattle.words.specs.Layout.{tree, node_of}
 use Rattle.def_pass.specs.Scope.{VarType}
 use Rattle.def_pass.specs.Walk.{St, as_catch, set_pat_mode, modify, head_bind}
@@ -21,16 +23,16 @@ pub record Here (w : List ℕ) (n i p d : ℕ) : Type 0 where
 
 -- an identifier or a literal without children
 abbrev pub bare_node : Core → Bool
-bare_node c = eqb c.arity 0 && (eqb c.kind 21 || eqb c.kind 22)
+bare_node c = eqb c.arity 0 && (is_kind Ident c.kind || is_kind Null c.kind)
 
 -- no identifier, no && or ||, no assignment
 abbrev pub settled_node : Core → Bool
-settled_node c = not (eqb c.kind 21) && (not (eqb c.kind 32) && not (eqb c.kind 33))
+settled_node c = not (is_kind Ident c.kind) && (not (is_kind Bin c.kind) && not (is_kind Assign c.kind))
 
 -- the first of n trees from i on is a binding
 pub record Bound (w : List ℕ) (n i : ℕ) : Type 0 where
   pub some : 0 < n
-  pub kind : (node_of w i).kind ≡ 20
+  pub kind : (node_of w i).kind ≡ number_of BindingIdent
 
 -- is the first of n trees from i on, if there is one, no binding
 abbrev pub Headed : List ℕ → ℕ → ℕ → Bool → Type 0
@@ -45,10 +47,10 @@ declr_end_f v p q o b k n i = λ st. and_then (declr_to_f v p o b k n i st) (λ 
 
 -- of visitMutTryStmtF: a part behind the block, and all
 abbrev pub clause_f : WalksF → ℕ → One St
-clause_f v p i = λ st. iff (eqb (node_at st i).kind 17) (v.full p i) (skip i) st
+clause_f v p i = λ st. iff (is_kind CatchClause (node_at st i).kind) (v.full p i) (skip i) st
 
 abbrev pub clauses_f : WalksF → ℕ → Many St
-clauses_f v p n i = many (λ i₁ st. iff (eqb (node_at st i₁).kind 17) (v.full p i₁) (skip i₁) st) n i
+clauses_f v p n i = many (λ i₁ st. iff (is_kind CatchClause (node_at st i₁).kind) (v.full p i₁) (skip i₁) st) n i
 
 -- visit_mut_catch_clause_f inside its scope
 abbrev pub caught_f : WalksF → ℕ → One St

@@ -3,6 +3,8 @@ ghost use Rattle.std.specs.Prelude.{◌≡◌, drop, ◌<◌, ◌≤◌, OnErr};
 ghost use Rattle.def_tree.specs.Tree.{length_f, plant};
 ghost use Rattle.def_tree.specs.Combine.{on_rest, tree_at, act_f};
 ghost use Rattle.def_pass.specs.Walk.{store_value, assign_first, assign_last};
+ghost use Rattle.def_file.specs.declared.kind.Kind.TheVariants.{BindingIdent};
+ghost use Rattle.def_file.specs.Named.{number_of};
 ghost use Rattle.refusal.specs.Number.{refused};
 ghost use Rattle.words.specs.Layout.{tree, node_of};
 ghost use Rattle.words_nodes.specs.Nodes.{Planted, size};
@@ -39,7 +41,7 @@ pub fn assign_first(w: &mut [u32], f: u32, n: usize, i: usize) -> Result<(), Ref
 
 // The value at j is recorded for the name at i, unless its binding is prevented.
 fn store_value(w: &mut [u32], i: usize, j: usize) -> Result<(), Refusal>
-    requires { (Planted w.old) × (i < size w.old) × (j < size w.old) × ((node_of w.old i).kind ≡ 20) }
+    requires { (Planted w.old) × (i < size w.old) × (j < size w.old) × ((node_of w.old i).kind ≡ number_of BindingIdent) }
     ensures did { Act w.old w.new (refused result) (on_rest (store_value (tree_at (abs w.old) i) (tree_at (abs w.old) j)) (abs w.old)) }
     ensures kept { OnErr result (w.new ≡ w.old) }
 {

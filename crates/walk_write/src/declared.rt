@@ -6,6 +6,7 @@ ghost use Rattle.def_pass.specs.Tree.{head_t};
 ghost use Rattle.def_pass.specs.Scope.{recorded};
 ghost use Rattle.def_pass.specs.Walk.{when, is_bind, as_ident, declare_m, declare_name, pat_by};
 ghost use Rattle.refusal.specs.Number.{refused};
+ghost use Rattle.def_file.specs.declared.kind.Kind.TheVariants.{BindingIdent, Ident};
 ghost use Rattle.def_file.specs.Named.{number_of};
 ghost use Rattle.words.specs.Layout.{tree, node_of};
 ghost use Rattle.words_scopes.specs.Kinds.{type_of};
@@ -45,7 +46,7 @@ pub fn declare_name(w: &mut [u32], i: usize) -> Result<(), Refusal>
 
 // The name at i becomes a binding or an identifier, with another form.
 fn turn(w: &mut [u32], i: usize, k: Kind, f: u32)
-    requires { (Planted w.old) × (i < size w.old) × (((node_of w.old i).kind ≡ 20) ⊎ ((node_of w.old i).kind ≡ 21)) × (number_of k < 64) × (f < 32) }
+    requires { (Planted w.old) × (i < size w.old) × (((node_of w.old i).kind ≡ number_of BindingIdent) ⊎ ((node_of w.old i).kind ≡ number_of Ident)) × (number_of k < 64) × (f < 32) }
     ensures { Replants w.old w.new (set (tree w.old) i (re_kind (number_of k) f (get_or (tree w.old) i no_core))) }
 {
     let x = node_at(w, layout::NODES, i);
@@ -59,7 +60,7 @@ fn turn(w: &mut [u32], i: usize, k: Kind, f: u32)
 
 // The binding at i is declared with its own identifier as its value: while it is recorded, the node is one, without the flag.
 fn declare_bound(w: &mut [u32], i: usize, kind: VarType) -> Result<(), Refusal>
-    requires { (Planted w.old) × (i < size w.old) × ((node_of w.old i).kind ≡ 20) }
+    requires { (Planted w.old) × (i < size w.old) × ((node_of w.old i).kind ≡ number_of BindingIdent) }
     ensures { Act w.old w.new (refused result) (act (λ t. declare_m t (recorded (as_ident t)) false (type_of kind)) i (abs w.old)) }
 {
     let name = name_at(w, i);

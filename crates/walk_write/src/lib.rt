@@ -9,6 +9,8 @@ ghost use Rattle.def_tree.specs.Combine.{on_rest, act, act_f};
 ghost use Rattle.def_pass.specs.Tree.{head_t, bound_names};
 ghost use Rattle.def_pass.specs.Scope.{prevent_each, mark_this_sensitive, ident_of};
 ghost use Rattle.def_pass.specs.Walk.{when, mark, write, write_tree, write_forest, write_name, but_last, assigning, pat_by, store_inline_barrier_m};
+ghost use Rattle.def_file.specs.declared.kind.Kind.TheVariants.{BindingIdent, Ident};
+ghost use Rattle.def_file.specs.Named.{number_of};
 ghost use Rattle.refusal.specs.Number.{refused};
 ghost use Rattle.words.specs.Layout.{tree, node_of};
 ghost use Rattle.scope_find.specs.Answers.{is_name};
@@ -40,7 +42,7 @@ fn is_name(w: &[u32], i: usize) -> bool
 
 // The name at node i is written, forced or not.
 pub fn write_ident(w: &mut [u32], i: usize, how: Write) -> Result<(), Refusal>
-    requires { (Planted w.old) × (i < size w.old) × (((node_of w.old i).kind ≡ 20) ⊎ ((node_of w.old i).kind ≡ 21)) }
+    requires { (Planted w.old) × (i < size w.old) × (((node_of w.old i).kind ≡ number_of BindingIdent) ⊎ ((node_of w.old i).kind ≡ number_of Ident)) }
     ensures { Act w.old w.new (refused result) (act (write (forced how)) i (abs w.old)) }
 {
     let name = name_at(w, i);
@@ -191,7 +193,7 @@ pub fn store_barrier(w: &mut [u32])
 
 // The binding at i, in an assignment's pattern: written, unless the current scope has it.
 pub fn write_unbound(w: &mut [u32], i: usize) -> Result<(), Refusal>
-    requires { (Planted w.old) × (i < size w.old) × ((node_of w.old i).kind ≡ 20) }
+    requires { (Planted w.old) × (i < size w.old) × ((node_of w.old i).kind ≡ number_of BindingIdent) }
     ensures { Act w.old w.new (refused result) (act (pat_by assigning) i (abs w.old)) }
 {
     let x = ident_at(w, i);

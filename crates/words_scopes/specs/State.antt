@@ -5,6 +5,8 @@ use Rattle.std.specs.Prelude as std
 use Rattle.std.proofs.Math.Option.{Option, none, some}
 use Rattle.def_tree.specs.Tree.{Tree, Core, no_core, flat, plant, first_t}
 use Rattle.def_tree.specs.Base.{pick}
+use Rattle.def_file.specs.declared.kind.Kind.TheVariants.{BindingIdent, Ident}
+use Rattle.def_file.specs.Named.{number_of}
 use Rattle.def_pass.specs.Tree.{is_ident, num}
 use Rattle.words_prevent.specs.declared.Binding.{Binding}
 pub use Rattle.words_scopes.specs.Kinds.{var_type_of, alias_at, scope_kind_of}
@@ -161,9 +163,9 @@ abbrev pub CFits : List Head → ℕ → Type 0
 CFits [] n = n ≡ 0
 CFits (h ∷ hs) n = (h.cstart ≤ n) × CFits hs h.cstart
 
--- a binding or an identifier (20, 21) has the number of an identifier
+-- a binding or an identifier has the number of an identifier
 abbrev pub Named : Core → Type 0
-Named c = (c.kind ≡ 20) ⊎ (c.kind ≡ 21) → c.num < 256
+Named c = (c.kind ≡ number_of BindingIdent) ⊎ (c.kind ≡ number_of Ident) → c.num < 256
 
 -- each node has; past the end is `no_core`, of kind 0
 abbrev pub Names : List Core → Type 0

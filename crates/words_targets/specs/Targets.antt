@@ -2,6 +2,8 @@
 use Rattle.std.specs.Prelude.{◌≡◌, Option, Some, None, List, [], ◌∷◌, Bool, false, ◌&&◌, ◌||◌, ℕ, suc, eqb, ◌≤◌, ◌<◌, length, get_or, drop}
 use Rattle.def_tree.specs.Base.{member}
 use Rattle.def_tree.specs.Tree.{Core}
+use Rattle.def_file.specs.declared.kind.Kind.TheVariants.{Ident}
+use Rattle.def_file.specs.Named.{is_kind}
 use Rattle.def_pass.specs.Targets.{aims}
 use Rattle.laws_flat.specs.PassF.{some!, bounds_l, next_is, targets_l}
 use Rattle.words.specs.Flags.{flag_at}
@@ -24,7 +26,7 @@ pub record Beside (w u : List ℕ) : Type 0 where
 -- the tree that comes next, itself a target, targets identifier i: it is that identifier, or binds it
 abbrev pub aimed : ℕ → List Core → Bool
 aimed i [] = false
-aimed i (c ∷ cs) = (eqb c.kind 21 && eqb c.num i) || member i (bounds_l 1 0 (c ∷ cs))
+aimed i (c ∷ cs) = (is_kind Ident c.kind && eqb c.num i) || member i (bounds_l 1 0 (c ∷ cs))
 
 -- the node where the target stands, if there is one: the test holds for what is targeted there
 abbrev pub Aimed : List ℕ → Option ℕ → (ℕ → Bool) → Type 0

@@ -2,6 +2,8 @@
 use Rattle.std.specs.Prelude.{Bool, true, false, ◌&&◌, List, [], ◌∷◌, ◌++◌, ◌≡◌, ℕ, ◌+◌, ◌≤◌, ◌<◌, eqb, length, get_or, take, drop}
 use Rattle.def_tree.specs.Base.{pick, to_nat}
 use Rattle.def_tree.specs.Tree.{Tree, Forest, node, nil, cons, length_f, counts, Core, core, no_core, flats, plant}
+use Rattle.def_file.specs.declared.kind.Kind.TheVariants.{VarDecl, BindingIdent}
+use Rattle.def_file.specs.Named.{number_of, is_kind}
 use Rattle.def_pass.specs.Tree.{head_t, bound_names_f}
 use Rattle.def_pass.specs.Twice.{is_named, among, no_literal, declarators, flags}
 use Rattle.laws_flat.specs.PassF.{some! }
@@ -40,7 +42,7 @@ Tells seen b = (x : ℕ) → x < 256 → told (get_or seen x Never) ≡ b x
 
 -- the node is a binding of i
 abbrev pub is_binding : ℕ → Core → Bool
-is_binding i c = eqb c.kind 20 && eqb c.num i
+is_binding i c = is_kind BindingIdent c.kind && eqb c.num i
 
 -- of the names that some trees bind, each that is i, with an initialiser that is no literal or not
 abbrev pub named : Bool → ℕ → Forest → List Bool
@@ -53,7 +55,7 @@ is_costly (cons name es) = no_literal name (head_t es)
 
 -- the declarations that a node itself makes, without those in it: a `var`'s
 abbrev pub own : ℕ → Tree → List Bool
-own i (node k f a ts) = pick (eqb k 5 && eqb f 0) (declarators i ts) []
+own i (node k f a ts) = pick (is_kind VarDecl k && eqb f 0) (declarators i ts) []
 
 -- how many of the c children of a function are its name
 abbrev pub outside : ℕ → ℕ → ℕ → ℕ
@@ -66,11 +68,11 @@ pub record Stand (xs : List Core) (i n : ℕ) : Type 0 where
 
 -- the bindings from i on have room for a flag
 pub record Plain (xs : List Core) (i : ℕ) : Type 0 where
-  pub low : (j : ℕ) → i ≤ j → (get_or xs j no_core).kind ≡ 20 → (get_or xs j no_core).form < 30
+  pub low : (j : ℕ) → i ≤ j → (get_or xs j no_core).kind ≡ number_of BindingIdent → (get_or xs j no_core).form < 30
 
 -- a node flagged, if it is a binding that passes the test
 abbrev pub flag_node : (ℕ → Bool) → Core → Core
-flag_node b c = core c.kind (pick (eqb c.kind 20 && b c.num) (c.form + 2) c.form) c.arity c.num
+flag_node b c = core c.kind (pick (is_kind BindingIdent c.kind && b c.num) (c.form + 2) c.form) c.arity c.num
 
 -- the n trees from i on, flagged in their place
 unfoldable pub flagged_from : (ℕ → Bool) → List Core → ℕ → ℕ → List Core

@@ -1,7 +1,7 @@
 -- Marks, and the count. Assumes nothing.
 use Rattle.std.proofs.Common.{sym, ◌∙◌}
 use Rattle.def_tree.specs.Base.{pick}
-use Rattle.def_pass.specs.Scope.{Stack, is_some, find_binding, change, read_once, add_unresolved, prevent_inline, prevent_inline_of_params, read_prevents_inlining, add_read}
+use Rattle.def_pass.specs.Scope.{Stack, is_some, find_binding, change, count_read, add_unresolved, prevent_inline, prevent_inline_of_params, read_prevents_inlining, add_read}
 use Rattle.words_scopes.specs.State.{Becomes, stack}
 use Rattle.scope_read_write.proofs.Limits as limits
 use Rattle.scope_read_write.proofs.add_read.Goals as goal
@@ -23,5 +23,5 @@ returns c =
       | then-args t ↦ limits.step-yes (stack u) t.if-args.true t.w-is t.prevent_inline_of_params.ensures
       | else-args t ↦ limits.step-no (prevent_inline_of_params (stack u)) marked.good t.if-args.false t.w-is
     ] in
-    limits.becomes-then (λ (st : Stack). pick (is_some (find_binding x st)) (change x read_once st) (add_unresolved x st))
+    limits.becomes-then (λ (st : Stack). pick (is_some (find_binding x st)) (change x count_read st) (add_unresolved x st))
     (limits.becomes-then (λ (st : Stack). pick c.args.args (prevent_inline_of_params st) st) marked params) c.count_read.ensures
