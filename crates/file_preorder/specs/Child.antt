@@ -8,7 +8,7 @@ use Rattle.def_file.specs.Script.{zero_node}
 use Rattle.def_file.specs.Read.{Place, node_ok, fills, nodes_from}
 use Rattle.def_kinds.specs.Pairs.{under, pairs}
 use Rattle.refusal.specs.declared.Refusal.{Refusal}
-use Rattle.refusal.specs.declared.Refusal.TheVariants.{Nodes}
+use Rattle.refusal.specs.Number.{number}
 use Rattle.file_preorder.specs.declared.Child.{Child}
 use Rattle.file_preorder.specs.declared.Child.TheVariants.{Binding, Other}
 
@@ -41,7 +41,7 @@ Kinded p x (Other j) = T (allows p.class x.kind x.arity) × (is_binding_name x.k
 -- the index behind is at most n; the node x has that kind; a refusal is by document 01's row 6
 abbrev pub Fits : Place → Raw → ℕ → Result Child Refusal → Type 0
 Fits p x n (Ok c) = (behind c ≤ n) × Kinded p x c
-Fits p x n (Err r) = r ≡ Nodes
+Fits p x n (Err r) = number r ≡ 6
 
 -- the n nodes of a file
 abbrev pub nodes_of : List ℕ → ℕ → List Raw

@@ -186,7 +186,7 @@ module _ (T : List ℕ) {bs : List ℕ} {h : Header} (C : CheckIs T bs (Ok h)) w
   row7 b e = C.2 ∙ ap {B = Read} (λ (b : Bool). elim b [ false ↦ bad 7 | true ↦ script s₀ ]) e
 
   pub few-script : {w w' : List ℕ} (m : Refusal) → lent T bs ≡ read_under T bs → Done bs w w' h.nodes h.texts (Err m) → LoadIs (lent T bs) bs w w' (Err m)
-  few-script m l d = load_is (bad 7) (l ∙ row7 false (lt-leb (length (idents s₀)) 256 d.next.1)) (sym (ap (λ (x : Refusal). bad (number x)) d.next.0)) tt d.kept
+  few-script m l d = load_is (bad 7) (l ∙ row7 false (lt-leb (length (idents s₀)) 256 d.next.1)) (sym (ap (λ (n : ℕ). bad n) d.next.0)) tt d.kept
 
   pub loaded-script : {w w' : List ℕ} → lent T bs ≡ read_under T bs → Done bs w w' h.nodes h.texts (Ok tt) → LoadIs (lent T bs) bs w w' (Ok h)
   loaded-script l d = load_is (script s₀) (l ∙ row7 true (le-leb (length (idents s₀)) 256 (few-ids C.1 d.next))) (s₀, refl, same) (held C.1 d.next) d.kept

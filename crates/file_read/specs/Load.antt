@@ -1,7 +1,7 @@
 -- What loading a script's core into the words promises. Assumes nothing: these are definitions.
 use Rattle.std.specs.Prelude.{◌≡◌, true, List, [], ℕ, ◌+◌, ◌*◌, ◌≤◌, ◌<◌, length, get_or, drop, take, Result, Ok, Err}
 use Rattle.refusal.specs.declared.Refusal.{Refusal}
-use Rattle.refusal.specs.declared.Refusal.TheVariants as Row
+use Rattle.refusal.specs.Number.{number}
 use Rattle.words.specs.Layout.{tree, beyond}
 use Rattle.def_file.specs.Script.{Script, has_id, enter_all, idents}
 use Rattle.def_file.specs.Core.{core_nodes}
@@ -47,7 +47,7 @@ pub record Kept (w w' : List ℕ) : Type 0 where
 -- one node more, or row 7
 abbrev pub Next : List ℕ → List ℕ → ℕ → ℕ → ℕ → Result Unit Refusal → Type 0
 Next bs w n t k (Ok u) = Loaded bs w n t k
-Next bs w n t k (Err r) = (r ≡ Row.Idents) × (256 < length (idents (script_of bs n t)))
+Next bs w n t k (Err r) = (number r ≡ 7) × (256 < length (idents (script_of bs n t)))
 
 pub record Step (bs w w' : List ℕ) (n t k : ℕ) (r : Result Unit Refusal) : Type 0 where
   pub kept : Kept w w'

@@ -22,7 +22,6 @@ use Rattle.words_targets.proofs.Targets.{beside-tree}
 use Rattle.std.specs.Prelude.{Result, Ok, Err}
 use Rattle.std.specs.Result.{IsOk}
 use Rattle.refusal.specs.declared.Refusal.{Refusal}
-use Rattle.refusal.specs.declared.Refusal.TheVariants.{Depth}
 use Rattle.scope_values.specs.Steps.{Limited}
 use Rattle.words_scopes.specs.declared.kinds.ScopeKind.{ScopeKind}
 use Rattle.words_scopes.specs.Kinds.{var_type_of, kind_of}
@@ -134,11 +133,11 @@ module _ {w u : List ℕ} (l : Loaded w) (f : Fields w u) where
       no : false ≡ true → ⊥
       no q = cc
 
-  pub opens : (v : List ℕ) (k : ScopeKind) (s : Result Unit Refusal) → Limited Depth (leb 32 (length (stack u))) u v (new_scope (kind_of k) ∷ stack u) s → IsOk s
+  pub opens : (v : List ℕ) (k : ScopeKind) (s : Result Unit Refusal) → Limited 8 (leb 32 (length (stack u))) u v (new_scope (kind_of k) ∷ stack u) s → IsOk s
   opens v k (Ok x) h = refl
   opens v k (Err r) h = absurd (full h.1)
 
-  opened : (v : List ℕ) (k : ScopeKind) (s : Result Unit Refusal) → kind_of k ≡ fn false → length v ≡ length u → Limited Depth (leb 32 (length (stack u))) u v (new_scope (kind_of k) ∷ stack u) s → targeted w ≡ targets_l (tree w) → Opened w v
+  opened : (v : List ℕ) (k : ScopeKind) (s : Result Unit Refusal) → kind_of k ≡ fn false → length v ≡ length u → Limited 8 (leb 32 (length (stack u))) u v (new_scope (kind_of k) ∷ stack u) s → targeted w ≡ targets_l (tree w) → Opened w v
   opened v k (Ok x) e z h q = begun h.0 z (rw (e, no-scope) refl) q
   opened v k (Err r) e z h q = absurd (full h.1)
 
@@ -169,7 +168,7 @@ module _ {w u : List ℕ} (l : Loaded w) (t : Targeted w u) where
 
 -- the targets, the fields and the root
 pub root-opened : {w u y : List ℕ} (l : Loaded w) (t : Targeted w u) (f : Fields u y) (v : List ℕ) (k : ScopeKind) (s : Result Unit Refusal) → kind_of k ≡ fn false → length v ≡ length y
-    → Limited Depth (leb 32 (length (stack y))) y v (new_scope (kind_of k) ∷ stack y) s → Opened w v
+    → Limited 8 (leb 32 (length (stack y))) y v (new_scope (kind_of k) ∷ stack y) s → Opened w v
 root-opened l t f v k s e z h = from-marked l t (opened (marked-loaded l t) f v k s e z h (marked-is l t))
 
 -- the flags last

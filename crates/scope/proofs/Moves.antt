@@ -6,7 +6,6 @@ use Prim.Native.Nat.{ℕ}
 use lib.ListN.{length, get_or}
 use Rattle.std.specs.Prelude.{Result, Ok, Err}
 use Rattle.refusal.specs.declared.Refusal.{Refusal}
-use Rattle.refusal.specs.Number.{number}
 use Rattle.def_tree.specs.Combine.{Res, stop, done, Nothing, and_then}
 use Rattle.def_pass.specs.Scope.{Stack}
 use Rattle.def_pass.specs.Walk.{St, M, set_stack, mark, grow}
@@ -47,7 +46,7 @@ module _ {w u : List ℕ} (f : Stack → Stack) (g : Planted w) (z : length u �
   grown-moves (Err r) b = record {
     ok = rw b.2 (ok-self g);
     nodes = ap tree b.2;
-    is = grow-by f (rest w) true (rw (rest-stack w) b.1) ∙ ap (λ (q : Refusal). stop (number q)) (sym b.0);
+    is = grow-by f (rest w) true (rw (rest-stack w) b.1) ∙ ap (λ (n : ℕ). stop n) (sym b.0);
   }
 
 -- nothing done

@@ -25,7 +25,7 @@ pub became : {w u : List ℕ} {st : Stack} → Planted w → Becomes w u st → 
 became r b = keep r b.good b.tree
 
 -- a step keeps it, whether it is refused or not
-pub limited : (n : Refusal) (t : Bool) (w u : List ℕ) (st : Stack) (s : Result Unit Refusal) → Planted w → records.Limited n t w u st s → Planted u
+pub limited : (n : ℕ) (t : Bool) (w u : List ℕ) (st : Stack) (s : Result Unit Refusal) → Planted w → records.Limited n t w u st s → Planted u
 limited n t w u st (Ok _) r l = became r l.0
 limited n t w u st (Err _) r l = rw l.2 r
 

@@ -111,7 +111,7 @@ pub fn close(w: &mut [u32]) -> u32
 // Opens a scope.
 pub fn open_scope(w: &mut [u32], scope: Scope) -> Result<(), Refusal>
     requires { Good w.old }
-    ensures { Limited Refusal.Depth (nat_le 32 (length (stack w.old))) w.old w.new (new_scope (kind_of scope.kind) ∷ stack w.old) result }
+    ensures { Limited 8 (nat_le 32 (length (stack w.old))) w.old w.new (new_scope (kind_of scope.kind) ∷ stack w.old) result }
 {
     if 32 <= w[layout::SCOPE_COUNT] {
         return Err(Refusal::Depth);

@@ -11,7 +11,7 @@ use Rattle.words.specs.declared.Run.{Run}
 use Rattle.words.specs.declared.layout.Table.{Table}
 use Rattle.words_scopes.specs.declared.Record.{Record}
 use Rattle.refusal.specs.declared.Refusal.{Refusal}
-use Rattle.refusal.specs.declared.Refusal.TheVariants.{Room}
+use Rattle.refusal.specs.Number.{number}
 
 -- in a store of values at base: old nodes at `at` gave way to the m nodes of the tree from i on, and those behind, up to `end`, were shifted
 pub record Spliced (w w' : List ℕ) (base at old end i m : ℕ) : Type 0 where
@@ -71,24 +71,24 @@ pub record Still (w w' : List ℕ) : Type 0 where
   pub others : Others w w'
   pub rest : beyond w' ≡ beyond w
 
--- a step to st that is refused where a test holds, before it stores anything
-abbrev pub Limited : Refusal → Bool → List ℕ → List ℕ → Stack → Result Unit Refusal → Type 0
+-- a step to st that is refused by row n where a test holds, before it stores anything
+abbrev pub Limited : ℕ → Bool → List ℕ → List ℕ → Stack → Result Unit Refusal → Type 0
 Limited n test w w' st (Ok _) = Becomes w w' st × (test ≡ false)
-Limited n test w w' st (Err r) = (r ≡ n) × (test ≡ true) × (w' ≡ w)
+Limited n test w w' st (Err r) = (number r ≡ n) × (test ≡ true) × (w' ≡ w)
 
 -- a refusal for want of room, if a test holds
 abbrev pub Roomed : Result Unit Refusal → Bool → Type 0
 Roomed (Ok _) test = test ≡ false
-Roomed (Err r) test = (r ≡ Room) × (test ≡ true)
+Roomed (Err r) test = (number r ≡ 9) × (test ≡ true)
 
 -- definition's `grow`
 abbrev pub Grown : List ℕ → List ℕ → Stack → Result Unit Refusal → Type 0
-Grown w w' st r = Limited Room (over st) w w' st r
+Grown w w' st r = Limited 9 (over st) w w' st r
 
 -- the same of a step that marks bindings before it is refused
 abbrev pub GrownLate : List ℕ → List ℕ → Stack → Result Unit Refusal → Type 0
 GrownLate w w' st (Ok x) = Grown w w' st (Ok x)
-GrownLate w w' st (Err r) = (r ≡ Room) × (over st ≡ true) × Still w w'
+GrownLate w w' st (Err r) = (number r ≡ 9) × (over st ≡ true) × Still w w'
 
 -- the value that a run of the tree's nodes is, none if it is empty
 abbrev pub run_value : List ℕ → Run → Option Tree

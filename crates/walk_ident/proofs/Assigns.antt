@@ -13,7 +13,6 @@ use Rattle.words.specs.Layout.{node_of, tree}
 use Rattle.words.proofs.Nodes.{tree-length, tree-at}
 use Rattle.words_scopes.specs.State.{Becomes, stack}
 use Rattle.refusal.specs.declared.Refusal.{Refusal}
-use Rattle.refusal.specs.Number.{number}
 use Rattle.scope_values.specs.Steps.{over, Grown}
 use Rattle.scope.specs.Steps.{Did}
 use Rattle.scope_find.specs.Look.{node_tree}
@@ -174,7 +173,7 @@ module _ {w u : List ℕ} (p x : ℕ) (e : Tree) (i : ℕ) (P : Planted w) (z : 
   pub first-stop : (r : Refusal) → Grown w u (change x (λ c. defined (with_value v c)) (stack w)) (Err r) → Did w u (Err r) (first_f p x e i (abs w))
   first-stop r g =
       let o : over (change x (λ c. defined (with_value (some e) c)) (stack w)) ≡ true = rw q at g.1 in
-      record { ok = rw g.2 (ok-self P); is = first-over w p x e i o ∙ ap (λ (r : Refusal). stop (number r)) (sym g.0) }
+      record { ok = rw g.2 (ok-self P); is = first-over w p x e i o ∙ ap (λ (n : ℕ). stop n) (sym g.0) }
 
   pub first_on : {y : List ℕ} {a : Result ℕ Refusal} {t : Tree} → Grown w u (change x (λ c. defined (with_value v c)) (stack w)) (Ok tt) → t ≡ e → Did u y a (swap_f p t i (abs u)) → Did w y a (first_f p x e i (abs w))
   first_on {y} {a} {t} g k d =

@@ -83,4 +83,4 @@ pub analysed : {w v u : List ℕ} {i x f : ℕ} → Planted w → i < get_or w 0
 analysed {w} {v} {u} {i} {x} {f} P l n m z a b =
     let q : add_read x (eqb f 1) (stack v) ≡ add_read (node_of w i).num (eqb (node_of w i).form 1) (test_stack (rest w).in_test (node_of w i).num (stack w)) = rw (a.is, n, m) refl in
     let d = becomes-then a (rw q at b) in
-    record { ok = becomes-ok P z d; acts = acts-done u (analysis-is w i l) (becomes-abs P d) }
+    record { ok = becomes-ok P z d; nodes = d.tree; acts = acts-done u (analysis-is w i l) (becomes-abs P d) }

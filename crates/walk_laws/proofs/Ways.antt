@@ -132,7 +132,7 @@ module _ (f : Walk St) (i k n : ℕ) {w u : List ℕ} {j : ℕ} (d : Did w u (Ok
 
 -- a change of one field, as a step
 pub turn-act : {w u : List ℕ} (f : St → St) → Turns w u (f (rest w)) → Act w u 0 (on_rest (modify f) (abs w))
-turn-act f t = record { ok = t.ok; acts = (refl, ap₂ {C = Flat St} (λ xs s. record { nodes = xs; rest = s }) t.nodes t.is) }
+turn-act f t = record { ok = t.ok; nodes = t.nodes; acts = (refl, ap₂ {C = Flat St} (λ xs s. record { nodes = xs; rest = s }) t.nodes t.is) }
 
 pub modify-then : {B : Type 0} {w u v : List ℕ} {b : Result B Refusal} (f : St → St) (m : F B) → Turns w u (f (rest w)) → Did u v b (m (abs u)) → Did w v b (and_then (on_rest (modify f) (abs w)) (λ x. m))
 modify-then f m t d = act-then (λ x. m) (turn-act f t) d

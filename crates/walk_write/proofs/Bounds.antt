@@ -99,7 +99,7 @@ module _ {w₀ w : List ℕ} {i more at : ℕ} (d : Preventing w₀ w i more at)
   unfolding forest_from
   preventing-all z =
       let e : mark (prevent_each (bound_names_f (forest_from (tree w) more at) [])) (rest w) ≡ mark (λ st. st) (rest w) = rw z refl in
-      step-act (mark (prevent_each (bound_names (tree_at (abs w₀) i) []))) (step-as (sym (d.left ∙ e)) (record { ok = d.ok; does = (refl, d.nodes, refl) }))
+      step-act (mark (prevent_each (bound_names (tree_at (abs w₀) i) []))) (step-as (sym (d.left ∙ e)) (record { ok = d.ok; nodes = d.nodes; does = (refl, d.nodes, refl) }))
 
   pub count_kept : get_or w 0 0 ≡ get_or w₀ 0 0
   count_kept = sym (tree-length w) ∙ ap length d.nodes ∙ tree-length w₀

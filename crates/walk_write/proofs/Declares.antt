@@ -131,7 +131,7 @@ module _ {w : List ℕ} (g : Planted w) (i : ℕ) (l : i < get_or w 0 0) (k : (n
         let back : tree w₃ ≡ tree w = c.is ∙ ap (λ (xs : List Core). set xs i (re_kind 20 b (get_or xs i no_core))) e ∙ turned-back (tree w) i f b inside (ap (λ (c : Core). c.kind) (tree-at w i l) ∙ k) (ap (λ (c : Core). c.form) (tree-at w i l) ∙ sym eb) in
         let same : rest w₃ ≡ rest w₂ = turned-rest declared.ok.planted i still-in (re_kind 20 b (get_or (tree w₂) i no_core)) c in
         let by : ℕ → ℕ → Bool → Res St Nothing = λ h y p. grow (declare (ltb 1 h) y (recorded (as_ident name)) p v) (rest w) in
-        let d : Step w w₃ (refused s) (to (rest w)) = record { ok = ok-then (ok-then (replants-ok a) declared.ok) (replants-ok c); does = go back same (to (rest w)) declared.does } in
+        let d : Step w w₃ (refused s) (to (rest w)) = record { ok = ok-then (ok-then (replants-ok a) declared.ok) (replants-ok c); nodes = back; does = go back same (to (rest w)) declared.does } in
         step-act (declare_m name (recorded (as_ident name)) false v) (step-as (ap (λ (h : ℕ). by h x false) form-is ∙ ap (λ (y : ℕ). by (form name) y false) (q ∙ sym (num-here w i l)) ∙ ap (λ (p : Bool). by (form name) (num name) p) (sym (valued (is_var (rest w).var_decl_kind) (rest w).inlining (as_ident name)))) d)
       where
         go : tree w₃ ≡ tree w → rest w₃ ≡ rest w₂ → (r : Res St Nothing) → Does w₁ w₂ (refused s) r → Does w w₃ (refused s) r

@@ -30,6 +30,7 @@ Does w u n (done s x) = (n ≡ 0) × (tree u ≡ tree w) × (rest u ≡ s)
 
 pub record Step (w u : List ℕ) (n : ℕ) (r : Res St Nothing) : Type 0 where
   pub ok : state.Ok w u
+  pub nodes : tree u ≡ tree w
   pub does : Does w u n r
 
 flat-eq : {a b : List Core} {s t : St} → a ≡ b → s ≡ t → ◌≡◌ {A = Flat St} (record { nodes = a; rest = s }) (record { nodes = b; rest = t })
@@ -37,14 +38,14 @@ flat-eq p q = cc
 
 module _ {w u : List ℕ} {n : ℕ} where
   pub step-act : (m : M St Nothing) → Step w u n (m (rest w)) → Act w u n (on_rest m (abs w))
-  step-act m d = record { ok = d.ok; acts = go (m (rest w)) d.does }
+  step-act m d = record { ok = d.ok; nodes = d.nodes; acts = go (m (rest w)) d.does }
     where
       go : (r : Res St Nothing) → Does w u n r → Acts u n (carry (λ (s : St) (a : Nothing). record { nodes = tree w; rest = s }) (λ (a : Nothing). a) r)
       go (stop k) x = x
       go (done s y) x = (x.0, flat-eq x.1 x.2)
 
   pub act-step : (m : M St Nothing) → Act w u n (on_rest m (abs w)) → Step w u n (m (rest w))
-  act-step m d = record { ok = d.ok; does = go (m (rest w)) d.acts }
+  act-step m d = record { ok = d.ok; nodes = d.nodes; does = go (m (rest w)) d.acts }
     where
       go : (r : Res St Nothing) → Acts u n (carry (λ (s : St) (a : Nothing). record { nodes = tree w; rest = s }) (λ (a : Nothing). a) r) → Does w u n r
       go (stop k) x = x
@@ -52,12 +53,12 @@ module _ {w u : List ℕ} {n : ℕ} where
 
 -- nothing is done
 pub step-none : {w : List ℕ} → Planted w → Step w w 0 (done (rest w) tt)
-step-none g = record { ok = ok-self g; does = (refl, refl, refl) }
+step-none g = record { ok = ok-self g; nodes = refl; does = (refl, refl, refl) }
 
 -- one step, and then another; the first one refuses
 module _ {w u : List ℕ} {n : ℕ} {r : Res St Nothing} (k : M St Nothing) (d : Step w u n r) where
   pub step_then : {v : List ℕ} {p : ℕ} → n ≡ 0 → Step u v p (k (rest u)) → Step w v p (and_then r (λ a. k))
-  step_then {v} {p} z e = record { ok = ok-then d.ok e.ok; does = go r d.does e.does }
+  step_then {v} {p} z e = record { ok = ok-then d.ok e.ok; nodes = e.nodes ∙ d.nodes; does = go r d.does e.does }
     where
       from : (r : Res St Nothing) → tree u ≡ tree w → Does u v p r → Does w v p r
       from (stop m) q x = x
@@ -68,7 +69,7 @@ module _ {w u : List ℕ} {n : ℕ} {r : Res St Nothing} (k : M St Nothing) (d :
       go (done s a) x y = from (k s) x.1 (rw x.2 at y)
 
   pub step-stop : 0 < n → Step w u n (and_then r (λ a. k))
-  step-stop z = record { ok = d.ok; does = go r d.does }
+  step-stop z = record { ok = d.ok; nodes = d.nodes; does = go r d.does }
     where
       go : (r : Res St Nothing) → Does w u n r → Does w u n (and_then r (λ a. k))
       go (stop m) x = x
@@ -92,7 +93,7 @@ step-done {w} {u} {n} {r} d z = go r d.does
 
 -- after steps that left the tree alone
 pub step-on : {v w u : List ℕ} {n : ℕ} {r : Res St Nothing} → state.Ok v w → tree w ≡ tree v → Step w u n r → Step v u n r
-step-on {v} {w} {u} {n} {r} o t d = record { ok = ok-then o d.ok; does = go r d.does }
+step-on {v} {w} {u} {n} {r} o t d = record { ok = ok-then o d.ok; nodes = d.nodes ∙ t; does = go r d.does }
   where
     go : (r : Res St Nothing) → Does w u n r → Does v u n r
     go (stop m) x = x
@@ -120,7 +121,7 @@ module _ {w u : List ℕ} (g : Planted w) where
   -- the scopes became another stack
   pub mark-step : (f : Stack → Stack) → Becomes w u (f (stack w)) → Step w u 0 (mark f (rest w))
   unfolding rest
-  mark-step f b = let t = becomes-turns g (size_of g.good b.good b.rest) b in record { ok = t.ok; does = (refl, t.nodes, t.is) }
+  mark-step f b = let t = becomes-turns g (size_of g.good b.good b.rest) b in record { ok = t.ok; nodes = t.nodes; does = (refl, t.nodes, t.is) }
 
   still-ok : Good u → tree u ≡ tree w → Others w u → beyond u ≡ beyond w → state.Ok w u
   still-ok h t o b = (becomes-turns g (size_of g.good h b) (record { good = h; is = refl; tree = t; others = o; rest = b })).ok
@@ -130,18 +131,18 @@ module _ {w u : List ℕ} (g : Planted w) where
     unfolding rest
     grown b e = step-as (sym (grow-done f (rest w) e)) (mark-step f b)
 
-    over : {n : ℕ} → n ≡ 9 → records.over (f (stack w)) ≡ true → state.Ok w u → Step w u n (grow f (rest w))
+    over : {n : ℕ} → n ≡ 9 → records.over (f (stack w)) ≡ true → state.Ok w u → tree u ≡ tree w → Step w u n (grow f (rest w))
     unfolding rest
-    over z e o = step-as (sym (grow-stop f (rest w) e)) (record { ok = o; does = (z, omega (arith, z)) })
+    over z e o t = step-as (sym (grow-stop f (rest w) e)) (record { ok = o; nodes = t; does = (z, omega (arith, z)) })
 
     -- by its answer
     pub record-step : (r : Result Unit Refusal) → records.Grown w u (f (stack w)) r → Step w u (refused r) (grow f (rest w))
     record-step (Ok _) b = grown b.0 b.1
-    record-step (Err e) b = over (ap number b.0) b.1 (rw b.2 (ok-self g))
+    record-step (Err e) b = over b.0 b.1 (rw b.2 (ok-self g)) (ap tree b.2)
 
     pub late-step : (r : Result Unit Refusal) → records.GrownLate w u (f (stack w)) r → Step w u (refused r) (grow f (rest w))
     late-step (Ok _) b = grown b.0 b.1
-    late-step (Err e) b = over (ap number b.0) b.1 (still-ok b.2.good b.2.tree b.2.others b.2.rest)
+    late-step (Err e) b = over b.0 b.1 (still-ok b.2.good b.2.tree b.2.others b.2.rest) b.2.tree
 
 -- an exit by `?`
 pub act-exit : {w u : List ℕ} (e : Refusal) {x : Res (Flat St) Nothing} (r : Result Unit Refusal) → IsErrAnd r (λ y. y ≡ e) → Act w u (number e) x → Act w u (refused r) x

@@ -67,7 +67,7 @@ module _ {w₀ w : List ℕ} {force : Bool} {n i more at : ℕ} (d : Writing w�
   unfolding write_forest writes forest_from forest_at
   writing-all z =
       let e : writes force (ident_list_f (forest_from (tree w) more at) []) (rest w) ≡ done (rest w) tt = rw z refl in
-      step-act (write_forest force (forest_at (abs w₀) n i)) (step-as (sym (d.left ∙ e)) (record { ok = d.ok; does = (refl, d.nodes, refl) }))
+      step-act (write_forest force (forest_at (abs w₀) n i)) (step-as (sym (d.left ∙ e)) (record { ok = d.ok; nodes = d.nodes; does = (refl, d.nodes, refl) }))
 
   module _ (z : 0 < more) where
     abbrev g : Planted w

@@ -80,8 +80,10 @@ abbrev pub Acts : List ℕ → ℕ → Res (Flat St) Nothing → Type 0
 Acts u n (stop m) = (n ≡ m) × (0 < n)
 Acts u n (done st x) = (n ≡ 0) × (abs u ≡ st)
 
+-- a step that leaves the tree's nodes as they were, whether it refuses or not
 pub record Act (w u : List ℕ) (n : ℕ) (r : Res (Flat St) Nothing) : Type 0 where
   pub ok : Ok w u
+  pub nodes : tree u ≡ tree w
   pub acts : Acts u n r
 
 -- a step that never refuses

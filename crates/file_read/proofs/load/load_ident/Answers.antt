@@ -4,6 +4,7 @@ use Rattle.std.proofs.lemmas.Result.{err_from_is_err_and}
 use Rattle.def_tree.specs.Base.{to_nat}
 use Rattle.words.proofs.Nodes.{tree-same}
 use Rattle.refusal.specs.declared.Refusal.TheVariants as Row
+use Rattle.refusal.specs.Number.{number}
 use Rattle.def_file.specs.declared.Raw.{Raw}
 use Rattle.def_file.proofs.Named.{numbered}
 use Rattle.def_file.specs.Script.{zero_node, same_text, is_arguments, has_id, enter as entered, place_of}
@@ -43,7 +44,7 @@ returns-in_err-j c =
     let C = subst (Case a.file.now a.words.now c.enter.new.words a.h.nodes (raw_of (drop (32 + 16 * a.k) a.file.now))) c.in_err-j.ensures.ok_part E.case in
     let e = err_from_is_err_and c.from_residual.result c.from_residual.ensures.1 in
     let row : c.in_err-j.field-0.0 ≡ Row.Idents = cc (c.in_err-j.ensures.value ∙ ap (λ (o : Option ℕ). ok_or o Row.Idents) c.in_err-j.ensures.ok_part) in
-    rw e.1 (record { kept = kept-mid E.size E.last; next = (e.2 ∙ row, over L (rw (sym raw) C)) })
+    rw e.1 (record { kept = kept-mid E.size E.last; next = (ap number (e.2 ∙ row), over L (rw (sym raw) C)) })
 
 pub returns : goal.returns
 returns c =
