@@ -51,7 +51,7 @@ has_all() {
     dpkg-deb --contents "$deb" >"$out/contents" || return
     for file in usr/bin/negbosun usr/bin/negbosun-inline usr/bin/negbosun-script usr/include/negbosun.h "usr/lib/$multiarch/libnegbosun.a" \
         "usr/lib/$multiarch/pkgconfig/negbosun.pc" usr/share/doc/negbosun/{copyright,TREE.md,MILLERS.md,SAME_MEANING.md} \
-        usr/lib/negbosun/script/{src/own_text.js,src/page.js,same/check.js,guard/child.js}; do
+        usr/lib/negbosun/script/{src/own_text.js,src/page.js,same/check.js,guard/child.js,steps/count.js}; do
         grep -q " \./$file\( ->.*\)\?\$" "$out/contents" || { echo "no $file"; return 1; }
     done
     ! grep -v " root/root " "$out/contents"

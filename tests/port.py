@@ -145,9 +145,11 @@ def program(count, path, stored):
         got = subprocess.run([path], input=file, capture_output=True, check=False)
         count.check(got.returncode == 0 and agrees(got.stdout.decode(), answer), "program, file %d: %.200r", number, got.stdout)
     print("program: %d" % len(files))
-    for words in (["--help"], ["gate.tree"], [""]):
+    for words, status in ((["-h"], 0), (["--help"], 0), (["--help", "x"], 0), (["gate.tree"], 2), ([""], 2), (["-"], 2), (["--helpx"], 2), (["x", "--help"], 2), (["x" * 200], 2)):
         got = subprocess.run([path] + words, input=files[0][0], capture_output=True, check=False)
-        count.check(got.stdout == b"" and got.stderr.startswith(b"usage: negbosun < FILE.tree\n"), "program, given %r: %.200r", words, got.stderr)
+        said, silent = (got.stderr, got.stdout) if status else (got.stdout, got.stderr)
+        good = got.returncode == status and silent == b"" and said.startswith(b"usage: negbosun < FILE.tree\n")
+        count.check(good, "program, given %r: status %d, %.200r, %.200r", words, got.returncode, got.stdout, got.stderr)
 
 
 def piped(path, file):

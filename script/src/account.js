@@ -5,6 +5,8 @@ const { noteOf } = require('./compare');
 const { preorder } = require('./kinds');
 const { limitsOf } = require('./limits');
 const { countedVariables, whyChanged } = require('./reasons');
+const { treeOfText, withinDepth } = require('./to_tree');
+const { ScriptTrouble } = require('./trouble');
 const { FAILED, REFUSED, verdictOf } = require('./verdict');
 
 const count = (edits, how) => edits.filter((edit) => edit.how === how).length;
@@ -54,11 +56,22 @@ function accountOf({ name, text, root, answer, own, outcome, verdict, isHeld }) 
   };
 }
 
+// The room that a script takes, as far as it can be read at all.
+function limitsOfText(text) {
+  if (text === null) return [];
+  try {
+    return withinDepth(text, () => limitsOf(treeOfText(text)));
+  } catch (error) {
+    if (error instanceof ScriptTrouble) return [];
+    throw error;
+  }
+}
+
 // A script that has no result: `refusals` have line, column (both null where there is no place), message and what to do.
 function refusedAccount(name, text, refusals, isToolsFault = false) {
   const verdict = isToolsFault ? FAILED : REFUSED;
   return {
-    file: name, verdict, isWritten: false, counts: null, limits: [], variables: [], changes: [], trials: null, refusals, script: text, result: null,
+    file: name, verdict, isWritten: false, counts: null, limits: isToolsFault ? [] : limitsOfText(text), variables: [], changes: [], trials: null, refusals, script: text, result: null,
   };
 }
 

@@ -8,12 +8,16 @@ const { writeTreeFile, meaningOf } = require('./tree_file');
 
 const answerTo = (root, options) => runPort(writeTreeFile(root), meaningOf(root), options);
 
+function refusalOf(number, root, options) {
+  return tableTrouble(number, root, options.kinds) || refusalTrouble(number, root, (other) => answerTo(other, options).refused, { runs: options.runs });
+}
+
 // The script's tree and the port's answer, or a trouble with its place.
 function build(text, options) {
   const root = treeOfText(text);
   return withinDepth(text, () => {
     const answer = answerTo(root, options);
-    if (answer.refused) throw tableTrouble(answer.refused, root, options.kinds) || refusalTrouble(answer.refused, root, (other) => answerTo(other, options).refused);
+    if (answer.refused) throw refusalOf(answer.refused, root, options);
     checkKinds(root, options.kinds);
     return { root, answer };
   });

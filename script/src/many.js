@@ -58,7 +58,7 @@ function pageFiles(entries) {
 
 function writePages(entries, { page, files }) {
   const isOneFile = entries.length === 1 && !page.endsWith('/') && !isFolder(page) && !files.some(isFolder);
-  if (isOneFile) write(pageOf(entries[0].account, entries[0].edits), page === '-' ? undefined : page, files);
+  if (isOneFile) write(pageOf(entries[0].account, entries[0].edits), page === '-' ? undefined : page, files, '--page');
   else if (page === '-') throw new UsageTrouble('--page - is for one script; name a folder for many');
   else writeFolder(page, pageFiles(entries), entries.map(({ file }) => file), '--page');
 }

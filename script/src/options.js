@@ -8,7 +8,6 @@ const many = require('./many_options');
 const { readKindTable } = require('./kind_table');
 const { DOCS, NAME } = require('./name');
 const { MOST_RUNS } = require('./port');
-const { WORDS } = require('./refusals');
 const { UsageTrouble } = require('./trouble');
 const { VERSION } = require('./version');
 
@@ -75,7 +74,7 @@ function whole(text, name, low, high) {
 }
 
 function runLimit(text) {
-  if (!/^\d+$/.test(text) || Number(text) < 1 || Number(text) > MOST_RUNS) throw new UsageTrouble(`refusal 1: ${WORDS[1]}`);
+  if (!/^\d+$/.test(text) || Number(text) < 1 || Number(text) > MOST_RUNS) throw new UsageTrouble(`refusal 1: --runs takes a number from 1 to ${MOST_RUNS}`);
   return Number(text);
 }
 

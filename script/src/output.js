@@ -8,11 +8,11 @@ const { writeAll } = require('./descriptor');
 const { UsageTrouble } = require('./trouble');
 
 // Where a name leads in the end; a device or folder is never replaced, nor a script by its result.
-function placeOf(file, scripts) {
+function placeOf(file, scripts, option) {
   if (!fs.existsSync(file)) return file;
   const real = fs.realpathSync(file);
-  if (!fs.statSync(real).isFile()) throw new UsageTrouble(`--out ${file}: not a plain file`);
-  if (scripts.some((script) => fs.existsSync(script) && fs.realpathSync(script) === real)) throw new UsageTrouble(`--out ${file}: that is the script`);
+  if (!fs.statSync(real).isFile()) throw new UsageTrouble(`${option} ${file}: not a plain file`);
+  if (scripts.some((script) => fs.existsSync(script) && fs.realpathSync(script) === real)) throw new UsageTrouble(`${option} ${file}: that is the script`);
   return real;
 }
 
@@ -23,6 +23,8 @@ const WORDS = {
   ENOTDIR: () => 'a part of this name is a file and no folder',
   EACCES: () => 'this may not be written here',
   EROFS: () => 'nothing can be written here',
+  EFBIG: () => 'files may not be so large here',
+  EDQUOT: () => 'there is no room left for this user',
   ENOSPC: () => 'there is no room left on the disk',
 };
 
@@ -41,15 +43,15 @@ function remove(place) {
 }
 
 // A file is written beside its name and then moved there.
-function writeFile(file, bytes, scripts) {
-  const place = placeOf(file, scripts);
+function writeFile(file, bytes, scripts, option) {
+  const place = placeOf(file, scripts, option);
   const beside = path.join(path.dirname(place), `.${path.basename(place)}.${process.pid}`);
   try {
     fs.writeFileSync(beside, bytes, { flag: 'wx' });
     fs.renameSync(beside, place);
   } catch (error) {
     remove(beside);
-    throw plainly(error, `--out ${file}`, file);
+    throw plainly(error, `${option} ${file}`, file);
   }
 }
 
@@ -69,10 +71,10 @@ function writeOut(bytes) {
   }
 }
 
-// `scripts` are the files that were read.
-function write(content, file, scripts = []) {
+// `scripts` are the files that were read, `option` is the one that names the file.
+function write(content, file, scripts = [], option = '--out') {
   const bytes = Buffer.from(content);
-  if (file) writeFile(file, bytes, scripts);
+  if (file) writeFile(file, bytes, scripts, option);
   else writeOut(bytes);
 }
 

@@ -146,7 +146,7 @@ function variablesPart({ variables }) {
 
 function limitsPart({ limits }) {
   if (!limits.length) return '';
-  const rows = limits.map(({ words, count, most }) => [words, figure(count), figure(most)]);
+  const rows = limits.map(({ words, count, most }) => [words, count > most ? `✕ ${figure(count)}` : figure(count), figure(most)]);
   return html`<h2>Room that the script takes</h2>\n${table([{ name: 'What is limited' }, number('Here'), number('At most')], rows)}`;
 }
 

@@ -3,8 +3,8 @@
 
 const { K, NAMED, TEXTED, identityOf, isStatement, preorder } = require('./kinds');
 const { forbiddenWords } = require('./kind_table');
-const { LIMITS, figure, limitText, limitsOf } = require('./limits');
-const { MOST, namesItself, rightSidesIn, scopesIn, valuesIn } = require('./running');
+const { LIMITS, limitText, limitsOf } = require('./limits');
+const { countsOf, metLimit } = require('./running');
 const { ScriptTrouble, UsageTrouble, trouble } = require('./trouble');
 
 const WORDS = {
@@ -82,34 +82,15 @@ function firstRefused(root, refusal, refusalOf) {
 
 const PLACES = { 3: overLong, 6: (root) => tooDeep(root), 7: overNamed, 8: firstRefused, 9: firstRefused };
 
-const over = (count, most, words) => `${figure(count)} ${words}, at most ${figure(most)}`;
-
 // Which of the script's counts pass a limit, in words.
 const passed = (root, names) => limitsOf(root).filter(({ name, count, most }) => names.includes(name) && count > most).map(limitText).join('; ');
-
-// What row 8 met, as far as the script's text tells.
-function tooDeepWhileRunning(root) {
-  const [scopes, sides, own] = [scopesIn(root), rightSidesIn(root), namesItself(root)];
-  if (scopes > MOST.scopes) return over(scopes, MOST.scopes, 'scopes (functions, blocks, loops and branches) in one another');
-  if (sides > MOST.rightSides) return over(sides, MOST.rightSides, 'right sides of && and || in one another');
-  const why = own ? `; ${own.children[0].text} names itself in its own value` : '';
-  return `over ${MOST.depth} nodes in one another once values were put in the place of names, at most ${MOST.depth}${why}`;
-}
-
-// What row 9 may have met: the port does not say which, so all three counts are told.
-function tooMuchWhileRunning(root) {
-  const [{ count: nodes }, , , , { count: variables }] = limitsOf(root);
-  const counted = (words, count, most) => `${words} ${figure(count)}, at most ${figure(most)}`;
-  return `too much once values were put in the place of names; before that: ${counted('nodes', nodes, MOST.nodes)}; `
-    + `${counted('nodes in the values of variables', valuesIn(root), MOST.values)}; ${counted('variables', variables, MOST.variables)}`;
-}
 
 const DETAILS = {
   3: (root) => passed(root, ['nodes', 'texts', 'textBytes']),
   6: (root) => passed(root, ['depth']),
   7: (root) => passed(root, ['variables']),
-  8: tooDeepWhileRunning,
-  9: tooMuchWhileRunning,
+  8: (root) => countsOf(8, root),
+  9: (root) => countsOf(9, root),
 };
 
 const HINTS = {
@@ -120,7 +101,8 @@ const HINTS = {
   9: 'split the script in two, or shorten the values that are put in the place of names',
 };
 
-// `refusalOf` runs the port on another tree and answers its refusal's number; it may take too long for that.
+// Where counted steps do not say which limit was met, `refusalOf` runs the port on another tree and answers its refusal's number; it may take too
+// long for that.
 function placeOf(number, root, refusalOf) {
   try {
     return PLACES[number] ? PLACES[number](root, number, refusalOf) : null;
@@ -130,10 +112,15 @@ function placeOf(number, root, refusalOf) {
   }
 }
 
-function refusalTrouble(number, root, refusalOf) {
+const startOf = (at) => (at ? at.loc.start : null);
+
+// `options` are those of the counted steps: the run limit, and how many steps are counted.
+function refusalTrouble(number, root, refusalOf, options) {
+  const met = metLimit(number, root, options);
+  if (met) return trouble(startOf(met.at), `refusal ${number}: ${met.words}`, met.hint);
   const node = placeOf(number, root, refusalOf);
   const detail = (DETAILS[number] && DETAILS[number](root)) || WORDS[number];
-  return trouble(node ? node.at.loc.start : null, `refusal ${number}: ${detail}`, HINTS[number] || null);
+  return trouble(node ? startOf(node.at) : null, `refusal ${number}: ${detail}`, HINTS[number] || null);
 }
 
 const NOT_AT_THIS_MILL = 'the mill\'s kind table forbids it; write it in another way';

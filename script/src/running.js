@@ -1,9 +1,22 @@
-// What a script takes while the pass runs, as far as its text tells: scopes and right sides in one another, and the values it records.
+// Rows 8 and 9 in words: which limit the pass met while it ran, by the counted steps of script/steps; where these cannot say, what the script's
+// text has of each.
 'use strict';
 
+const { MOST } = require('../steps/walks');
+const { countSteps } = require('../steps/count');
 const { K, identityOf, preorder } = require('./kinds');
+const { figure, limitsOf } = require('./limits');
 
-const MOST = { scopes: 32, rightSides: 12, values: 512, nodes: 1024, variables: 256, depth: 200 };
+const ROW = { depth: 8, scopes: 8, rightSides: 8, nodes: 9, values: 9, records: 9 };
+
+const SCOPE_WORDS = 'scopes in one another (the script, functions, blocks, loops, branches, cases, right sides of && and ||)';
+const SIDE_WORDS = 'right sides of && and || in one another';
+const VALUE_WORDS = 'nodes in the values kept for variables and constants';
+const RECORD_WORDS = 'variables and constants kept in the functions, blocks, loops and branches that are open';
+
+const sizeOf = (node) => [...preorder(node)].length;
+
+const atMost = (count, most, words) => `${figure(count)} ${words}, at most ${figure(most)}`;
 
 const LOOPS = new Set([K.while, K.do, K.for, K.forIn, K.forOf]);
 const SCOPES = new Set([K.function, K.functionExpression, K.arrow, K.block, K.catch, K.case]);
@@ -35,18 +48,59 @@ function rightSidesIn(node) {
   return Math.max(0, ...node.children.map((child, index) => (isRightSide(node, index) ? 1 : 0) + (isWalked(node, child) ? rightSidesIn(child) : 0)));
 }
 
-const sizeOf = (node) => [...preorder(node)].length;
-
 // The nodes of all values that the script gives to names.
 function valuesIn(root) {
   const sets = [...preorder(root)].filter(({ kind, children }) => (kind === K.declarator || kind === K.assign) && children.length > 1 && children[0].kind === K.binding);
   return sets.reduce((sum, { children }) => sum + sizeOf(children[1]), 0);
 }
 
-// A constant or variable whose own value names it.
-function namesItself(root) {
-  const sets = [...preorder(root)].filter(({ kind, children }) => kind === K.declarator && children.length > 1 && children[0].kind === K.binding);
-  return sets.find(({ children: [name, value] }) => [...preorder(value)].some((node) => node.kind === K.identifier && identityOf(node) === identityOf(name))) || null;
+// Of constants that were followed to one another: does the last one stand for itself?
+function circleWords(constants) {
+  const [before, last] = constants.slice(-2);
+  return last && identityOf(before) === identityOf(last) ? `; the constant ${last.text} names itself` : '';
 }
 
-module.exports = { MOST, namesItself, rightSidesIn, scopesIn, valuesIn };
+function depthWords({ count, most, name, constants }) {
+  if (name) return atMost(count, most, `nodes in one another where a value is put in the place of ${name.text}`);
+  return `${atMost(count, most, 'nodes in one another, a constant that is followed counted with its value')}${circleWords(constants)}`;
+}
+
+const nodeWords = ({ count, most }, root) => `${atMost(count, most, 'nodes once values are put in the place of names')}; the script as written has ${figure(sizeOf(root))}`;
+
+// As written a script can have more in one another than where the walk was stopped.
+const MET = {
+  depth: depthWords,
+  scopes: ({ count, most }, root) => atMost(Math.max(count, scopesIn(root)), most, SCOPE_WORDS),
+  rightSides: ({ count, most }, root) => atMost(Math.max(count, rightSidesIn(root)), most, SIDE_WORDS),
+  nodes: nodeWords,
+  values: ({ count, most }) => atMost(count, most, VALUE_WORDS),
+  records: ({ count, most }) => atMost(count, most, RECORD_WORDS),
+};
+
+const HINTS = {
+  depth: 'take inner parts out into functions or variables of their own; let no constant\'s value name the constant itself',
+  scopes: 'take inner functions, blocks, loops and branches out of one another',
+  rightSides: 'give an inner condition a variable of its own, or write it as an if',
+  nodes: 'split the script in two, or take out what it does not use',
+  values: 'split the script in two, or write long lists and objects where they are used and not as the value of a variable',
+  records: 'use fewer variables and constants, or split the script in two',
+};
+
+// { at, words, hint } of the limit that the pass met, or null where the counted steps do not end in this refusal.
+function metLimit(number, root, options) {
+  const counted = countSteps(root, options);
+  if (!counted || !counted.met || ROW[counted.met.limit] !== number) return null;
+  const { met } = counted;
+  return { at: met.at, words: MET[met.limit](met, root), hint: HINTS[met.limit] };
+}
+
+// What the script as written has of each of a row's limits; which of them was met stays open.
+function countsOf(number, root) {
+  const { nodes, depth, variables } = Object.fromEntries(limitsOf(root).map(({ name, count }) => [name, count]));
+  const counts = number === 8
+    ? [atMost(depth, MOST.depth, 'nodes in one another'), atMost(scopesIn(root), MOST.scopes, SCOPE_WORDS), atMost(rightSidesIn(root), MOST.rightSides, SIDE_WORDS)]
+    : [atMost(nodes, MOST.nodes, 'nodes'), atMost(valuesIn(root), MOST.values, VALUE_WORDS), atMost(variables, MOST.records, 'variables')];
+  return `one of these limits was met once values were put in the place of names; the script as written has ${counts.join('; ')}`;
+}
+
+module.exports = { countsOf, metLimit, scopesIn };

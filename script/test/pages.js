@@ -68,6 +68,14 @@ function checkRefused() {
   assert.match(page, /<li class="refusal"><b>✕ refused<\/b>: too long\./);
   const end = pageOf(refusedAccount('x.js', 'if (a) {\n', [{ line: 2, column: 1, message: 'ends too early', hint: null }]), null);
   assert.match(end, /line 2, column 1: ends too early\./);
+  assert.ok(!end.includes('Room that the script takes'));
+}
+
+// A script that can be read shows how much room it takes, and where that is too much.
+function checkTooLong() {
+  const account = refusedAccount('x.js', 'f(1);\n'.repeat(300), [{ line: 256, column: 3, message: 'too long', hint: null }]);
+  assert.deepStrictEqual(account.limits.map(({ count }) => count), [1201, 1, 1, 4, 1]);
+  assert.match(plain(pageOf(account, null)), /Room that the script takes[^]*nodes[^]*✕ 1,201[^]*1,024[^]*different names and texts/);
 }
 
 // A verdict of a check, with parts absent, is shown with its sign, level and places.
@@ -99,6 +107,7 @@ function testPages() {
   each('pages of samples: counts', samples(), checkCounts);
   each('a page stands alone', [0], checkAlone);
   each('a page of a refused script', [0], checkRefused);
+  each('a page of a script that is too long', [0], checkTooLong);
   each('verdicts on a page', [0], checkVerdicts);
   each('the index', [0], checkIndex);
 }

@@ -5,6 +5,7 @@ const { counts } = require('./harness');
 const { testInBrowser } = require('./browser');
 const { testContexts, testErrors, testPrinting, testRoundTrips, testTreeOfSample } = require('./without_port');
 const { testOutputs, testPlaces } = require('./outputs');
+const { testLimitsMet, testSteps } = require('./limits_met');
 const { testKindTables, testKindsCommand } = require('./kinds');
 const { testOwnText } = require('./own_text');
 const { testPages } = require('./pages');
@@ -21,8 +22,10 @@ testPlaces();
 testKindTables();
 testRules();
 testUnknownKinds();
+testSteps();
 if (process.env.NEGBOSUN_PORT) {
   testRefusals();
+  testLimitsMet();
   testResults();
   testSamples();
   testVerdicts();
@@ -39,7 +42,7 @@ if (process.env.NEGBOSUN_PORT) {
   testPages();
   testInBrowser();
 } else {
-  console.log('refusals, results, samples, verdicts, guard, command, own text, outputs, streams and pages: skipped, no port');
+  console.log('refusals, limits, results, samples, verdicts, guard, command, own text, outputs, streams and pages: skipped, no port');
 }
 console.log(`${counts.passed} passed, ${counts.failed} failed`);
 process.exitCode = counts.failed ? 1 : 0;

@@ -31,9 +31,9 @@ const REFUSED = [
   [3, '5:1', lines(6, (n) => `"${String(n).repeat(1000)}";`)],
   [6, '1:202', `x = ${'['.repeat(199)}${']'.repeat(199)};`],
   [7, '58:6', `[${Array.from({ length: 200 }, (_, n) => `a${n}`)}];\n${lines(60, () => '{let a0}')}`],
-  [8, '2:1', 'g();\nconst a = a;\na;\ng();'],
-  [8, '4:3', `g();\nfunction f(y) {\n  var z = y;\n  g(${'y && ['.repeat(13)}z${']'.repeat(13)});\n}\ng();`],
-  [9, '342:1', `var x;\n${lines(510, () => 'x;')}`],
+  [8, '3:1', 'g();\nconst a = a;\na;\ng();'],
+  [8, '4:82', `g();\nfunction f(y) {\n  var z = y;\n  g(${'y && ['.repeat(13)}z${']'.repeat(13)});\n}\ng();`],
+  [9, '2:1', `var x;\n${lines(510, () => 'x;')}`],
 ];
 
 function refused([number, place, text]) {

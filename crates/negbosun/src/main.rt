@@ -1,6 +1,10 @@
 // Reads a tree file from standard input, runs the pass on it with at most 16 runs, and prints `refused N`, or the head line, a line for each
-// node of the result, and a line for each root binding (document 01). Given an argument, it says what it takes, and reads nothing.
+// node of the result, and a line for each root binding (document 01). Given an argument, it says what it takes, and reads nothing: to standard
+// output for -h and --help, with status 0, and to standard error for any other, with status 2.
 #![tactic(auto)]
+
+ghost use Rattle.std.specs.Prelude.{◌≡◌, ◌||◌, bytes_eq, codes, if◌then◌else◌};
+ghost use Rattle.std.specs.Process.{exit_status};
 
 use file_fields::fields::u32_at;
 use input::read_full;
@@ -8,7 +12,12 @@ use pass::{inline, list};
 use std::env::{Env, FillError};
 use std::io;
 use std::io::Read;
+use std::process::ExitCode;
 use tree_print::{ROOM, WORDS, print_nodes};
+
+const USAGE: &str = "usage: negbosun < FILE.tree
+Takes no argument: reads a tree file from standard input, and prints the pass's result or `refused N`.
+negbosun-inline takes a file's name and options; script/inline (installed: negbosun-script) takes a script's text.";
 
 // Five words for each of at most 256 root bindings.
 const ROOTS: usize = 1280;
@@ -67,32 +76,50 @@ fn read_rest<R: Read>(from: &mut R) -> io::Result<()> {
     Ok(())
 }
 
-// Whether there is an argument behind the program's name. One that does not fit into the buffer is one too.
-fn has_argument(rt: &impl Env) -> bool {
-    let mut space = [0u8; 64];
-    !matches!(rt.arg(1, &mut space), Err(FillError::NotPresent))
+// Whether an argument asks for the usage.
+fn is_help(word: &[u8]) -> bool
+    ensures { result ≡ (bytes_eq word.now (codes "-h") || bytes_eq word.now (codes "--help")) }
+{
+    word == b"-h".as_slice() || word == b"--help".as_slice()
 }
 
-// What the program takes, to standard error.
-fn say_usage(rt: &impl Eprint) -> io::Result<()> {
-    eprintln!(rt; "usage: negbosun < FILE.tree")?;
-    eprintln!(rt;
-        "Takes no argument: reads a tree file from standard input, and prints the pass's result or `refused N`."
-    )?;
-    eprintln!(rt;
-        "negbosun-inline takes a file's name and options; script/inline (installed: negbosun-script) takes a script's text."
-    )
+// The status after the usage: 0 where an argument asks for it, 2 where the program takes no such argument.
+fn usage_status(is_asked: bool) -> ExitCode
+    ensures { exit_status result ≡ (if is_asked then 0 else 2) }
+{
+    ExitCode::from(if is_asked { 0 } else { 2 })
 }
 
-fn main(rt: HostRuntime) -> io::Result<()> {
-    if has_argument(&rt) {
-        return say_usage(&rt);
+// The usage: to standard output where it is asked for, else to standard error.
+fn say_usage(rt: &(impl Print + Eprint), is_asked: bool) -> io::Result<()> {
+    if is_asked {
+        println!(rt; "{USAGE}")
+    } else {
+        eprintln!(rt; "{USAGE}")
     }
+}
+
+fn run(rt: &HostRuntime) -> io::Result<()> {
     let mut input = rt.stdin();
     let mut buf = [0; ROOM];
     let n = read_full(&mut input, &mut buf)?;
     if n == buf.len() {
         read_rest(&mut input)?;
     }
-    show(&rt, &buf[..n], &mut [0; WORDS])
+    show(rt, &buf[..n], &mut [0; WORDS])
+}
+
+fn main(rt: HostRuntime) -> io::Result<ExitCode> {
+    let mut word = [0u8; 64];
+    let is_asked = match rt.arg(1, &mut word) {
+        Err(FillError::NotPresent) => {
+            run(&rt)?;
+            return Ok(ExitCode::SUCCESS);
+        }
+        // What does not fit into the buffer does not ask for the usage.
+        Err(FillError::TooLong) => false,
+        Ok(n) => is_help(&word[..n]),
+    };
+    say_usage(&rt, is_asked)?;
+    Ok(usage_status(is_asked))
 }

@@ -8,6 +8,7 @@ use Rattle.file_kinds.specs.declared.TheConstants.{KINDS}
 use Rattle.def_file.specs.Script.{Script}
 use Rattle.def_file.specs.Read.{script}
 use Rattle.def_pass.specs.Script.{Root, Answer, pass_file}
+use Rattle.def_pass.specs.Entry.{enough}
 use Rattle.def_under.specs.Reading.{lent}
 use Rattle.def_under.specs.Entry.{pass_under}
 use Rattle.laws_under.specs.Today as whole
