@@ -1,11 +1,12 @@
 -- Numbers in the order of their first use, in the words: how many in word p, and from word p + 1 on two words for each, the low half first; the texts'
--- from word 8336 on, the contexts' from word 10385 on. Assumes nothing: these are definitions.
+-- and the contexts' each in a stretch of their own. Assumes nothing: these are definitions.
 use Rattle.std.specs.Prelude.{◌≡◌, Bool, ◌&&◌, not, List, [], ◌∷◌, ◌++◌, ℕ, ◌+◌, ◌*◌, ◌≤◌, ◌<◌, length, get_or, drop}
 use Rattle.def_tree.specs.Base.{pick, member}
 use Rattle.def_file.specs.declared.Raw.{Raw}
 use Rattle.def_file.specs.Script.{has_id}
 use Rattle.def_file.specs.Read.{nodes_from}
 use Rattle.def_canon.specs.Canon.{first_uses, has_text_number, text_number, context}
+use Rattle.words.specs.Layout.{used_texts_base, used_contexts_base, idents_base}
 use Rattle.words.specs.Tab.{tab}
 use Rattle.file_read.specs.Load.{Kept}
 
@@ -18,8 +19,8 @@ uses_of w p = tab (get_or w p 0) (λ i. used_at w p i)
 -- at most 1,024, in words that are free after reading
 pub record Holds (w : List ℕ) (p : ℕ) : Type 0 where
   pub long : 16384 ≤ length w
-  pub low : 8336 ≤ p
-  pub high : p + 2049 ≤ 15504
+  pub low : used_texts_base ≤ p
+  pub high : p + 2049 ≤ idents_base
   pub few : length (uses_of w p) ≤ 1024
 
 -- a number behind them, if it is used and none of them
@@ -36,8 +37,8 @@ pub record Noted (w w' : List ℕ) (p : ℕ) (used : Bool) (x : ℕ) : Type 0 wh
 -- the words have the numbers of texts and contexts that some nodes use
 pub record Used (w : List ℕ) (xs : List Raw) : Type 0 where
   pub long : 16384 ≤ length w
-  pub texts : uses_of w 8336 ≡ first_uses has_text_number text_number [] xs
-  pub contexts : uses_of w 10385 ≡ first_uses has_id context [] xs
+  pub texts : uses_of w used_texts_base ≡ first_uses has_text_number text_number [] xs
+  pub contexts : uses_of w used_contexts_base ≡ first_uses has_id context [] xs
 
 -- those of the n nodes of a file
 pub record Numbered (bs w w' : List ℕ) (n : ℕ) : Type 0 where

@@ -3,6 +3,8 @@ ghost use Rattle.std.specs.Prelude.{◌≡◌, ◌+◌, ◌<◌, length};
 ghost use Rattle.def_canon.specs.Canon.{index_of};
 ghost use Rattle.file_canon.specs.Uses.{used_at, uses_of, Holds, Noted};
 
+use words::layout;
+
 // Where such numbers stand: how many they are, and from the next word on two words for each, the low half first. There is room for 1,024, one for
 // each node.
 #[derive(Clone, Copy, Debug, PartialEq, Eq)]
@@ -12,9 +14,13 @@ pub struct Uses {
 
 impl Uses {
     // The numbers of the texts that nodes use, and the contexts of their names.
-    pub const TEXTS: Uses = Uses { base: 8336 };
+    pub const TEXTS: Uses = Uses {
+        base: layout::USED_TEXTS,
+    };
 
-    pub const CONTEXTS: Uses = Uses { base: 10385 };
+    pub const CONTEXTS: Uses = Uses {
+        base: layout::USED_CONTEXTS,
+    };
 
     // How many they are.
     pub fn count(self, words: &[u32]) -> usize

@@ -1,8 +1,8 @@
 -- What loading a script's core into the words promises. Assumes nothing: these are definitions.
-use Rattle.std.specs.Prelude.{◌≡◌, true, List, [], ℕ, ◌+◌, ◌*◌, ◌≤◌, ◌<◌, length, get_or, drop, take, Result, Ok, Err}
+use Rattle.std.specs.Prelude.{◌≡◌, true, List, [], ℕ, ◌+◌, ◌*◌, ◌≤◌, ◌<◌, length, drop, take, Result, Ok, Err}
 use Rattle.refusal.specs.declared.Refusal.{Refusal}
 use Rattle.refusal.specs.Number.{number}
-use Rattle.words.specs.Layout.{tree, beyond}
+use Rattle.words.specs.Layout.{tree, beyond, node_count}
 use Rattle.def_file.specs.Script.{Script, has_id, enter_all, idents}
 use Rattle.def_file.specs.Core.{core_nodes}
 use Rattle.def_file.specs.Read.{nodes_from, raw_of, nodes_ok}
@@ -27,7 +27,7 @@ Named bs k = has_id (raw_of (drop (32 + 16 * k) bs)) ≡ true
 
 -- the first k nodes are loaded
 pub record Loaded (bs w : List ℕ) (n t k : ℕ) : Type 0 where
-  pub count : get_or w 0 0 ≡ k
+  pub count : node_count w ≡ k
   pub tree : tree w ≡ take k (core_nodes (script_of bs n t))
   pub ids : ids_of bs w ≡ enter_all [] (take k (nodes_from n (drop 32 bs)))
   pub listed : Listed w n

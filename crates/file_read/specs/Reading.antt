@@ -1,8 +1,8 @@
 -- What reading a file promises: the answer is the definition's, and so are the words. Assumes nothing: these are definitions.
-use Rattle.std.specs.Prelude.{◌≡◌, Bool, true, false, List, ℕ, leb, length, get_or, Result, Ok, Err}
+use Rattle.std.specs.Prelude.{◌≡◌, Bool, true, false, List, ℕ, leb, length, Result, Ok, Err}
 use Rattle.refusal.specs.declared.Refusal.{Refusal}
 use Rattle.refusal.specs.Number.{number}
-use Rattle.words.specs.Layout.{tree}
+use Rattle.words.specs.Layout.{tree, node_count}
 use Rattle.words.specs.Moved.{Cleared}
 use Rattle.def_file.specs.Script.{Script, idents}
 use Rattle.def_file.specs.Core.{core_nodes}
@@ -21,7 +21,7 @@ CheckIs T bs (Ok h) = Counts bs h × Readable bs h.nodes h.texts
 
 -- the words hold the core of a script, with its identifiers
 pub record Held (bs w : List ℕ) (s : Script) : Type 0 where
-  pub count : get_or w 0 0 ≡ length s.nodes
+  pub count : node_count w ≡ length s.nodes
   pub tree : tree w ≡ core_nodes s
   pub ids : ids_of bs w ≡ idents s
   pub listed : Listed w (length s.nodes)

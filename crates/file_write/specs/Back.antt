@@ -1,5 +1,5 @@
 -- A node of the words' tree turned back into a node of the file. Assumes nothing: these are definitions.
-use Rattle.std.specs.Prelude.{◌≡◌, ◌&&◌, ◌||◌, List, ℕ, ◌+◌, ◌*◌, ◌≤◌, ltb, leb, length, get_or}
+use Rattle.std.specs.Prelude.{◌≡◌, ◌&&◌, ◌||◌, List, ℕ, ◌+◌, ◌*◌, ◌≤◌, ltb, leb, length}
 use Rattle.def_tree.specs.Base.{pick}
 use Rattle.def_tree.specs.Tree.{Core}
 use Rattle.def_file.specs.declared.Raw.{Raw}
@@ -9,6 +9,7 @@ use Rattle.def_file.specs.Script.{zero_node}
 use Rattle.def_file.specs.Read.{u32}
 use Rattle.def_file.specs.Core.{has_text}
 use Rattle.file_read.specs.Idents.{numbered}
+use Rattle.words.specs.Layout.{ident_count, ident_word}
 
 -- node number m of the file; the number 0 for node number 0 and past the file's nodes
 unfoldable pub node_in : List ℕ → ℕ → Raw
@@ -17,7 +18,7 @@ node_in bs m = pick (leb 1 m && leb m (u32 bs 8)) (numbered bs m) zero_node
 -- identifier i, by the node that its entry in the words names
 unfoldable pub ident_in : List ℕ → List ℕ → ℕ → Raw
 unfolding node_in
-ident_in bs w i = pick (ltb i (get_or w 4 0)) (node_in bs (get_or w (15504 + i) 0)) zero_node
+ident_in bs w i = pick (ltb i (ident_count w)) (node_in bs (ident_word w i)) zero_node
 
 -- the text that a node of kind k keeps of node number m
 unfoldable pub text_in : List ℕ → ℕ → ℕ → ℕ

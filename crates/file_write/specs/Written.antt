@@ -1,8 +1,8 @@
 -- What writing a result answers, and what it leaves in the result buffer. Assumes nothing: these are definitions.
-use Rattle.std.specs.Prelude.{◌≡◌, true, false, ◌&&◌, List, [], ◌++◌, map, ℕ, ◌+◌, ◌*◌, ◌≤◌, leb, length, drop, get_or, Result, Ok, Err}
+use Rattle.std.specs.Prelude.{◌≡◌, true, false, ◌&&◌, List, [], ◌++◌, map, ℕ, ◌+◌, ◌*◌, ◌≤◌, leb, length, drop, Result, Ok, Err}
 use Rattle.def_file.specs.Read.{Read, bad, script, u32, header}
 use Rattle.def_file.specs.Write.{head_bytes, node_bytes}
-use Rattle.words.specs.Layout.{tree}
+use Rattle.words.specs.Layout.{tree, node_count}
 use Rattle.refusal.specs.declared.Refusal.{Refusal}
 use Rattle.refusal.specs.Number.{number}
 use Rattle.file_read.specs.declared.header.Header.{Header}
@@ -19,15 +19,15 @@ says (Err r) = refused (number r)
 
 -- the length of the result: its nodes, and the file's texts
 abbrev pub total : List ℕ → List ℕ → ℕ
-total bs w = 32 + 16 * get_or w 0 0 + 4 * u32 bs 16 + u32 bs 28
+total bs w = 32 + 16 * node_count w + 4 * u32 bs 16 + u32 bs 28
 
 -- a result of n bytes
 abbrev pub in_room : ℕ → ℕ → Answer
 in_room n room = elim (leb n room) [ false ↦ refused 10 | true ↦ wrote n ]
 
--- behind the header: 9 where word 0 is no count from 1 to 1,024, which it always is after reading; then 10
+-- behind the header: 9 where the count of nodes is none from 1 to 1,024, which it always is after reading; then 10
 unfoldable pub fitted : List ℕ → List ℕ → ℕ → Answer
-fitted bs w room = elim (leb 1 (get_or w 0 0) && leb (get_or w 0 0) 1024) [ false ↦ refused 9 | true ↦ in_room (total bs w) room ]
+fitted bs w room = elim (leb 1 (node_count w) && leb (node_count w) 1024) [ false ↦ refused 9 | true ↦ in_room (total bs w) room ]
 
 -- rows 2 to 4 alone: a refusal, or what stands behind them
 abbrev pub none : Read
@@ -50,7 +50,7 @@ written bs w room =
 unfoldable pub result_bytes : List ℕ → List ℕ → List ℕ
 unfolding back_in
 result_bytes bs w =
-    head_bytes (get_or w 0 0) (u32 bs 16) (u32 bs 28) ++ node_bytes (map (back_in bs w) (tree w)) ++ drop (32 + 16 * u32 bs 8) bs
+    head_bytes (node_count w) (u32 bs 16) (u32 bs 28) ++ node_bytes (map (back_in bs w) (tree w)) ++ drop (32 + 16 * u32 bs 8) bs
 
 -- the buffer r after an answer: a refusal leaves it as it was, and the bytes behind the result stay
 abbrev pub left : List ℕ → List ℕ → Answer → List ℕ

@@ -1,9 +1,9 @@
 // The nodes of a result: a node of the words' tree turned back into a node of the file.
-ghost use Rattle.std.specs.Prelude.{◌≡◌, map, ◌*◌, ◌≤◌, ◌<◌, ℕ, length, get_or};
+ghost use Rattle.std.specs.Prelude.{◌≡◌, map, ◌*◌, ◌≤◌, ◌<◌, ℕ, length};
 ghost use Rattle.def_file.specs.Named.{Coded};
 ghost use Rattle.std.proofs.lemmas.List.Edits.{sets};
 ghost use Rattle.def_file.specs.Write.{node_bytes};
-ghost use Rattle.words.specs.Layout.{node_of, tree};
+ghost use Rattle.words.specs.Layout.{node_of, tree, node_count};
 ghost use Rattle.file_write.specs.Back.{Source, node_in, ident_in, text_in, back_in};
 
 use crate::put::put_raw;
@@ -93,7 +93,7 @@ impl Source<'_> {
 
     // All nodes of the tree, from the first byte of `out` on.
     pub fn put_nodes(self, out: &mut [u8])
-        requires { (get_or self.words.now 0 0 ≤ 1024) × (16 * get_or self.words.now 0 0 ≤ length out.old) }
+        requires { (node_count self.words.now ≤ 1024) × (16 * node_count self.words.now ≤ length out.old) }
         ensures { out.new ≡ sets out.old 0 (node_bytes (map (back_in self.entry.file.now self.entry.words.now) (tree self.entry.words.now))) }
     {
         let count = self.words[layout::NODE_COUNT] as usize;

@@ -2,7 +2,7 @@
 use Rattle.std.specs.Prelude.{◌≡◌, true, false, List, [], ◌∷◌, ◌++◌, map, ℕ, ◌+◌, ◌*◌, ◌/◌, ◌%◌, ◌≤◌, ◌<◌, leb, length, get_or, drop, Result, Ok, Err}
 use Rattle.def_tree.specs.Base.{to_nat}
 use Rattle.words.specs.Tab.{tab}
-use Rattle.words.specs.Layout.{yes}
+use Rattle.words.specs.Layout.{yes, ident_count, id_word, inline_prevented_word, count_word, ident_word}
 use Rattle.def_file.specs.Script.{zero_node}
 use Rattle.file_read.specs.Idents.{ids_of}
 use Rattle.refusal.specs.declared.Refusal.{Refusal}
@@ -14,11 +14,11 @@ use Rattle.pass_roots.specs.declared.Root.{Root as Binding}
 
 -- the first n bindings of all scopes: identifier, mark and count
 abbrev pub marks_to : List ℕ → ℕ → List Rooted
-marks_to w n = tab n (λ k. (get_or w (4112 + k * 10) 0, yes (get_or w (4112 + k * 10 + 4) 0), get_or w (8080 + k) 0))
+marks_to w n = tab n (λ k. (id_word w k, yes (inline_prevented_word w k), count_word w k))
 
 -- binding k with its identifier's text and context
 abbrev pub root_at : List ℕ → List ℕ → ℕ → Root
-root_at bs w k = record { key = get_or (ids_of bs w) (get_or w (4112 + k * 10) 0) zero_node; mark = yes (get_or w (4112 + k * 10 + 4) 0); count = get_or w (8080 + k) 0 }
+root_at bs w k = record { key = get_or (ids_of bs w) (id_word w k) zero_node; mark = yes (inline_prevented_word w k); count = count_word w k }
 
 -- the root's bindings
 abbrev pub roots_in : List ℕ → List ℕ → List Root
@@ -27,9 +27,9 @@ roots_in bs w = map (λ (r : Rooted). record { key = get_or (ids_of bs w) r.0 ze
 -- the words list identifiers of nodes of the file
 pub record Known (bs w : List ℕ) : Type 0 where
   pub long : 16384 ≤ length w
-  pub few : get_or w 4 0 ≤ 256
-  pub low : (i : ℕ) → i < get_or w 4 0 → 0 < get_or w (15504 + i) 0
-  pub room : (i : ℕ) → i < get_or w 4 0 → 32 + 16 * get_or w (15504 + i) 0 ≤ length bs
+  pub few : ident_count w ≤ 256
+  pub low : (i : ℕ) → i < ident_count w → 0 < ident_word w i
+  pub room : (i : ℕ) → i < ident_count w → 32 + 16 * ident_word w i ≤ length bs
 
 -- a binding as it is answered
 abbrev pub given : Root → Binding

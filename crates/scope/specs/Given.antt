@@ -1,9 +1,9 @@
 -- What a caller of scope.rs gives: an init, a value. Assumes nothing: these are definitions.
-use Rattle.std.specs.Prelude.{◌≡◌, Option as Maybe, Some, None, List, ℕ, ◌+◌, ◌≤◌, get_or}
+use Rattle.std.specs.Prelude.{◌≡◌, Option as Maybe, Some, None, List, ℕ, ◌+◌, ◌≤◌}
 use Rattle.std.proofs.Math.Option.{Option, none, some}
 use Rattle.def_tree.specs.Tree.{Tree, Core}
 use Rattle.def_pass.specs.Scope as def
-use Rattle.words.specs.Layout.{run}
+use Rattle.words.specs.Layout.{run, nodes_base, node_count}
 use Rattle.words_scopes.specs.State.{value_of, run_of}
 use Rattle.scope_define.specs.declared.Init.{Init}
 use Rattle.scope_define.specs.declared.Init.TheVariants.{NoInit, Recorded, Seen}
@@ -26,6 +26,6 @@ init_o xs (Seen i) = init_by def.seen (tree_o xs i)
 
 -- the nodes of a value that is given
 pub record Runs (w : List ℕ) (v : Option Tree) (at m : ℕ) : Type 0 where
-  pub inside : at + m ≤ get_or w 0 0
-  pub one : run_of (value_of (run w 16 at m)) ≡ run w 16 at m
-  pub is : value_of (run w 16 at m) ≡ v
+  pub inside : at + m ≤ node_count w
+  pub one : run_of (value_of (run w nodes_base at m)) ≡ run w nodes_base at m
+  pub is : value_of (run w nodes_base at m) ≡ v

@@ -1,9 +1,10 @@
 // Where every sequence begins: a tree to take values from, and an empty root scope.
-ghost use Rattle.std.specs.Prelude.{◌<◌, ◌≤◌, List, [], ◌∷◌, ◌++◌, length, slice_index};
+ghost use Rattle.std.specs.Prelude.{◌<◌, ◌≤◌, List, [], ◌∷◌, ◌++◌, length};
 ghost use Rattle.def_tree.specs.Tree.{Core, core};
 ghost use Rattle.def_file.specs.Named.{number_of};
 ghost use Rattle.words_nodes.specs.Nodes.{Planted};
 ghost use Rattle.scope_calls.specs.Begun.{Begun};
+ghost use Rattle.words.specs.Layout.{node_count};
 
 use def_file::kind::Kind;
 use scope::{Scope, ScopeKind, open_scope};
@@ -11,7 +12,7 @@ use words::{Node, add_node, clear};
 
 // One more node.
 fn grow(w: &mut [u32], kind: Kind, arity: u32, num: u32)
-    requires { (16384 ≤ length w.old) × (slice_index w.old 0 < 1024) × (number_of kind < 64) × (arity < 65536) }
+    requires { (16384 ≤ length w.old) × (node_count w.old < 1024) × (number_of kind < 64) × (arity < 65536) }
     ensures { (xs : List Core) → Begun w.old xs → Begun w.new (xs ++ (core (number_of kind) 0 arity num ∷ [])) }
 {
     let x = Node {

@@ -1,12 +1,13 @@
 -- Hoisting, binding by binding, and what of the counts ends then (request 9). Assumes nothing: these are definitions.
-use Rattle.std.specs.Prelude.{ℕ, zero, suc, ◌+◌, ◌*◌, List, [], ◌∷◌, slice_index}
+use Rattle.std.specs.Prelude.{ℕ, zero, suc, ◌+◌, List, [], ◌∷◌}
 use Rattle.def_tree.specs.Base.{pick}
 use Rattle.def_pass.specs.Scope.{VarInfo, Stack, is_var, on_bindings, put, hoist, count_in}
 use Rattle.words_scopes.specs.State.{bare_of}
+use Rattle.words.specs.Layout.{id_word, kind_word, alias_of_word, read_cnt_word, inline_prevented_word, is_undefined_word, this_sensitive_word, hoisted_word, count_word}
 
 -- record j, whether it is a binding's or past the last, without its value
 abbrev pub record_at : List ℕ → ℕ → VarInfo
-record_at w j = bare_of (slice_index w (4112 + j * 10)) (slice_index w (4112 + j * 10 + 1)) (slice_index w (4112 + j * 10 + 2)) (slice_index w (4112 + j * 10 + 3)) (slice_index w (4112 + j * 10 + 4)) (slice_index w (4112 + j * 10 + 5)) (slice_index w (4112 + j * 10 + 6)) (slice_index w (4112 + j * 10 + 7)) (slice_index w (8080 + j))
+record_at w j = bare_of (id_word w j) (kind_word w j) (alias_of_word w j) (read_cnt_word w j) (inline_prevented_word w j) (is_undefined_word w j) (this_sensitive_word w j) (hoisted_word w j) (count_word w j)
 
 -- a binding of a closed scope goes up, if it is a `var`
 abbrev pub hoist_one : VarInfo → Stack → Stack

@@ -1,8 +1,9 @@
 // Scopes over the working words: opened, and closed, with what is hoisted then.
 #![tactic(auto)]
 
-ghost use Rattle.std.specs.Prelude.{◌≡◌, ℕ, ◌+◌, ◌-◌, ◌*◌, ◌%◌, ◌<◌, ◌≤◌, [], ◌∷◌, length, nat_le, slice_index};
+ghost use Rattle.std.specs.Prelude.{◌≡◌, ℕ, ◌+◌, ◌-◌, ◌%◌, ◌<◌, ◌≤◌, [], ◌∷◌, length, nat_le};
 ghost use Rattle.def_pass.specs.Scope.{close, new_scope, wrap, ending, counts_in};
+ghost use Rattle.words.specs.Layout.{binding_count, scope_count, constant_count, id_word};
 ghost use Rattle.words.specs.Tab.{tab};
 ghost use Rattle.words_scopes.specs.State.{Good, Past, Becomes, stack, bind_at};
 ghost use Rattle.scope_values.specs.Steps.{Limited};
@@ -20,8 +21,8 @@ use words_scopes::{Record, append_record, drop_scope, first_binding, open, recor
 // A binding of a closed scope, whose record j is, goes up if it is a `var`: in place of the innermost scope's binding of the same name, or appended.
 // Answers the count that ends.
 fn hoist_one(w: &mut [u32], j: usize) -> u32
-    requires { (Good w.old) × (0 < slice_index w.old 2) × (slice_index w.old 1 ≤ j) × (j + slice_index w.old 3 < 256) × (slice_index w.old (4112 + j * 10) < 256) }
-    ensures { (Becomes w.old w.new (hoist_one (record_at w.old j) (stack w.old))) × (Past (j + 1) w.old w.new) × (slice_index w.new 1 ≤ j + 1) × (slice_index w.new 3 ≡ slice_index w.old 3) × (result ≡ end_one (record_at w.old j) (stack w.old)) }
+    requires { (Good w.old) × (0 < scope_count w.old) × (binding_count w.old ≤ j) × (j + constant_count w.old < 256) × (id_word w.old j < 256) }
+    ensures { (Becomes w.old w.new (hoist_one (record_at w.old j) (stack w.old))) × (Past (j + 1) w.old w.new) × (binding_count w.new ≤ j + 1) × (constant_count w.new ≡ constant_count w.old) × (result ≡ end_one (record_at w.old j) (stack w.old)) }
 {
     let closed = record_at(w, j);
     let count = w[layout::COUNTS + j];
@@ -50,7 +51,7 @@ fn hoist_one(w: &mut [u32], j: usize) -> u32
 
 // The bindings of a closed scope, whose records are those from a up to e, go up. Answers the sum of the counts that end.
 fn hoist_all(w: &mut [u32], a: usize, e: usize) -> u32
-    requires { (Good w.old) × (0 < slice_index w.old 2) × (slice_index w.old 1 ≤ a) × (a ≤ e) × (e + slice_index w.old 3 ≤ 256) × ((j : ℕ) → j < e → slice_index w.old (4112 + j * 10) < 256) }
+    requires { (Good w.old) × (0 < scope_count w.old) × (binding_count w.old ≤ a) × (a ≤ e) × (e + constant_count w.old ≤ 256) × ((j : ℕ) → j < e → id_word w.old j < 256) }
     ensures { (Becomes w.old w.new (hoist_up (λ j. record_at w.old j) a (e - a) (stack w.old))) × (result ≡ end_up (λ j. record_at w.old j) a (e - a) (stack w.old) % 4294967296) }
 {
     let mut ended: u32 = 0;

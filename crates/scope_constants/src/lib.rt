@@ -2,12 +2,13 @@
 // cannot hold the words that say which are targeted.
 #![tactic(auto)]
 
-ghost use Rattle.std.specs.Prelude.{◌≡◌, ◌+◌, ◌*◌, ◌-◌, ◌≤◌, ◌<◌, [], ◌∷◌, ◌++◌, get_or, set};
+ghost use Rattle.std.specs.Prelude.{◌≡◌, ◌+◌, ◌-◌, ◌≤◌, ◌<◌, [], ◌∷◌, ◌++◌, set};
 ghost use Rattle.std.proofs.Math.Option.{none};
 ghost use Rattle.def_pass.specs.Scope.{add_const, Free};
 ghost use Rattle.words_scopes.specs.State.{Good, split, stack, heads, flags, binds, consts, off, coff, targeted};
 ghost use Rattle.scope_values.specs.Steps.{Listed, Grown, Offered, run_value};
 ghost use Rattle.scope_constants.specs.Consts.{Found, Own, Left};
+ghost use Rattle.words.specs.Layout.{binding_count, scope_count, constant_count, constant_id_word, constant_len_word};
 
 use def_file::kind::Kind;
 use refusal::Refusal;
@@ -41,7 +42,7 @@ pub fn find_constant(w: &[u32], x: u8) -> Option<Run>
 
 // The constant of x in the innermost scope, by its place among all.
 fn own_const(w: &[u32], x: u8) -> Option<usize>
-    requires { (Good w.now) × (0 < get_or w.now 2 0) }
+    requires { (Good w.now) × (0 < scope_count w.now) }
     ensures { Own w.now x result }
 {
     let d = w[layout::SCOPE_COUNT] as usize - 1;
@@ -52,8 +53,8 @@ fn own_const(w: &[u32], x: u8) -> Option<usize>
 
 // Constant k gets a run of the tree's nodes as its value.
 fn set_const(w: &mut [u32], k: usize, r: Run)
-    requires { (Good w.old) × (k < get_or w.old 3 0) × (Offered w.old r) × (Free (targeted w.old) (run_value w.old r)) × (r.len + (off w.old (get_or w.old 1 0) + coff w.old (get_or w.old 3 0)) ≤ 512 + get_or w.old (6672 + k * 2 + 1) 0) }
-    ensures { Listed w.old w.new (binds w.old) (set (consts w.old) k (get_or w.old (6672 + k * 2) 0, run_value w.old r)) }
+    requires { (Good w.old) × (k < constant_count w.old) × (Offered w.old r) × (Free (targeted w.old) (run_value w.old r)) × (r.len + (off w.old (binding_count w.old) + coff w.old (constant_count w.old)) ≤ 512 + constant_len_word w.old k) }
+    ensures { Listed w.old w.new (binds w.old) (set (consts w.old) k (constant_id_word w.old k, run_value w.old r)) }
 {
     let n = w[layout::CONSTANT_COUNT] as usize;
     refill(
@@ -68,7 +69,7 @@ fn set_const(w: &mut [u32], k: usize, r: Run)
 
 // Appends a constant without a value to the innermost scope.
 fn push_const(w: &mut [u32], x: u8)
-    requires { (Good w.old) × (get_or w.old 1 0 + get_or w.old 3 0 < 256) × (0 < get_or w.old 2 0) }
+    requires { (Good w.old) × (binding_count w.old + constant_count w.old < 256) × (0 < scope_count w.old) }
     ensures { Listed w.old w.new (binds w.old) (consts w.old ++ ((x, none) ∷ [])) }
 {
     let c = w[layout::CONSTANT_COUNT] as usize;
@@ -79,8 +80,8 @@ fn push_const(w: &mut [u32], x: u8)
 
 // Constant k gets a run of the tree's nodes as its value, none if it is empty.
 fn replace_const(w: &mut [u32], k: usize, r: Run) -> Result<(), Refusal>
-    requires { (Good w.old) × (k < get_or w.old 3 0) × (Offered w.old r) × (Free (targeted w.old) (run_value w.old r)) }
-    ensures { Grown w.old w.new (split (heads w.old) (flags w.old) (binds w.old) (set (consts w.old) k (get_or w.old (6672 + k * 2) 0, run_value w.old r))) result }
+    requires { (Good w.old) × (k < constant_count w.old) × (Offered w.old r) × (Free (targeted w.old) (run_value w.old r)) }
+    ensures { Grown w.old w.new (split (heads w.old) (flags w.old) (binds w.old) (set (consts w.old) k (constant_id_word w.old k, run_value w.old r))) result }
 {
     let old = w[layout::CONSTANTS + k * 2 + layout::CONSTANT_LENGTH] as usize;
     room_for(w, old, r.len, 0)?;
@@ -90,7 +91,7 @@ fn replace_const(w: &mut [u32], k: usize, r: Run) -> Result<(), Refusal>
 
 // A constant of x is appended to the innermost scope, with a run of the tree's nodes as its value, none if it is empty.
 fn append_const(w: &mut [u32], x: u8, r: Run) -> Result<(), Refusal>
-    requires { (Good w.old) × (0 < get_or w.old 2 0) × (Offered w.old r) × (Free (targeted w.old) (run_value w.old r)) }
+    requires { (Good w.old) × (0 < scope_count w.old) × (Offered w.old r) × (Free (targeted w.old) (run_value w.old r)) }
     ensures { Grown w.old w.new (split (heads w.old) (flags w.old) (binds w.old) (consts w.old ++ ((x, run_value w.old r) ∷ []))) result }
 {
     let c = w[layout::CONSTANT_COUNT] as usize;

@@ -3,7 +3,7 @@ use Rattle.std.specs.Prelude.{Bool, true, false, List, ℕ, ◌<◌, Option, Som
 use Rattle.std.proofs.Math.Option as math
 use Rattle.def_tree.specs.Tree.{first_t, plant}
 use Rattle.def_pass.specs.Scope as def
-use Rattle.words.specs.Layout.{run}
+use Rattle.words.specs.Layout.{run, nodes_base}
 use Rattle.words.specs.declared.Run.{Run}
 use Rattle.scope_define.specs.declared.Init.{Init}
 use Rattle.scope_define.specs.declared.Init.TheVariants.{NoInit, Recorded, Seen}
@@ -12,8 +12,8 @@ pub use Rattle.words_scopes.specs.Kinds.{decl_kind_of, type_of, alias_of}
 -- an init whose tree is m of the nodes in the words
 abbrev pub init_at : List ℕ → Init → ℕ → def.Init
 init_at w NoInit m = def.no_init
-init_at w (Recorded i) m = def.recorded (first_t (plant (run w 16 i m)))
-init_at w (Seen i) m = def.seen (first_t (plant (run w 16 i m)))
+init_at w (Recorded i) m = def.recorded (first_t (plant (run w nodes_base i m)))
+init_at w (Seen i) m = def.seen (first_t (plant (run w nodes_base i m)))
 
 -- where it begins; none without an init
 abbrev pub start_of : Init → Option ℕ

@@ -1,7 +1,7 @@
 // Bindings over the working words: defined and declared.
 #![tactic(auto)]
 
-ghost use Rattle.std.specs.Prelude.{◌≡◌, ◌+◌, ◌*◌, ◌-◌, ◌≤◌, ◌<◌, get_or};
+ghost use Rattle.std.specs.Prelude.{◌≡◌, ◌+◌, ◌*◌, ◌-◌, ◌≤◌, ◌<◌};
 ghost use Rattle.def_tree.specs.Base.{pick};
 ghost use Rattle.def_pass.specs.Scope.{change, defined, with_value, fresh, append, kept};
 ghost use Rattle.words_scopes.specs.State.{Good, stack};
@@ -9,6 +9,7 @@ ghost use Rattle.words_scopes.specs.Kinds.{type_of, alias_of};
 ghost use Rattle.scope_values.specs.Steps.{Grown, Offered, run_value};
 ghost use Rattle.scope_define.specs.Kinds.{init_at, start_of, nodes_of, is_seen, Sized, bar_of};
 ghost use Rattle.scope_define.specs.Declare.{put_declared, declare_with};
+ghost use Rattle.words.specs.Layout.{scope_count};
 
 use refusal::Refusal;
 use scope_find::find_binding_from_current;
@@ -75,7 +76,7 @@ pub fn first_value(w: &mut [u32], x: u8, r: Run) -> Result<(), Refusal>
 
 // A binding of x is appended to the innermost scope, with a run of the tree's nodes as its value, none if it is empty.
 fn declare_new(w: &mut [u32], x: u8, r: Run, d: Declaration) -> Result<(), Refusal>
-    requires { (Good w.old) × (0 < get_or w.old 2 0) × (Offered w.old r) }
+    requires { (Good w.old) × (0 < scope_count w.old) × (Offered w.old r) }
     ensures { Grown w.old w.new (append (fresh x (type_of d.kind) (alias_of d.alias) d.prevented d.undefined (run_value w.old r)) (stack w.old)) result }
 {
     room_for(w, 0, r.len, 1)?;

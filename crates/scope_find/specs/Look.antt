@@ -1,5 +1,5 @@
 -- What the look-ups answer, in terms of the words and of the stack that they stand for. Assumes nothing: these are definitions.
-use Rattle.std.specs.Prelude.{Option as Answer, Some, None, List, [], ◌∷◌, map, ◌≡◌, Bool, true, false, ◌||◌, ℕ, zero, suc, ◌+◌, ◌*◌, ◌-◌, ◌≤◌, ◌<◌, length, get_or, drop, ltb}
+use Rattle.std.specs.Prelude.{Option as Answer, Some, None, List, [], ◌∷◌, map, ◌≡◌, Bool, true, false, ◌||◌, ℕ, zero, suc, ◌+◌, ◌-◌, ◌≤◌, ◌<◌, length, get_or, drop, ltb}
 use Rattle.std.proofs.Math.Option.{Option, none, some}
 use Rattle.def_file.specs.declared.kind.Kind.{Kind}
 use Rattle.def_file.specs.Named.{IsKindOf}
@@ -7,33 +7,33 @@ use Rattle.def_tree.specs.Base.{pick}
 use Rattle.def_tree.specs.Tree.{Tree, kind, plant, first_t}
 use Rattle.def_pass.specs.Scope.{VarInfo, Scope, Stack, is_fn, find_in, idx_val, is_hoisted_prevented, prevent_param}
 use Rattle.words.specs.Tab.{tab}
-use Rattle.words.specs.Layout.{tree}
+use Rattle.words.specs.Layout.{tree, node_count, binding_count, scope_count, constant_count, scope_place, barrier_word, first_binding_word, first_constant_word}
 use Rattle.words_scopes.specs.State.{Good, bind_at, const_at, Head, head_at, heads_at, scope_of, split, index_in, place}
 
 -- the words stand for a state, and it has node i
 abbrev pub HasNode : List ℕ → ℕ → Type 0
-HasNode w i = Good w × (i < get_or w 0 0)
+HasNode w i = Good w × (i < node_count w)
 
 -- where the bindings and the constants of scope k begin; behind the last scope, where they end
 abbrev pub start : List ℕ → (k field count : ℕ) → ℕ
-start w k field count = pick (ltb k (get_or w 2 0)) (get_or w (7184 + k * 4 + field) 0) (get_or w count 0)
+start w k field count = pick (ltb k (scope_count w)) (get_or w (scope_place k + field) 0) (get_or w count 0)
 
 unfoldable pub first : List ℕ → ℕ → ℕ
-first w k = start w k 1 1
+first w k = pick (ltb k (scope_count w)) (first_binding_word w k) (binding_count w)
 
 unfoldable pub cfirst : List ℕ → ℕ → ℕ
-cfirst w k = start w k 2 3
+cfirst w k = pick (ltb k (scope_count w)) (first_constant_word w k) (constant_count w)
 
 -- scope k, counted from the root; and the scopes before it, the innermost first
 unfoldable pub scope_at : List ℕ → ℕ → Scope
 unfolding first cfirst
 scope_at w k =
-    scope_of (head_at w k) (drop (get_or w (7184 + k * 4 + 1) 0) (tab (first w (suc k)) (λ j. get_or w (4112 + j * 10 + 9) 0)))
-    (drop (get_or w (7184 + k * 4 + 1) 0) (tab (first w (suc k)) (λ j. bind_at w j))) (drop (get_or w (7184 + k * 4 + 2) 0) (tab (cfirst w (suc k)) (λ j. const_at w j)))
+    scope_of (head_at w k) (drop (first_binding_word w k) (tab (first w (suc k)) (λ j. barrier_word w j)))
+    (drop (first_binding_word w k) (tab (first w (suc k)) (λ j. bind_at w j))) (drop (first_constant_word w k) (tab (cfirst w (suc k)) (λ j. const_at w j)))
 
 unfoldable pub below : List ℕ → ℕ → Stack
 unfolding first cfirst
-below w k = split (heads_at w k) (tab (first w k) (λ j. get_or w (4112 + j * 10 + 9) 0)) (tab (first w k) (λ j. bind_at w j)) (tab (cfirst w k) (λ j. const_at w j))
+below w k = split (heads_at w k) (tab (first w k) (λ j. barrier_word w j)) (tab (first w k) (λ j. bind_at w j)) (tab (cfirst w k) (λ j. const_at w j))
 
 -- the binding at a place, 1 + its number; at 0 there is none
 abbrev pub at_place : List ℕ → ℕ → Option VarInfo
@@ -49,7 +49,7 @@ place_below w x k = place x (heads_at w k) (tab (first w k) (λ j. bind_at w j))
 pub record FoundIn (w : List ℕ) (k x r : ℕ) : Type 0 where
   pub is : find_in x (scope_at w k).bindings ≡ at_place w r
   pub index : 0 < r → r ≡ suc (first w k + index_in x (scope_at w k).bindings)
-  pub low : r ≤ get_or w 1 0
+  pub low : r ≤ binding_count w
 
 -- idx_val in the current scope; a place in the current scope, 1 + its number there
 abbrev pub idx_here : ℕ → Stack → Option (ℕ × VarInfo)
@@ -58,7 +58,7 @@ idx_here x (s ∷ st) = idx_val 0 x s.bindings
 
 abbrev pub idx_at : List ℕ → ℕ → Option (ℕ × VarInfo)
 idx_at w zero = none
-idx_at w (suc j) = some (j, bind_at w (first w (get_or w 2 0 - 1) + j))
+idx_at w (suc j) = some (j, bind_at w (first w (scope_count w - 1) + j))
 
 -- read_cnt
 abbrev pub reads_o : Option VarInfo → Option ℕ

@@ -2,7 +2,7 @@
 // node's is a clause: a number cannot hold the words that it is a number in.
 #![tactic(auto)]
 
-ghost use Rattle.std.specs.Prelude.{◌≡◌, suc, ◌+◌, ◌*◌, ◌-◌, ◌≤◌, ◌<◌, true, ◌||◌, ltb, ◌⊎◌, get_or};
+ghost use Rattle.std.specs.Prelude.{◌≡◌, suc, ◌+◌, ◌-◌, ◌≤◌, ◌<◌, true, ◌||◌, ltb, ◌⊎◌};
 ghost use Rattle.std.proofs.Math.Option.{some};
 ghost use Rattle.def_pass.specs.Scope.{is_some, const_in, find_binding, find_binding_from_current, write_prevents_inline, read_prevents_inlining, should_prevent_inline_because_of_scope, var_inline_prevented, is_hoisted_prevented, is_inline_prevented, mark_of, mark_of_id, ident_of, has_same_this, has_constant, scope_for, in_loop, any_from, between};
 ghost use Rattle.def_tree.specs.Tree.{kids};
@@ -10,7 +10,7 @@ ghost use Rattle.def_pass.specs.Tree.{head_t};
 ghost use Rattle.def_pass.specs.Twice.{is_twice, unflagged, is_args};
 ghost use Rattle.def_file.specs.declared.kind.Kind.TheVariants.{BindingIdent, Ident};
 ghost use Rattle.def_file.specs.Named.{number_of};
-ghost use Rattle.words.specs.Layout.{yes, node_of};
+ghost use Rattle.words.specs.Layout.{yes, node_of, binding_count, scope_count, field_word};
 ghost use Rattle.words.specs.Place.{placed};
 ghost use Rattle.words_scopes.specs.Kinds.{type_of, kind_of};
 ghost use Rattle.words_scopes.specs.State.{Good, HasBinding, HasScope, stack, heads, binds, place, bind_at, len_at, off};
@@ -68,7 +68,7 @@ pub struct ScopeFor {
 
 // A word of scope k's own record, where its bindings or its constants begin; behind the last scope a count, where they end.
 fn start_of(w: &[u32], k: usize, field: usize, count: usize) -> usize
-    requires { (Good w.now) × (k ≤ get_or w.now 2 0) × (field < 4) × (count < 4) }
+    requires { (Good w.now) × (k ≤ scope_count w.now) × (field < 4) × (count < 4) }
     ensures { result ≡ start w.now k field count }
 {
     if k < w[layout::SCOPE_COUNT] as usize {
@@ -79,7 +79,7 @@ fn start_of(w: &[u32], k: usize, field: usize, count: usize) -> usize
 
 // Where the bindings of scope k begin; behind the last scope, where they end.
 pub fn first_of(w: &[u32], k: usize) -> usize
-    requires { (Good w.now) × (k ≤ get_or w.now 2 0) }
+    requires { (Good w.now) × (k ≤ scope_count w.now) }
     ensures { result ≡ first w.now k }
 {
     start_of(w, k, layout::FIRST_BINDING, layout::BINDING_COUNT)
@@ -139,7 +139,7 @@ fn const_in(w: &[u32], k: usize, x: u8) -> bool
 // The binding of x in the current scope.
 pub fn find_binding_from_current(w: &[u32], x: u8) -> Option<usize>
     requires { Good w.now }
-    ensures found { (find_binding_from_current x (stack w.now) ≡ at_place w.now (placed result)) × (placed result ≤ get_or w.now 1 0) }
+    ensures found { (find_binding_from_current x (stack w.now) ≡ at_place w.now (placed result)) × (placed result ≤ binding_count w.now) }
     ensures own { Own w.now x result }
 {
     let k = current(w)?;
@@ -209,7 +209,7 @@ pub fn bound_here(w: &[u32]) -> usize
 // Is a word of binding k's record set, as a flag.
 fn is_set(w: &[u32], k: usize, field: usize) -> bool
     requires { (HasBinding w.now k) × (field < 10) }
-    ensures { result ≡ yes (get_or w.now (4112 + k * 10 + field) 0) }
+    ensures { result ≡ yes (field_word w.now k field) }
 {
     w[layout::BINDINGS + k * 10 + field] != 0
 }
@@ -331,7 +331,7 @@ pub fn scope_for(w: &[u32], x: u8) -> ScopeFor
 
 // Is there a binding at the place, hoisted and prevented.
 fn hoisted_prevented(w: &[u32], r: Option<usize>) -> bool
-    requires { (Good w.now) × (placed r ≤ get_or w.now 1 0) }
+    requires { (Good w.now) × (placed r ≤ binding_count w.now) }
     ensures { result ≡ is_hoisted_prevented (at_place w.now (placed r)) }
 {
     let Some(k) = r else {
@@ -342,7 +342,7 @@ fn hoisted_prevented(w: &[u32], r: Option<usize>) -> bool
 
 // Does a scope before scope d leave x unresolved, or have a hoisted binding of it that is prevented; q is the innermost binding of x there.
 fn held_below(w: &[u32], d: usize, x: u8, q: Option<usize>) -> bool
-    requires { (Good w.now) × (d ≤ get_or w.now 2 0) × (placed q ≡ place_below w.now x d) }
+    requires { (Good w.now) × (d ≤ scope_count w.now) × (placed q ≡ place_below w.now x d) }
     ensures { result ≡ held x (below w.now d) }
 {
     let mut p = q;

@@ -1,10 +1,11 @@
 // Marks: what changes the scopes and adds nothing to them.
-ghost use Rattle.std.specs.Prelude.{◌≡◌, ◌≤◌, get_or};
+ghost use Rattle.std.specs.Prelude.{◌≡◌, ◌≤◌};
 ghost use Rattle.def_pass.specs.Scope.{is_some, is_fn, find_binding, change, sensitive_now, count_read, add_unresolved, prevent_inline_of_params, store_inline_barrier};
 ghost use Rattle.def_tree.specs.Base.{pick};
 ghost use Rattle.words_scopes.specs.State.{Good, HasScope, Becomes, stack, heads, flags, binds, consts, split};
 ghost use Rattle.scope_find.specs.Look.{scope_at, fn_start, params_from};
 ghost use Rattle.scope_find.specs.Touched.{BarStored};
+ghost use Rattle.words.specs.Layout.{binding_count};
 
 use scope_find::{first_of, hoisted, scope_kind, var_type};
 use words::{layout, set_flag};
@@ -71,7 +72,7 @@ fn fn_start(w: &[u32]) -> usize
 
 // Marks the parameters among the bindings from lo on.
 fn prevent_params(w: &mut [u32], lo: usize)
-    requires { (Good w.old) × (lo ≤ get_or w.old 1 0) }
+    requires { (Good w.old) × (lo ≤ binding_count w.old) }
     ensures { Becomes w.old w.new (split (heads w.old) (flags w.old) (params_from lo (binds w.old)) (consts w.old)) }
 {
     for k in lo..w[layout::BINDING_COUNT] as usize {

@@ -3,7 +3,7 @@ use Rattle.std.specs.Prelude.{◌≡◌, ◌⊎◌, List, Bool, true, false, Res
 use Rattle.std.proofs.Math.Option.{Option}
 use Rattle.def_tree.specs.Tree.{Tree, Core}
 use Rattle.def_pass.specs.Scope.{VarInfo, Stack, recorded_nodes, live}
-use Rattle.words.specs.Layout.{run, tree, beyond}
+use Rattle.words.specs.Layout.{run, tree, beyond, nodes_base, values_base, constant_values_base, bindings_base, node_count}
 use Rattle.words.specs.Tab.{sum}
 use Rattle.words_scopes.specs.State.{split, heads, flags, binds, consts, value_of, run_of, Good, Others, Becomes}
 use Rattle.words_scopes.specs.Kinds.{type_of, alias_of}
@@ -16,14 +16,14 @@ use Rattle.refusal.specs.Number.{number}
 -- in a store of values at base: old nodes at `at` gave way to the m nodes of the tree from i on, and those behind, up to `end`, were shifted
 pub record Spliced (w w' : List ℕ) (base at old end i m : ℕ) : Type 0 where
   pub size : length w' ≡ length w
-  pub here : (j : ℕ) → j < m * 2 → get_or w' (base + at * 2 + j) 0 ≡ get_or w (16 + i * 2 + j) 0
+  pub here : (j : ℕ) → j < m * 2 → get_or w' (base + at * 2 + j) 0 ≡ get_or w (nodes_base + i * 2 + j) 0
   pub behind : (j : ℕ) → j < (end - at - old) * 2 → get_or w' (base + (at + m) * 2 + j) 0 ≡ get_or w (base + (at + old) * 2 + j) 0
   pub low : (j : ℕ) → j < base + at * 2 → get_or w' j 0 ≡ get_or w j 0
   pub high : (j : ℕ) → base + 1024 ≤ j → get_or w' j 0 ≡ get_or w j 0
 
 -- a store of values: their nodes stand from `base` on with no gap, and their lengths are the words of a table
 abbrev pub IsStore : ℕ → Table → Type 0
-IsStore base t = (2064 ≤ base) × (base ≤ 3088) × (4112 ≤ t.base) × (t.base ≤ 8192) × (0 < t.stride) × (t.stride ≤ 10)
+IsStore base t = (values_base ≤ base) × (base ≤ constant_values_base) × (bindings_base ≤ t.base) × (t.base ≤ 8192) × (0 < t.stride) × (t.stride ≤ 10)
 
 abbrev pub len_in : List ℕ → Table → ℕ → ℕ
 len_in w t k = get_or w (t.base + k * t.stride) 0
@@ -37,7 +37,7 @@ run_in w base t k = run w base (off_in w t k) (len_in w t k)
 -- value k of n became a run of the tree's nodes, and the others are as they were; so is each word outside the store, but for the length
 pub record Refilled (w w' : List ℕ) (base : ℕ) (t : Table) (k n : ℕ) (r : Run) : Type 0 where
   pub size : length w' ≡ length w
-  pub this : run_in w' base t k ≡ run w 16 r.at r.len
+  pub this : run_in w' base t k ≡ run w nodes_base r.at r.len
   pub other : (j : ℕ) → j < n → (j ≡ k → ⊥) → run_in w' base t j ≡ run_in w base t j
   pub out : (j : ℕ) → (j < base) ⊎ (base + 1024 ≤ j) → (j ≡ t.base + k * t.stride → ⊥) → get_or w' j 0 ≡ get_or w j 0
 
@@ -92,9 +92,9 @@ GrownLate w w' st (Err r) = (number r ≡ 9) × (over st ≡ true) × Still w w'
 
 -- the value that a run of the tree's nodes is, none if it is empty
 abbrev pub run_value : List ℕ → Run → Option Tree
-run_value w r = value_of (run w 16 r.at r.len)
+run_value w r = value_of (run w nodes_base r.at r.len)
 
 -- a run stands in the tree, and is one tree or none: it may become a value
 pub record Offered (w : List ℕ) (r : Run) : Type 0 where
-  pub inside : r.at + r.len ≤ get_or w 0 0
-  pub one : run_of (run_value w r) ≡ run w 16 r.at r.len
+  pub inside : r.at + r.len ≤ node_count w
+  pub one : run_of (run_value w r) ≡ run w nodes_base r.at r.len

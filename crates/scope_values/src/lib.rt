@@ -2,8 +2,9 @@
 // cannot hold the words that it stands in.
 #![tactic(auto)]
 
-ghost use Rattle.std.specs.Prelude.{◌≡◌, ℕ, ◌+◌, ◌*◌, ◌-◌, ◌≤◌, ◌<◌, ◌||◌, get_or, length, set, ltb};
+ghost use Rattle.std.specs.Prelude.{◌≡◌, ℕ, ◌+◌, ◌-◌, ◌≤◌, ◌<◌, ◌||◌, length, set, ltb};
 ghost use Rattle.def_pass.specs.Scope.{recorded_nodes, live, change, with_value};
+ghost use Rattle.words.specs.Layout.{values_base, constant_values_base, binding_count, constant_count, value_len_word, first_binding_word, first_constant_word};
 ghost use Rattle.words.specs.Tab.{sum};
 ghost use Rattle.words_scopes.specs.State.{Good, HasBinding, Past, stack, binds, consts, bind_at, off, coff};
 ghost use Rattle.scope_values.specs.Outwards.{stops_at};
@@ -15,7 +16,7 @@ use words_scopes::{find_binding, first_binding, first_constant, offset};
 
 // In a store of values: a run of the tree's nodes takes the place of the old nodes at a place; those behind are shifted.
 pub fn splice(w: &mut [u32], base: usize, at: usize, old: usize, end: usize, r: Run)
-    requires { (16384 ≤ length w.old) × (2064 ≤ base) × (base ≤ 3088) × (r.at + r.len ≤ 1024) × (at + old ≤ end) × (end ≤ 512) × (r.len + end ≤ 512 + old) }
+    requires { (16384 ≤ length w.old) × (values_base ≤ base) × (base ≤ constant_values_base) × (r.at + r.len ≤ 1024) × (at + old ≤ end) × (end ≤ 512) × (r.len + end ≤ 512 + old) }
     ensures { Spliced w.old w.new base at old end r.at r.len }
 {
     shift(
@@ -45,7 +46,7 @@ pub fn refill(w: &mut [u32], base: usize, lengths: layout::Table, k: usize, n: u
 // How many nodes the values before constant k have. Beside `offset` of words_scopes, each one sum: the laws are of two lists of different records, so
 // that one function over both would promise each by a case.
 pub fn const_offset(w: &[u32], k: usize) -> usize
-    requires { (Good w.now) × (k ≤ get_or w.now 3 0) }
+    requires { (Good w.now) × (k ≤ constant_count w.now) }
     ensures { (result ≡ coff w.now k) × (result ≤ 512) }
 {
     sum_at(w, layout::CONSTANT_LENGTHS, 0, k)
@@ -71,8 +72,8 @@ pub fn live(w: &[u32]) -> usize
 
 // How many nodes scope k records: its bindings end before binding e, its constants before constant c.
 fn nodes_in(w: &[u32], k: usize, e: usize, c: usize) -> usize
-    requires { (Good w.now) × (k < 32) × (get_or w.now (7184 + k * 4 + 1) 0 ≤ e) × (e ≤ get_or w.now 1 0) × (get_or w.now (7184 + k * 4 + 2) 0 ≤ c) × (c ≤ get_or w.now 3 0) }
-    ensures { off w.now (get_or w.now (7184 + k * 4 + 1) 0) + coff w.now (get_or w.now (7184 + k * 4 + 2) 0) + result ≡ off w.now e + coff w.now c }
+    requires { (Good w.now) × (k < 32) × (first_binding_word w.now k ≤ e) × (e ≤ binding_count w.now) × (first_constant_word w.now k ≤ c) × (c ≤ constant_count w.now) }
+    ensures { off w.now (first_binding_word w.now k) + coff w.now (first_constant_word w.now k) + result ≡ off w.now e + coff w.now c }
 {
     sum_at(w, layout::LENGTHS, first_binding(w, k), e)
         + sum_at(w, layout::CONSTANT_LENGTHS, first_constant(w, k), c)
@@ -121,7 +122,7 @@ pub fn room_for(w: &[u32], old: usize, m: usize, more: usize) -> Result<(), Refu
 
 // Binding k gets a run of the tree's nodes as its value, which are one tree or none.
 pub fn set_run(w: &mut [u32], k: usize, r: Run)
-    requires { (HasBinding w.old k) × (Offered w.old r) × (r.len + (off w.old (get_or w.old 1 0) + coff w.old (get_or w.old 3 0)) ≤ 512 + get_or w.old (4112 + k * 10 + 8) 0) }
+    requires { (HasBinding w.old k) × (Offered w.old r) × (r.len + (off w.old (binding_count w.old) + coff w.old (constant_count w.old)) ≤ 512 + value_len_word w.old k) }
     ensures { (Listed w.old w.new (set (binds w.old) k (with_value (run_value w.old r) (bind_at w.old k))) (consts w.old)) × (Past (k + 1) w.old w.new) }
 {
     let n = w[layout::BINDING_COUNT] as usize;

@@ -1,11 +1,11 @@
 -- What a caller of scope.rs holds: a binding by its number, a tree by its first node. Assumes nothing: these are definitions.
-use Rattle.std.specs.Prelude.{◌≡◌, Option as Answer, Some, None, IfSome, Result, Ok, List, [], ◌∷◌, ◌++◌, Bool, false, ℕ, zero, suc, ◌+◌, ◌≤◌, ◌<◌, ltb, length, get_or}
+use Rattle.std.specs.Prelude.{◌≡◌, Option as Answer, Some, None, IfSome, Result, Ok, List, [], ◌∷◌, ◌++◌, Bool, false, ℕ, zero, suc, ◌+◌, ◌≤◌, ◌<◌, ltb, length}
 use Rattle.std.proofs.Math.Option.{Option, none, some}
 use Rattle.std.proofs.Math.ListN.{get_elem?}
 use Rattle.def_tree.specs.Base.{pick}
 use Rattle.def_tree.specs.Tree.{Tree, node, nil, Core, count}
 use Rattle.def_pass.specs.Scope.{VarInfo, Stack}
-use Rattle.words.specs.Layout.{run}
+use Rattle.words.specs.Layout.{run, constant_values_base, binding_count}
 use Rattle.words.specs.declared.Value.{Value}
 use Rattle.words_scopes.specs.State.{Whole, bind_at}
 use Rattle.words_nodes.specs.Nodes.{tree_from, value_from, Swapped}
@@ -24,7 +24,7 @@ numbered st (suc k) = get_elem? (bindings_of st) k
 -- it is binding k of the words, or there is none
 abbrev pub IsBinding : List ℕ → Option VarInfo → Answer ℕ → Type 0
 IsBinding w o None = o ≡ none
-IsBinding w o (Some k) = (o ≡ some (bind_at w k)) × (k < get_or w 1 0)
+IsBinding w o (Some k) = (o ≡ some (bind_at w k)) × (k < binding_count w)
 
 -- a test of it
 abbrev pub of_binding : (VarInfo → Bool) → Option VarInfo → Bool
@@ -37,7 +37,7 @@ tree_o xs i = pick (ltb i (length xs)) (some (tree_from xs i)) none
 
 -- the store behind the others: that of the constants' values, by its first word
 abbrev pub of_constants : ℕ
-of_constants = 3088
+of_constants = constant_values_base
 
 -- m nodes from `at` on of a store are the nodes of one tree
 pub record Held (w : List ℕ) (base at m : ℕ) : Type 0 where

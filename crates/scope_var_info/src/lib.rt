@@ -2,11 +2,11 @@
 // none. A recorded value is named by its binding's number, or by its constant's name, and is put into the tree from here.
 #![tactic(auto)]
 
-ghost use Rattle.std.specs.Prelude.{◌≡◌, true, false, suc, ◌≤◌, ◌<◌, get_or, length, IfSome};
+ghost use Rattle.std.specs.Prelude.{◌≡◌, true, false, suc, ◌≤◌, ◌<◌, length, IfSome};
 ghost use Rattle.std.proofs.Math.Option.{none};
 ghost use Rattle.def_pass.specs.Scope.{find_binding, find_binding_from_current, is_param, var_inline_prevented, value_o, prevented_o, has_same_this, find_constant, Free};
 ghost use Rattle.def_pass.specs.Tree.{count_o};
-ghost use Rattle.words.specs.Layout.{tree};
+ghost use Rattle.words.specs.Layout.{tree, binding_count};
 ghost use Rattle.words.specs.Place.{placed};
 ghost use Rattle.words_scopes.specs.State.{Good, stack, name_of, targeted};
 ghost use Rattle.scope_find.specs.Look.{idx_here, IsKindOfValue};
@@ -22,7 +22,7 @@ use words_nodes::replace_at;
 // Is b the number of a binding.
 fn known(w: &[u32], b: usize) -> bool
     requires { Good w.now }
-    ensures { (result ≡ true → b < get_or w.now 1 0) × (result ≡ false → numbered (stack w.now) (suc b) ≡ none) }
+    ensures { (result ≡ true → b < binding_count w.now) × (result ≡ false → numbered (stack w.now) (suc b) ≡ none) }
 {
     b < w[layout::BINDING_COUNT] as usize
 }

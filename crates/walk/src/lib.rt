@@ -1,8 +1,9 @@
 // mod.rs: its walks over the tree's nodes in the working words. They call each other in a cycle.
-// p, d, i: the depth of node i, and the levels left below it; l: these and its own; n, i: n trees from node i on. Parameters and no struct: each of them
-// changes alone from call to call (p + 1, d - 1, i by a subtree's length, n - 1), so that a struct would be made anew at each call.
-// The levels fall in three functions, each of which refuses by 8 where none is left: `full` hands l - 1 to `ident`, `own` and `after`, `arm` hands d - 1
-// to `own`, and `params` hands d - 1 to `body`. All others hand on the levels that they have.
+// depth, below: the depth of a node, and the levels left below it; levels: these and its own; n, node: n trees from the node on. Parameters and no
+// struct: each of them changes alone from call to call (depth + 1, below - 1, node by a subtree's length, n - 1), so that a struct would be made anew at
+// each call. The definition (crates/laws_flat/specs/WalkF.antt) has p for the depth, l and d for the levels, and i for the node.
+// The levels fall in three functions, each of which refuses by 8 where none is left: `full` hands levels - 1 to `ident`, `own` and `after`, `arm` hands
+// below - 1 to `own`, and `params` hands below - 1 to `body`. All others hand on the levels that they have.
 #![tactic(auto)]
 
 ghost use Rattle.std.specs.Prelude.{◌+◌, ◌≡◌, true};
@@ -45,103 +46,109 @@ use words_state::{
 
 // A node as its parent's default walk calls it: its own handler, then the steps of visit_mut_expr; what has neither is passed at once.
 #[cycle(walks)]
-fn full(w: &mut [u32], p: usize, l: usize, i: usize) -> Result<usize, Refusal>
-    requires { Here w.old 1 i p l }
-    ensures { Did w.old w.new result ((walks_f l).full p i (abs w.old)) }
+fn full(w: &mut [u32], depth: usize, levels: usize, node: usize) -> Result<usize, Refusal>
+    requires { Here w.old 1 node depth levels }
+    ensures { Did w.old w.new result ((walks_f levels).full depth node (abs w.old)) }
 {
-    if l == 0 {
+    if levels == 0 {
         return Err(Refusal::Depth);
     }
-    if bare(w, i) {
-        return match kind_at(w, i) {
-            Kind::Ident => ident(w, p, l - 1, i),
-            _ => Ok(i + 1),
+    if bare(w, node) {
+        return match kind_at(w, node) {
+            Kind::Ident => ident(w, depth, levels - 1, node),
+            _ => Ok(node + 1),
         };
     }
-    let j = own(w, p, l - 1, i)?;
-    if settled(w, i) {
+    let j = own(w, depth, levels - 1, node)?;
+    if settled(w, node) {
         return Ok(j);
     }
-    after(w, p, l - 1, i, j)
+    after(w, depth, levels - 1, node, j)
 }
 
-// visit_mut_children_with of a list: n trees from i on. It and arms, parts, binds and conds are loops that differ in their step, and block, arm,
+// visit_mut_children_with of a list: n trees from the node on. It and arms, parts, binds and conds are loops that differ in their step, and block, arm,
 // func, arrow, catch and case differ in the walk between `enter` and `leave`. Tried with a closure for the step: in a cycle of calls it is a member
 // with a measure, nothing of it is inferred, so that it repeats the clauses of the walk that it calls, and what takes it can promise a chain of its
 // calls alone. Five lines would be six, with a second contract.
 #[cycle(walks)]
-fn many(w: &mut [u32], p: usize, d: usize, n: usize, i: usize) -> Result<usize, Refusal>
-    requires { Here w.old n i p d }
-    ensures { Did w.old w.new result (many ((walks_f d).full p) n i (abs w.old)) }
+fn many(w: &mut [u32], depth: usize, below: usize, n: usize, node: usize) -> Result<usize, Refusal>
+    requires { Here w.old n node depth below }
+    ensures { Did w.old w.new result (many ((walks_f below).full depth) n node (abs w.old)) }
 {
-    let mut at = i;
+    let mut at = node;
     for _k in 0..n {
-        at = full(w, p, d, at)?;
+        at = full(w, depth, below, at)?;
     }
     Ok(at)
 }
 
 // visit_mut_stmts: plainly in Analysis; in Inlining both ways.
 #[cycle(walks)]
-fn stmts(w: &mut [u32], p: usize, d: usize, n: usize, i: usize) -> Result<usize, Refusal>
-    requires { Here w.old n i p d }
-    ensures { Did w.old w.new result (visit_mut_stmts_f (walks_f d) p n i (abs w.old)) }
+fn stmts(w: &mut [u32], depth: usize, below: usize, n: usize, node: usize) -> Result<usize, Refusal>
+    requires { Here w.old n node depth below }
+    ensures { Did w.old w.new result (visit_mut_stmts_f (walks_f below) depth n node (abs w.old)) }
 {
     if !inlining(w) {
-        return many(w, p, d, n, i);
+        return many(w, depth, below, n, node);
     }
     set_inlining(w, false);
-    many(w, p, d, n, i)?;
+    many(w, depth, below, n, node)?;
     set_inlining(w, true);
-    many(w, p, d, n, i)
+    many(w, depth, below, n, node)
 }
 
 // The statements of a script, or of a function's body. `body` and `kids`, `params` and `loops` differ in the member of the cycle that they call: one
 // over both would take it as a closure, which would be a member itself, with a measure.
 #[cycle(walks)]
-fn body(w: &mut [u32], p: usize, d: usize, i: usize) -> Result<usize, Refusal>
-    requires { Here w.old 1 i p (d + 1) }
-    ensures { Did w.old w.new result (script_f (walks_f d) p i (abs w.old)) }
+fn body(w: &mut [u32], depth: usize, below: usize, node: usize) -> Result<usize, Refusal>
+    requires { Here w.old 1 node depth (below + 1) }
+    ensures { Did w.old w.new result (script_f (walks_f below) depth node (abs w.old)) }
 {
-    let n = arity_at(w, i) as usize;
-    stmts(w, p + 1, d, n, i + 1)
+    let n = arity_at(w, node) as usize;
+    stmts(w, depth + 1, below, n, node + 1)
 }
 
 // visit_mut_children_with.
 #[cycle(walks)]
-fn kids(w: &mut [u32], p: usize, d: usize, i: usize) -> Result<usize, Refusal>
-    requires { Here w.old 1 i p (d + 1) }
-    ensures { Did w.old w.new result (plain_f (walks_f d) p i (abs w.old)) }
+fn kids(w: &mut [u32], depth: usize, below: usize, node: usize) -> Result<usize, Refusal>
+    requires { Here w.old 1 node depth (below + 1) }
+    ensures { Did w.old w.new result (plain_f (walks_f below) depth node (abs w.old)) }
 {
-    let n = arity_at(w, i) as usize;
-    many(w, p + 1, d, n, i + 1)
+    let n = arity_at(w, node) as usize;
+    many(w, depth + 1, below, n, node + 1)
 }
 
 // visit_mut_block_stmt.
 #[cycle(walks)]
-fn block(w: &mut [u32], p: usize, d: usize, i: usize) -> Result<usize, Refusal>
-    requires { Here w.old 1 i p (d + 1) }
-    ensures { Did w.old w.new result (visit_mut_block_stmt_f (walks_f d) p i (abs w.old)) }
+fn block(w: &mut [u32], depth: usize, below: usize, node: usize) -> Result<usize, Refusal>
+    requires { Here w.old 1 node depth (below + 1) }
+    ensures { Did w.old w.new result (visit_mut_block_stmt_f (walks_f below) depth node (abs w.old)) }
 {
     let before = save_fields(w);
     enter(w, ScopeKind::Block)?;
-    let j = body(w, p, d, i)?;
+    let j = body(w, depth, below, node)?;
     leave(w, before);
     Ok(j)
 }
 
 // visit_with_child.
 #[cycle(walks)]
-fn arm(w: &mut [u32], p: usize, d: usize, kind: ScopeKind, i: usize) -> Result<usize, Refusal>
-    requires { Here w.old 1 i p d }
-    ensures { Did w.old w.new result (visit_with_child_f (walks_f d) p (kind_of kind) i (abs w.old)) }
+fn arm(
+    w: &mut [u32],
+    depth: usize,
+    below: usize,
+    kind: ScopeKind,
+    node: usize,
+) -> Result<usize, Refusal>
+    requires { Here w.old 1 node depth below }
+    ensures { Did w.old w.new result (visit_with_child_f (walks_f below) depth (kind_of kind) node (abs w.old)) }
 {
     let before = save_fields(w);
     enter(w, kind)?;
-    if d == 0 {
+    if below == 0 {
         return Err(Refusal::Depth);
     }
-    let j = own(w, p, d - 1, i)?;
+    let j = own(w, depth, below - 1, node)?;
     leave(w, before);
     Ok(j)
 }
@@ -150,81 +157,81 @@ fn arm(w: &mut [u32], p: usize, d: usize, kind: ScopeKind, i: usize) -> Result<u
 #[cycle(walks)]
 fn arms(
     w: &mut [u32],
-    p: usize,
-    d: usize,
+    depth: usize,
+    below: usize,
     kind: ScopeKind,
     n: usize,
-    i: usize,
+    node: usize,
 ) -> Result<usize, Refusal>
-    requires { Here w.old n i p d }
-    ensures { Did w.old w.new result (many (visit_with_child_f (walks_f d) p (kind_of kind)) n i (abs w.old)) }
+    requires { Here w.old n node depth below }
+    ensures { Did w.old w.new result (many (visit_with_child_f (walks_f below) depth (kind_of kind)) n node (abs w.old)) }
 {
-    let mut at = i;
+    let mut at = node;
     for _k in 0..n {
-        at = arm(w, p, d, kind, at)?;
+        at = arm(w, depth, below, kind, at)?;
     }
     Ok(at)
 }
 
 // visit_mut_var_decl.
 #[cycle(walks)]
-fn decl(w: &mut [u32], p: usize, d: usize, i: usize) -> Result<usize, Refusal>
-    requires { Here w.old 1 i p (d + 1) }
-    ensures { Did w.old w.new result (visit_mut_var_decl_f (walks_f d) p i (abs w.old)) }
+fn decl(w: &mut [u32], depth: usize, below: usize, node: usize) -> Result<usize, Refusal>
+    requires { Here w.old 1 node depth (below + 1) }
+    ensures { Did w.old w.new result (visit_mut_var_decl_f (walks_f below) depth node (abs w.old)) }
 {
-    let f = form_at(w, i);
+    let f = form_at(w, node);
     set_var_decl_kind(w, decl_kind(f));
-    kids(w, p, d, i)
+    kids(w, depth, below, node)
 }
 
 // A declarator's name is walked last; what stands behind it is left.
 #[cycle(walks)]
-fn name(w: &mut [u32], p: usize, d: usize, n: usize, i: usize) -> Result<usize, Refusal>
-    requires { (Here w.old 1 i p (d + 1)) × (n ≡ (node_of w.old i).arity) }
-    ensures { Did w.old w.new result (name_last_f (walks_f d) p n (i + 1) (abs w.old)) }
+fn name(w: &mut [u32], depth: usize, below: usize, n: usize, node: usize) -> Result<usize, Refusal>
+    requires { (Here w.old 1 node depth (below + 1)) × (n ≡ (node_of w.old node).arity) }
+    ensures { Did w.old w.new result (name_last_f (walks_f below) depth n (node + 1) (abs w.old)) }
 {
     if n == 0 {
-        return Ok(i + 1);
+        return Ok(node + 1);
     }
-    full(w, p + 1, d, i + 1)?;
-    Ok(skip(w, i))
+    full(w, depth + 1, below, node + 1)?;
+    Ok(skip(w, node))
 }
 
 // A declarator in Inlining: its initialiser is walked again, and recorded or not.
 #[cycle(walks)]
-fn init(w: &mut [u32], p: usize, d: usize, n: usize, i: usize) -> Result<usize, Refusal>
-    requires { (Here w.old 1 i p (d + 1)) × (n ≡ (node_of w.old i).arity) × (Bound w.old n (i + 1)) }
-    ensures { Did w.old w.new result (declr_end_f (walks_f d) p i (some (tree_at (abs w.old) (i + 1))) true (rest w.old).var_decl_kind n (i + 1) (abs w.old)) }
+fn init(w: &mut [u32], depth: usize, below: usize, n: usize, node: usize) -> Result<usize, Refusal>
+    requires { (Here w.old 1 node depth (below + 1)) × (n ≡ (node_of w.old node).arity) × (Bound w.old n (node + 1)) }
+    ensures { Did w.old w.new result (declr_end_f (walks_f below) depth node (some (tree_at (abs w.old) (node + 1))) true (rest w.old).var_decl_kind n (node + 1) (abs w.old)) }
 {
     let kind = var_decl_kind(w);
     if kind.is_const() {
-        return name(w, p, d, n, i);
+        return name(w, depth, below, n, node);
     }
-    let bound = name_at(w, i + 1);
+    let bound = name_at(w, node + 1);
     let declared = Declr { name: bound, kind };
-    let j = skip(w, i + 1);
+    let j = skip(w, node + 1);
     if stays(w, bound.ident, n - 1, j) {
-        return Ok(skip(w, i));
+        return Ok(skip(w, node));
     }
     if n == 1 {
         return declr_after(
             w,
             declared,
             Spot {
-                q: i,
+                q: node,
                 n: 0,
                 i: j,
                 j,
             },
         );
     }
-    full(w, p + 1, d, j)?;
-    let end = skip(w, i);
+    full(w, depth + 1, below, j)?;
+    let end = skip(w, node);
     declr_after(
         w,
         declared,
         Spot {
-            q: i,
+            q: node,
             n: n - 1,
             i: j,
             j: end,
@@ -234,162 +241,168 @@ fn init(w: &mut [u32], p: usize, d: usize, n: usize, i: usize) -> Result<usize, 
 
 // visit_mut_var_declarator.
 #[cycle(walks)]
-fn declr(w: &mut [u32], p: usize, d: usize, i: usize) -> Result<usize, Refusal>
-    requires { Here w.old 1 i p (d + 1) }
-    ensures { Did w.old w.new result (visit_mut_var_declarator_f (walks_f d) p i (abs w.old)) }
+fn declr(w: &mut [u32], depth: usize, below: usize, node: usize) -> Result<usize, Refusal>
+    requires { Here w.old 1 node depth (below + 1) }
+    ensures { Did w.old w.new result (visit_mut_var_declarator_f (walks_f below) depth node (abs w.old)) }
 {
-    let n = arity_at(w, i) as usize;
-    tail(w, p + 1, d, n, i + 1)?;
+    let n = arity_at(w, node) as usize;
+    tail(w, depth + 1, below, n, node + 1)?;
     set_pat_mode(w, PatFoldingMode::VarDecl);
-    if nameless(w, n, i + 1) {
-        return name(w, p, d, n, i);
+    if nameless(w, n, node + 1) {
+        return name(w, depth, below, n, node);
     }
     if inlining(w) {
-        return init(w, p, d, n, i);
+        return init(w, depth, below, n, node);
     }
-    let bound = name_at(w, i + 1);
-    let gone = over(w, bound, n, i + 1)?;
+    let bound = name_at(w, node + 1);
+    let gone = over(w, bound, n, node + 1)?;
     if gone {
-        return Ok(skip(w, i));
+        return Ok(skip(w, node));
     }
-    name(w, p, d, n, i)
+    name(w, depth, below, n, node)
 }
 
 // visit_mut_function: its parameters and its body.
 #[cycle(walks)]
-fn params(w: &mut [u32], p: usize, d: usize, n: usize, i: usize) -> Result<usize, Refusal>
-    requires { Here w.old n i p d }
-    ensures { Did w.old w.new result (each_but_f ((walks_f d).full p) ((walks_f d).inner p) n i (abs w.old)) }
+fn params(
+    w: &mut [u32],
+    depth: usize,
+    below: usize,
+    n: usize,
+    node: usize,
+) -> Result<usize, Refusal>
+    requires { Here w.old n node depth below }
+    ensures { Did w.old w.new result (each_but_f ((walks_f below).full depth) ((walks_f below).inner depth) n node (abs w.old)) }
 {
     if n == 0 {
-        return Ok(i);
+        return Ok(node);
     }
-    let j = many(w, p, d, n - 1, i)?;
-    if d == 0 {
+    let j = many(w, depth, below, n - 1, node)?;
+    if below == 0 {
         return Err(Refusal::Depth);
     }
-    body(w, p, d - 1, j)
+    body(w, depth, below - 1, j)
 }
 
 // visit_mut_function.
 #[cycle(walks)]
 fn func(
     w: &mut [u32],
-    p: usize,
-    d: usize,
+    depth: usize,
+    below: usize,
     named: bool,
     n: usize,
-    i: usize,
+    node: usize,
 ) -> Result<usize, Refusal>
-    requires { Here w.old n i (p + 1) d }
-    ensures { Did w.old w.new result (visit_mut_function_f (walks_f d) p named n i (abs w.old)) }
+    requires { Here w.old n node (depth + 1) below }
+    ensures { Did w.old w.new result (visit_mut_function_f (walks_f below) depth named n node (abs w.old)) }
 {
     let before = save_fields(w);
     enter(w, ScopeKind::Fn { named })?;
     set_pat_mode(w, PatFoldingMode::Param);
-    let j = params(w, p + 1, d, n, i)?;
+    let j = params(w, depth + 1, below, n, node)?;
     leave(w, before);
     Ok(j)
 }
 
 // visit_mut_fn_decl.
 #[cycle(walks)]
-fn fdecl(w: &mut [u32], p: usize, d: usize, i: usize) -> Result<usize, Refusal>
-    requires { Here w.old 1 i p (d + 1) }
-    ensures { Did w.old w.new result (visit_mut_fn_decl_f (walks_f d) p i (abs w.old)) }
+fn fdecl(w: &mut [u32], depth: usize, below: usize, node: usize) -> Result<usize, Refusal>
+    requires { Here w.old 1 node depth (below + 1) }
+    ensures { Did w.old w.new result (visit_mut_fn_decl_f (walks_f below) depth node (abs w.old)) }
 {
-    declare_name(w, i)?;
-    let n = arity_at(w, i) as usize;
+    declare_name(w, node)?;
+    let n = arity_at(w, node) as usize;
     if n == 0 {
-        return Ok(i + 1);
+        return Ok(node + 1);
     }
-    let j = skip(w, i + 1);
-    func(w, p, d, true, n - 1, j)
+    let j = skip(w, node + 1);
+    func(w, depth, below, true, n - 1, j)
 }
 
 // visit_mut_fn_expr.
 #[cycle(walks)]
-fn fexpr(w: &mut [u32], p: usize, d: usize, i: usize) -> Result<usize, Refusal>
-    requires { Here w.old 1 i p (d + 1) }
-    ensures { Did w.old w.new result (visit_mut_fn_expr_f (walks_f d) p i (abs w.old)) }
+fn fexpr(w: &mut [u32], depth: usize, below: usize, node: usize) -> Result<usize, Refusal>
+    requires { Here w.old 1 node depth (below + 1) }
+    ensures { Did w.old w.new result (visit_mut_fn_expr_f (walks_f below) depth node (abs w.old)) }
 {
-    let n = arity_at(w, i) as usize;
-    let f = form_at(w, i);
+    let n = arity_at(w, node) as usize;
+    let f = form_at(w, node);
     if f != form::NAMED {
-        return func(w, p, d, false, n, i + 1);
+        return func(w, depth, below, false, n, node + 1);
     }
-    write_name(w, i)?;
+    write_name(w, node)?;
     if n == 0 {
-        return Ok(i + 1);
+        return Ok(node + 1);
     }
-    let j = skip(w, i + 1);
-    func(w, p, d, false, n - 1, j)
+    let j = skip(w, node + 1);
+    func(w, depth, below, false, n - 1, j)
 }
 
 // visit_mut_arrow_expr.
 #[cycle(walks)]
-fn arrow(w: &mut [u32], p: usize, d: usize, i: usize) -> Result<usize, Refusal>
-    requires { Here w.old 1 i p (d + 1) }
-    ensures { Did w.old w.new result (visit_mut_arrow_expr_f (walks_f d) p i (abs w.old)) }
+fn arrow(w: &mut [u32], depth: usize, below: usize, node: usize) -> Result<usize, Refusal>
+    requires { Here w.old 1 node depth (below + 1) }
+    ensures { Did w.old w.new result (visit_mut_arrow_expr_f (walks_f below) depth node (abs w.old)) }
 {
     let before = save_fields(w);
     enter(w, ScopeKind::Fn { named: false })?;
-    let j = kids(w, p, d, i)?;
+    let j = kids(w, depth, below, node)?;
     leave(w, before);
     Ok(j)
 }
 
 // visit_mut_if_stmt.
 #[cycle(walks)]
-fn ifs(w: &mut [u32], p: usize, d: usize, i: usize) -> Result<usize, Refusal>
-    requires { Here w.old 1 i p (d + 1) }
-    ensures { Did w.old w.new result (visit_mut_if_stmt_f (walks_f d) p i (abs w.old)) }
+fn ifs(w: &mut [u32], depth: usize, below: usize, node: usize) -> Result<usize, Refusal>
+    requires { Here w.old 1 node depth (below + 1) }
+    ensures { Did w.old w.new result (visit_mut_if_stmt_f (walks_f below) depth node (abs w.old)) }
 {
-    let n = arity_at(w, i) as usize;
+    let n = arity_at(w, node) as usize;
     if n == 0 {
-        return Ok(i + 1);
+        return Ok(node + 1);
     }
     let old = in_test(w);
     set_in_test(w, true);
-    let j = full(w, p + 1, d, i + 1)?;
+    let j = full(w, depth + 1, below, node + 1)?;
     set_in_test(w, old);
-    arms(w, p + 1, d, ScopeKind::Cond, n - 1, j)
+    arms(w, depth + 1, below, ScopeKind::Cond, n - 1, j)
 }
 
 // What stands before a loop's body, and the body as a child.
 #[cycle(walks)]
-fn loops(w: &mut [u32], p: usize, d: usize, n: usize, i: usize) -> Result<usize, Refusal>
-    requires { Here w.old n i p d }
-    ensures { Did w.old w.new result (each_but_f ((walks_f d).full p) (visit_with_child_f (walks_f d) p loop) n i (abs w.old)) }
+fn loops(w: &mut [u32], depth: usize, below: usize, n: usize, node: usize) -> Result<usize, Refusal>
+    requires { Here w.old n node depth below }
+    ensures { Did w.old w.new result (each_but_f ((walks_f below).full depth) (visit_with_child_f (walks_f below) depth loop) n node (abs w.old)) }
 {
     if n == 0 {
-        return Ok(i);
+        return Ok(node);
     }
-    let j = many(w, p, d, n - 1, i)?;
-    arm(w, p, d, ScopeKind::Loop, j)
+    let j = many(w, depth, below, n - 1, node)?;
+    arm(w, depth, below, ScopeKind::Loop, j)
 }
 
 // visit_mut_while_stmt and visit_mut_do_while_stmt.
 #[cycle(walks)]
-fn whiles(w: &mut [u32], p: usize, d: usize, i: usize) -> Result<usize, Refusal>
-    requires { Here w.old 1 i p (d + 1) }
-    ensures { Did w.old w.new result (visit_mut_while_stmt_f (walks_f d) p i (abs w.old)) }
+fn whiles(w: &mut [u32], depth: usize, below: usize, node: usize) -> Result<usize, Refusal>
+    requires { Here w.old 1 node depth (below + 1) }
+    ensures { Did w.old w.new result (visit_mut_while_stmt_f (walks_f below) depth node (abs w.old)) }
 {
-    write_kids_but_last(w, i)?;
-    let n = arity_at(w, i) as usize;
-    loops(w, p + 1, d, n, i + 1)
+    write_kids_but_last(w, node)?;
+    let n = arity_at(w, node) as usize;
+    loops(w, depth + 1, below, n, node + 1)
 }
 
 // visit_mut_for_stmt.
 #[cycle(walks)]
-fn fors(w: &mut [u32], p: usize, d: usize, i: usize) -> Result<usize, Refusal>
-    requires { Here w.old 1 i p (d + 1) }
-    ensures { Did w.old w.new result (visit_mut_for_stmt_f (walks_f d) p i (abs w.old)) }
+fn fors(w: &mut [u32], depth: usize, below: usize, node: usize) -> Result<usize, Refusal>
+    requires { Here w.old 1 node depth (below + 1) }
+    ensures { Did w.old w.new result (visit_mut_for_stmt_f (walks_f below) depth node (abs w.old)) }
 {
-    write_kids_but_last(w, i)?;
-    let f = form_at(w, i);
-    let n = arity_at(w, i) as usize;
-    let j = loops(w, p + 1, d, n, i + 1)?;
+    write_kids_but_last(w, node)?;
+    let f = form_at(w, node);
+    let n = arity_at(w, node) as usize;
+    let j = loops(w, depth + 1, below, n, node + 1)?;
     if f == form::EMPTY_HEAD {
         store_barrier(w);
     }
@@ -398,31 +411,31 @@ fn fors(w: &mut [u32], p: usize, d: usize, i: usize) -> Result<usize, Refusal>
 
 // visit_mut_for_in_stmt and visit_mut_for_of_stmt.
 #[cycle(walks)]
-fn forin(w: &mut [u32], p: usize, d: usize, i: usize) -> Result<usize, Refusal>
-    requires { Here w.old 1 i p (d + 1) }
-    ensures { Did w.old w.new result (visit_mut_for_in_stmt_f (walks_f d) p i (abs w.old)) }
+fn forin(w: &mut [u32], depth: usize, below: usize, node: usize) -> Result<usize, Refusal>
+    requires { Here w.old 1 node depth (below + 1) }
+    ensures { Did w.old w.new result (visit_mut_for_in_stmt_f (walks_f below) depth node (abs w.old)) }
 {
     set_pat_mode(w, PatFoldingMode::Param);
-    let n = arity_at(w, i) as usize;
+    let n = arity_at(w, node) as usize;
     if n == 0 {
-        return Ok(i + 1);
+        return Ok(node + 1);
     }
-    let j = full(w, p + 1, d, i + 1)?;
-    write_tree(w, i + 1, Write::Forced)?;
+    let j = full(w, depth + 1, below, node + 1)?;
+    write_tree(w, node + 1, Write::Forced)?;
     write_but_last(w, n - 1, j, Write::Forced)?;
-    loops(w, p + 1, d, n - 1, j)
+    loops(w, depth + 1, below, n - 1, j)
 }
 
 // The parts of a try statement behind its block.
 #[cycle(walks)]
-fn parts(w: &mut [u32], p: usize, d: usize, n: usize, i: usize) -> Result<usize, Refusal>
-    requires { Here w.old n i p d }
-    ensures { Did w.old w.new result (clauses_f (walks_f d) p n i (abs w.old)) }
+fn parts(w: &mut [u32], depth: usize, below: usize, n: usize, node: usize) -> Result<usize, Refusal>
+    requires { Here w.old n node depth below }
+    ensures { Did w.old w.new result (clauses_f (walks_f below) depth n node (abs w.old)) }
 {
-    let mut at = i;
+    let mut at = node;
     for _k in 0..n {
         at = match kind_at(w, at) {
-            Kind::CatchClause => full(w, p, d, at)?,
+            Kind::CatchClause => full(w, depth, below, at)?,
             _ => skip(w, at),
         };
     }
@@ -431,28 +444,28 @@ fn parts(w: &mut [u32], p: usize, d: usize, n: usize, i: usize) -> Result<usize,
 
 // visit_mut_try_stmt.
 #[cycle(walks)]
-fn tries(w: &mut [u32], p: usize, d: usize, i: usize) -> Result<usize, Refusal>
-    requires { Here w.old 1 i p (d + 1) }
-    ensures { Did w.old w.new result (visit_mut_try_stmt_f (walks_f d) p i (abs w.old)) }
+fn tries(w: &mut [u32], depth: usize, below: usize, node: usize) -> Result<usize, Refusal>
+    requires { Here w.old 1 node depth (below + 1) }
+    ensures { Did w.old w.new result (visit_mut_try_stmt_f (walks_f below) depth node (abs w.old)) }
 {
-    let n = arity_at(w, i) as usize;
+    let n = arity_at(w, node) as usize;
     if n == 0 {
-        return Ok(i + 1);
+        return Ok(node + 1);
     }
-    write_tree(w, i + 1, Write::Forced)?;
-    let j = skip(w, i + 1);
-    parts(w, p + 1, d, n - 1, j)
+    write_tree(w, node + 1, Write::Forced)?;
+    let j = skip(w, node + 1);
+    parts(w, depth + 1, below, n - 1, j)
 }
 
 // The parameters of a catch clause.
 #[cycle(walks)]
-fn binds(w: &mut [u32], p: usize, d: usize, n: usize, i: usize) -> Result<usize, Refusal>
-    requires { Here w.old n i p d }
-    ensures { Did w.old w.new result (many (catch_param_f (walks_f d) p) n i (abs w.old)) }
+fn binds(w: &mut [u32], depth: usize, below: usize, n: usize, node: usize) -> Result<usize, Refusal>
+    requires { Here w.old n node depth below }
+    ensures { Did w.old w.new result (many (catch_param_f (walks_f below) depth) n node (abs w.old)) }
 {
-    let mut at = i;
+    let mut at = node;
     for _k in 0..n {
-        let j = full(w, p, d, at)?;
+        let j = full(w, depth, below, at)?;
         mark_caught(w, at);
         at = j;
     }
@@ -461,149 +474,155 @@ fn binds(w: &mut [u32], p: usize, d: usize, n: usize, i: usize) -> Result<usize,
 
 // visit_mut_catch_clause.
 #[cycle(walks)]
-fn catch(w: &mut [u32], p: usize, d: usize, i: usize) -> Result<usize, Refusal>
-    requires { Here w.old 1 i p (d + 1) }
-    ensures { Did w.old w.new result (visit_mut_catch_clause_f (walks_f d) p i (abs w.old)) }
+fn catch(w: &mut [u32], depth: usize, below: usize, node: usize) -> Result<usize, Refusal>
+    requires { Here w.old 1 node depth (below + 1) }
+    ensures { Did w.old w.new result (visit_mut_catch_clause_f (walks_f below) depth node (abs w.old)) }
 {
     let before = save_fields(w);
     enter(w, ScopeKind::Block)?;
     set_pat_mode(w, PatFoldingMode::CatchParam);
-    let n = arity_at(w, i) as usize;
+    let n = arity_at(w, node) as usize;
     if n == 0 {
         leave(w, before);
-        return Ok(i + 1);
+        return Ok(node + 1);
     }
-    let j = binds(w, p + 1, d, n - 1, i + 1)?;
-    let end = full(w, p + 1, d, j)?;
+    let j = binds(w, depth + 1, below, n - 1, node + 1)?;
+    let end = full(w, depth + 1, below, j)?;
     leave(w, before);
     Ok(end)
 }
 
 // A switch case's test and statements.
 #[cycle(walks)]
-fn items(w: &mut [u32], p: usize, d: usize, i: usize) -> Result<usize, Refusal>
-    requires { Here w.old 1 i p (d + 1) }
-    ensures { Did w.old w.new result (items_f (walks_f d) p i (abs w.old)) }
+fn items(w: &mut [u32], depth: usize, below: usize, node: usize) -> Result<usize, Refusal>
+    requires { Here w.old 1 node depth (below + 1) }
+    ensures { Did w.old w.new result (items_f (walks_f below) depth node (abs w.old)) }
 {
-    let f = form_at(w, i);
+    let f = form_at(w, node);
     if f != form::TEST {
-        return body(w, p, d, i);
+        return body(w, depth, below, node);
     }
-    let n = arity_at(w, i) as usize;
+    let n = arity_at(w, node) as usize;
     if n == 0 {
-        return Ok(i + 1);
+        return Ok(node + 1);
     }
-    let j = full(w, p + 1, d, i + 1)?;
-    stmts(w, p + 1, d, n - 1, j)
+    let j = full(w, depth + 1, below, node + 1)?;
+    stmts(w, depth + 1, below, n - 1, j)
 }
 
 // visit_mut_switch_case.
 #[cycle(walks)]
-fn case(w: &mut [u32], p: usize, d: usize, i: usize) -> Result<usize, Refusal>
-    requires { Here w.old 1 i p (d + 1) }
-    ensures { Did w.old w.new result (visit_mut_switch_case_f (walks_f d) p i (abs w.old)) }
+fn case(w: &mut [u32], depth: usize, below: usize, node: usize) -> Result<usize, Refusal>
+    requires { Here w.old 1 node depth (below + 1) }
+    ensures { Did w.old w.new result (visit_mut_switch_case_f (walks_f below) depth node (abs w.old)) }
 {
     let before = save_fields(w);
     enter(w, ScopeKind::Block)?;
-    let j = items(w, p, d, i)?;
+    let j = items(w, depth, below, node)?;
     leave(w, before);
     Ok(j)
 }
 
 // visit_mut_pat.
-fn pats(w: &mut [u32], p: usize, d: usize, i: usize) -> Result<usize, Refusal>
-    requires { Here w.old 1 i p (d + 1) }
-    ensures { Did w.old w.new result (visit_mut_pat_f (walks_f d) p i (abs w.old)) }
+fn pats(w: &mut [u32], depth: usize, below: usize, node: usize) -> Result<usize, Refusal>
+    requires { Here w.old 1 node depth (below + 1) }
+    ensures { Did w.old w.new result (visit_mut_pat_f (walks_f below) depth node (abs w.old)) }
 {
-    pat_step(w, i)?;
-    Ok(skip(w, i))
+    pat_step(w, node)?;
+    Ok(skip(w, node))
 }
 
 // visit_mut_update_expr.
-fn update(w: &mut [u32], p: usize, d: usize, i: usize) -> Result<usize, Refusal>
-    requires { Here w.old 1 i p (d + 1) }
-    ensures { Did w.old w.new result (visit_mut_update_expr_f (walks_f d) p i (abs w.old)) }
+fn update(w: &mut [u32], depth: usize, below: usize, node: usize) -> Result<usize, Refusal>
+    requires { Here w.old 1 node depth (below + 1) }
+    ensures { Did w.old w.new result (visit_mut_update_expr_f (walks_f below) depth node (abs w.old)) }
 {
-    write_kids(w, i)?;
-    Ok(skip(w, i))
+    write_kids(w, node)?;
+    Ok(skip(w, node))
 }
 
 // visit_mut_unary_expr: delete writes.
 #[cycle(walks)]
-fn unary(w: &mut [u32], p: usize, d: usize, i: usize) -> Result<usize, Refusal>
-    requires { Here w.old 1 i p (d + 1) }
-    ensures { Did w.old w.new result (visit_mut_unary_expr_f (walks_f d) p i (abs w.old)) }
+fn unary(w: &mut [u32], depth: usize, below: usize, node: usize) -> Result<usize, Refusal>
+    requires { Here w.old 1 node depth (below + 1) }
+    ensures { Did w.old w.new result (visit_mut_unary_expr_f (walks_f below) depth node (abs w.old)) }
 {
-    let f = form_at(w, i);
+    let f = form_at(w, node);
     if f != form::DELETE {
-        return kids(w, p, d, i);
+        return kids(w, depth, below, node);
     }
-    update(w, p, d, i)
+    update(w, depth, below, node)
 }
 
 // visit_mut_call_expr and visit_mut_new_expr.
 #[cycle(walks)]
-fn call(w: &mut [u32], p: usize, d: usize, called: bool, i: usize) -> Result<usize, Refusal>
-    requires { Here w.old 1 i p (d + 1) }
-    ensures { Did w.old w.new result (visit_mut_call_expr_f called (walks_f d) p i (abs w.old)) }
+fn call(
+    w: &mut [u32],
+    depth: usize,
+    below: usize,
+    called: bool,
+    node: usize,
+) -> Result<usize, Refusal>
+    requires { Here w.old 1 node depth (below + 1) }
+    ensures { Did w.old w.new result (visit_mut_call_expr_f called (walks_f below) depth node (abs w.old)) }
 {
-    let n = arity_at(w, i) as usize;
+    let n = arity_at(w, node) as usize;
     if n == 0 {
         store_barrier(w);
-        return Ok(i + 1);
+        return Ok(node + 1);
     }
-    let j = full(w, p + 1, d, i + 1)?;
-    mark_callee(w, i + 1);
+    let j = full(w, depth + 1, below, node + 1)?;
+    mark_callee(w, node + 1);
     write_args(w, called, n - 1, j)?;
-    let end = many(w, p + 1, d, n - 1, j)?;
+    let end = many(w, depth + 1, below, n - 1, j)?;
     store_barrier(w);
     Ok(end)
 }
 
 // All of a list but its first tree.
 #[cycle(walks)]
-fn tail(w: &mut [u32], p: usize, d: usize, n: usize, i: usize) -> Result<usize, Refusal>
-    requires { Here w.old n i p d }
-    ensures { Did w.old w.new result (split_f skip (many ((walks_f d).full p)) n i (abs w.old)) }
+fn tail(w: &mut [u32], depth: usize, below: usize, n: usize, node: usize) -> Result<usize, Refusal>
+    requires { Here w.old n node depth below }
+    ensures { Did w.old w.new result (split_f skip (many ((walks_f below).full depth)) n node (abs w.old)) }
 {
     if n == 0 {
-        return Ok(i);
+        return Ok(node);
     }
-    let j = skip(w, i);
-    many(w, p, d, n - 1, j)
+    let j = skip(w, node);
+    many(w, depth, below, n - 1, j)
 }
 
 // visit_mut_assign_expr.
 #[cycle(walks)]
-fn assign(w: &mut [u32], p: usize, d: usize, i: usize) -> Result<usize, Refusal>
-    requires { Here w.old 1 i p (d + 1) }
-    ensures { Did w.old w.new result (visit_mut_assign_expr_f (walks_f d) p i (abs w.old)) }
+fn assign(w: &mut [u32], depth: usize, below: usize, node: usize) -> Result<usize, Refusal>
+    requires { Here w.old 1 node depth (below + 1) }
+    ensures { Did w.old w.new result (visit_mut_assign_expr_f (walks_f below) depth node (abs w.old)) }
 {
     set_pat_mode(w, PatFoldingMode::Assign);
-    let f = form_at(w, i);
-    let pat = to_pattern(w, i);
-    let n = arity_at(w, i) as usize;
-    assign_first(w, f, n, i + 1)?;
+    let f = form_at(w, node);
+    let pat = to_pattern(w, node);
+    let n = arity_at(w, node) as usize;
+    assign_first(w, f, n, node + 1)?;
     let j = if pat {
-        many(w, p + 1, d, n, i + 1)?
+        many(w, depth + 1, below, n, node + 1)?
     } else {
-        tail(w, p + 1, d, n, i + 1)?
+        tail(w, depth + 1, below, n, node + 1)?
     };
-    assign_last(w, n, i + 1)?;
+    assign_last(w, n, node + 1)?;
     Ok(j)
 }
 
 // The right sides of && or ||.
 #[cycle(walks)]
-fn conds(w: &mut [u32], p: usize, d: usize, n: usize, i: usize) -> Result<usize, Refusal>
-    requires { Here w.old n i p d }
-    ensures { Did w.old w.new result (many (λ r. in_cond_f ((walks_f d).bare p r)) n i (abs w.old)) }
+fn conds(w: &mut [u32], depth: usize, below: usize, n: usize, node: usize) -> Result<usize, Refusal>
+    requires { Here w.old n node depth below }
+    ensures { Did w.old w.new result (many (λ r. in_cond_f ((walks_f below).bare depth r)) n node (abs w.old)) }
 {
-    let mut at = i;
+    let mut at = node;
     for _k in 0..n {
         let old = w[layout::CONDS];
         deeper(w)?;
-        at = arm(w, p, d, ScopeKind::Cond, at)?;
+        at = arm(w, depth, below, ScopeKind::Cond, at)?;
         set_conds(w, old);
     }
     Ok(at)
@@ -611,92 +630,92 @@ fn conds(w: &mut [u32], p: usize, d: usize, n: usize, i: usize) -> Result<usize,
 
 // A && or || again: its right side.
 #[cycle(walks)]
-fn logic(w: &mut [u32], p: usize, d: usize, i: usize) -> Result<usize, Refusal>
-    requires { Here w.old 1 i p (d + 1) }
-    ensures { Did w.old w.new result (logical_f (walks_f d) p i (abs w.old)) }
+fn logic(w: &mut [u32], depth: usize, below: usize, node: usize) -> Result<usize, Refusal>
+    requires { Here w.old 1 node depth (below + 1) }
+    ensures { Did w.old w.new result (logical_f (walks_f below) depth node (abs w.old)) }
 {
-    let Kind::Bin = kind_at(w, i) else {
-        return Ok(skip(w, i));
+    let Kind::Bin = kind_at(w, node) else {
+        return Ok(skip(w, node));
     };
-    let f = form_at(w, i);
+    let f = form_at(w, node);
     if f >= form::PAST_LOGICAL {
-        return Ok(skip(w, i));
+        return Ok(skip(w, node));
     }
-    let n = arity_at(w, i) as usize;
+    let n = arity_at(w, node) as usize;
     if n == 0 {
-        return Ok(i + 1);
+        return Ok(node + 1);
     }
-    let j = skip(w, i + 1);
-    conds(w, p + 1, d, n - 1, j)
+    let j = skip(w, node + 1);
+    conds(w, depth + 1, below, n - 1, j)
 }
 
 // Which handler a kind has: the Rust's own dispatch by the node's type, as a match.
 #[cycle(walks)]
-fn own(w: &mut [u32], p: usize, d: usize, i: usize) -> Result<usize, Refusal>
-    requires { Here w.old 1 i p (d + 1) }
-    ensures { Did w.old w.new result (own_f (walks_f d) p i (abs w.old)) }
+fn own(w: &mut [u32], depth: usize, below: usize, node: usize) -> Result<usize, Refusal>
+    requires { Here w.old 1 node depth (below + 1) }
+    ensures { Did w.old w.new result (own_f (walks_f below) depth node (abs w.old)) }
 {
-    match kind_at(w, i) {
-        Kind::Script => body(w, p, d, i),
-        Kind::Block => block(w, p, d, i),
-        Kind::VarDecl => decl(w, p, d, i),
-        Kind::VarDeclarator => declr(w, p, d, i),
-        Kind::FnDecl => fdecl(w, p, d, i),
-        Kind::If => ifs(w, p, d, i),
-        Kind::While | Kind::DoWhile => whiles(w, p, d, i),
-        Kind::For => fors(w, p, d, i),
-        Kind::ForIn | Kind::ForOf => forin(w, p, d, i),
-        Kind::Try => tries(w, p, d, i),
-        Kind::CatchClause => catch(w, p, d, i),
-        Kind::SwitchCase => case(w, p, d, i),
-        Kind::BindingIdent => pats(w, p, d, i),
-        Kind::Unary => unary(w, p, d, i),
-        Kind::Update => update(w, p, d, i),
-        Kind::Assign => assign(w, p, d, i),
-        Kind::Call => call(w, p, d, true, i),
-        Kind::New => call(w, p, d, false, i),
-        Kind::FnExpr => fexpr(w, p, d, i),
-        Kind::Arrow => arrow(w, p, d, i),
-        _ => kids(w, p, d, i),
+    match kind_at(w, node) {
+        Kind::Script => body(w, depth, below, node),
+        Kind::Block => block(w, depth, below, node),
+        Kind::VarDecl => decl(w, depth, below, node),
+        Kind::VarDeclarator => declr(w, depth, below, node),
+        Kind::FnDecl => fdecl(w, depth, below, node),
+        Kind::If => ifs(w, depth, below, node),
+        Kind::While | Kind::DoWhile => whiles(w, depth, below, node),
+        Kind::For => fors(w, depth, below, node),
+        Kind::ForIn | Kind::ForOf => forin(w, depth, below, node),
+        Kind::Try => tries(w, depth, below, node),
+        Kind::CatchClause => catch(w, depth, below, node),
+        Kind::SwitchCase => case(w, depth, below, node),
+        Kind::BindingIdent => pats(w, depth, below, node),
+        Kind::Unary => unary(w, depth, below, node),
+        Kind::Update => update(w, depth, below, node),
+        Kind::Assign => assign(w, depth, below, node),
+        Kind::Call => call(w, depth, below, true, node),
+        Kind::New => call(w, depth, below, false, node),
+        Kind::FnExpr => fexpr(w, depth, below, node),
+        Kind::Arrow => arrow(w, depth, below, node),
+        _ => kids(w, depth, below, node),
     }
 }
 
 // The steps of visit_mut_expr at an identifier: a constant is followed; in Analysis it is read; in Inlining its value takes its place.
 #[cycle(walks)]
-fn ident(w: &mut [u32], p: usize, d: usize, i: usize) -> Result<usize, Refusal>
-    requires { (Here w.old 1 i p (d + 1)) × ((node_of w.old i).kind ≡ number_of Ident) }
-    ensures { Did w.old w.new result (after_ident_f (walks_f d) p i (abs w.old)) }
+fn ident(w: &mut [u32], depth: usize, below: usize, node: usize) -> Result<usize, Refusal>
+    requires { (Here w.old 1 node depth (below + 1)) × ((node_of w.old node).kind ≡ number_of Ident) }
+    ensures { Did w.old w.new result (after_ident_f (walks_f below) depth node (abs w.old)) }
 {
-    if let Some(m) = constant(w, i) {
-        inline_constant(w, i, p as u32, m)?;
-        return full(w, p, d, i);
+    if let Some(m) = constant(w, node) {
+        inline_constant(w, node, depth as u32, m)?;
+        return full(w, depth, below, node);
     }
     if !inlining(w) {
-        ident_analysis(w, i);
-        return Ok(skip(w, i));
+        ident_analysis(w, node);
+        return Ok(skip(w, node));
     }
-    match fate(w, i) {
-        Found::Nothing => Ok(skip(w, i)),
-        Found::Void => inline_undefined(w, i, p as u32),
+    match fate(w, node) {
+        Found::Nothing => Ok(skip(w, node)),
+        Found::Void => inline_undefined(w, node, depth as u32),
         Found::Value(b) => {
-            inline_value(w, i, p as u32, b)?;
-            logic(w, p, d, i)
+            inline_value(w, node, depth as u32, b)?;
+            logic(w, depth, below, node)
         }
     }
 }
 
 // The steps of visit_mut_expr after the node's own handler, which ended at j.
 #[cycle(walks)]
-fn after(w: &mut [u32], p: usize, d: usize, i: usize, j: usize) -> Result<usize, Refusal>
-    requires { (Here w.old 1 i p (d + 1)) × (j ≡ i + count (tree_from (tree w.old) i)) }
-    ensures { Did w.old w.new result (after_f (walks_f d) p i (abs w.old)) }
+fn after(w: &mut [u32], depth: usize, below: usize, node: usize, j: usize) -> Result<usize, Refusal>
+    requires { (Here w.old 1 node depth (below + 1)) × (j ≡ node + count (tree_from (tree w.old) node)) }
+    ensures { Did w.old w.new result (after_f (walks_f below) depth node (abs w.old)) }
 {
-    match kind_at(w, i) {
-        Kind::Ident => ident(w, p, d, i),
-        Kind::Bin => logic(w, p, d, i),
+    match kind_at(w, node) {
+        Kind::Ident => ident(w, depth, below, node),
+        Kind::Bin => logic(w, depth, below, node),
         Kind::Assign => {
-            if form_at(w, i) == form::ASSIGN && inlining(w) {
-                after_assign(w, i, p as u32)
+            if form_at(w, node) == form::ASSIGN && inlining(w) {
+                after_assign(w, node, depth as u32)
             } else {
                 Ok(j)
             }

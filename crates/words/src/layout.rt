@@ -120,6 +120,12 @@ pub const COUNT_TABLE: Table = Table {
     stride: 1,
 };
 
+// The numbers of the texts that a script uses, and the contexts of its names, in the order of first use: how many, and two words for each of 1,024. The
+// writer of canonical files alone uses them.
+pub const USED_TEXTS: usize = 8336;
+
+pub const USED_CONTEXTS: usize = 10385;
+
 // The number of the first node of each identifier, one word each.
 pub const IDENTS: usize = 15504;
 

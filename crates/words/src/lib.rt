@@ -4,7 +4,7 @@
 
 ghost use Rattle.std.specs.Prelude.{◌≡◌, ◌+◌, ◌*◌, ◌/◌, ◌%◌, ◌≤◌, ◌<◌, [], ◌∷◌, ◌++◌, get_or, length};
 ghost use Rattle.std.proofs.lemmas.List.Edits.{sets};
-ghost use Rattle.words.specs.Layout.{yes, core_from, node_of, tree};
+ghost use Rattle.words.specs.Layout.{yes, core_from, node_of, tree, values_base, node_count};
 ghost use Rattle.def_file.specs.Named.{IsKindOf};
 ghost use Rattle.words.specs.Flags.{flag_at, Flagged};
 ghost use Rattle.words.specs.Moved.{Moved, Zeroed, Merged, Cleared};
@@ -43,7 +43,7 @@ impl Run {
 pub struct Value {
     pub base: usize,
     pub run: Run,
-    ghost behind: { 2064 ≤ base },
+    ghost behind: { values_base ≤ base },
 }
 
 // The kind of node k of the tree. This and the next three read one word each, where `node_at` reads both.
@@ -104,7 +104,7 @@ pub fn put_node(w: &mut [u32], k: usize, x: Node)
 
 // Appends a node.
 pub fn add_node(w: &mut [u32], x: Node)
-    requires { (16384 ≤ length w.old) × (get_or w.old 0 0 < 1024) × Packed x }
+    requires { (16384 ≤ length w.old) × (node_count w.old < 1024) × Packed x }
     ensures { (tree w.new ≡ tree w.old ++ (core_of x ∷ [])) × (Apart w.old w.new) }
 {
     let n = w[layout::NODE_COUNT] as usize;

@@ -1,6 +1,7 @@
--- Request 9 in the words: the live counts, from word 8080 on, plus the ended total, word 12, are the replacements made, word 13. Assumes nothing: these are definitions.
-use Rattle.std.specs.Prelude.{◌≡◌, List, ℕ, ◌+◌, ◌%◌, get_or}
+-- Request 9 in the words: the live counts plus the ended total are the replacements made. Assumes nothing: these are definitions.
+use Rattle.std.specs.Prelude.{◌≡◌, List, ℕ, ◌+◌, ◌%◌}
 use Rattle.def_tree.specs.Combine.{done}
+use Rattle.words.specs.Layout.{binding_count, ended_word, replaced_word, count_word}
 use Rattle.words.specs.Tab.{sum}
 use Rattle.def_pass.specs.Scope.{live_counts}
 use Rattle.laws_flat.specs.WalkF.{run_f}
@@ -9,10 +10,10 @@ use Rattle.words_nodes.specs.Nodes.{Planted}
 use Rattle.words_state.specs.State.{abs}
 
 abbrev pub live_words : List ℕ → ℕ
-live_words w = sum (λ k. get_or w (8080 + k) 0) (get_or w 1 0)
+live_words w = sum (λ k. count_word w k) (binding_count w)
 
 abbrev pub WordsBalance : List ℕ → Type 0
-WordsBalance w = (live_words w + get_or w 12 0) % 4294967296 ≡ get_or w 13 0
+WordsBalance w = (live_words w + ended_word w) % 4294967296 ≡ replaced_word w
 
 pub record PortBalance : Type 0 where
   -- the words have the counts of the state that they stand for

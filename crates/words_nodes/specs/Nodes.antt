@@ -5,7 +5,7 @@ use Rattle.def_tree.specs.Base.{pick}
 use Rattle.def_tree.specs.Tree.{Tree, Forest, count, counts, Core, no_core, flat, flats, take_f, plant, first_t}
 use Rattle.def_tree.specs.Combine.{re_arity}
 use Rattle.def_pass.specs.Tree.{height}
-use Rattle.words.specs.Layout.{node_of, run, tree, beyond}
+use Rattle.words.specs.Layout.{node_of, run, tree, beyond, node_count}
 pub use Rattle.words.specs.Node.{Apart, NodePut}
 use Rattle.words_scopes.specs.State.{Good, Others, stack}
 use Rattle.refusal.specs.declared.Refusal.{Refusal}
@@ -13,7 +13,7 @@ use Rattle.refusal.specs.Number.{number}
 
 -- how many nodes the tree has
 abbrev pub size : List ℕ → ℕ
-size w = get_or w 0 0
+size w = node_count w
 
 -- the tree whose nodes begin at i, and the first n trees from there on
 unfoldable pub tree_from : List Core → ℕ → Tree
@@ -52,9 +52,9 @@ cut_at xs q i = set (take i xs ++ drop (i + count (tree_from xs i)) xs) q (re_ar
 -- the nodes behind the first i + old now stand behind the first i + m, and are counted so
 pub record Slid (w w' : List ℕ) (i old m : ℕ) : Type 0 where
   pub apart : Apart w w'
-  pub count : get_or w' 0 0 ≡ get_or w 0 0 + m - old
+  pub count : node_count w' ≡ node_count w + m - old
   pub low : (j : ℕ) → j < i + m → node_of w' j ≡ node_of w j
-  pub high : (j : ℕ) → j < get_or w 0 0 - (i + old) → node_of w' (i + m + j) ≡ node_of w (i + old + j)
+  pub high : (j : ℕ) → j < node_count w - (i + old) → node_of w' (i + m + j) ≡ node_of w (i + old + j)
 
 -- the tree's nodes became xs, one tree again: the scopes and all else are as they were
 pub record Replants (w w' : List ℕ) (xs : List Core) : Type 0 where
@@ -81,7 +81,7 @@ Stepped (Err r) w w' n xs = (n ≡ number r) × (w' ≡ w)
 
 -- the tree at i, at depth p, gives way to e, or a row refuses
 abbrev pub Swapped : Result Unit Refusal → List ℕ → List ℕ → ℕ → ℕ → Tree → Type 0
-Swapped r w w' p i e = Stepped r w w' (refusal p (get_or w 0 0) (tree_from (tree w) i) e) (put_at (tree w) i e)
+Swapped r w w' p i e = Stepped r w w' (refusal p (node_count w) (tree_from (tree w) i) e) (put_at (tree w) i e)
 
 -- the tree of the m nodes from `at` on of the store at word `base`
 abbrev pub value_from : List ℕ → ℕ → ℕ → ℕ → Tree

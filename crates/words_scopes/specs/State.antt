@@ -1,6 +1,6 @@
 -- The scope state in the words (what stands where: `Layout` of the crate `words`): the decode into the definition's `Stack`, and what makes
 -- words good. Assumes nothing: these are definitions.
-use Rattle.std.specs.Prelude.{◌≡◌, ℕ, zero, suc, ◌+◌, ◌*◌, ◌<◌, ◌≤◌, Bool, true, false, ◌||◌, ◌⊎◌, List, [], ◌∷◌, length, get_or, take, drop, ◌==◌, slice_index, slice_index_or}
+use Rattle.std.specs.Prelude.{◌≡◌, ℕ, zero, suc, ◌+◌, ◌<◌, ◌≤◌, Bool, true, false, ◌||◌, ◌⊎◌, List, [], ◌∷◌, length, take, drop, ◌==◌, slice_index, slice_index_or}
 use Rattle.std.specs.Prelude as std
 use Rattle.std.proofs.Math.Option.{Option, none, some}
 use Rattle.def_tree.specs.Tree.{Tree, Core, no_core, flat, plant, first_t}
@@ -16,7 +16,7 @@ use Rattle.def_pass.specs.Scope.{ScopeKind, VarInfo, Scope, Stack, Free, has_in,
 use Rattle.std.specs.Int.{from_bool}
 use Rattle.words.specs.Tab.{tab, sum}
 use Rattle.words.specs.Flags.{flag_at}
-use Rattle.words.specs.Layout.{yes, Agree, run, tree, beyond}
+use Rattle.words.specs.Layout.{yes, Agree, run, tree, beyond, nodes_base, values_base, constant_values_base, constants_base, counts_base, used_texts_base, targeted_base, node_count, binding_count, scope_count, constant_count, ident_count_place, binding_place, id_word, kind_word, alias_of_word, read_cnt_word, inline_prevented_word, is_undefined_word, this_sensitive_word, hoisted_word, value_len_word, barrier_word, constant_id_word, constant_len_word, scope_kind_word, first_binding_word, first_constant_word, first_barrier_word, unresolved_place, index_word, shadowed_word, count_word}
 
 -- a value: the run of its nodes, no node for none; and the way back
 abbrev pub value_of : List Core → Option Tree
@@ -29,26 +29,26 @@ run_of (some t) = flat t []
 
 -- the bindings: lengths of their values, and where a value begins, the sum of the earlier lengths
 abbrev pub len_at : List ℕ → ℕ → ℕ
-len_at w k = slice_index w (4112 + k * 10 + 8)
+len_at w k = value_len_word w k
 
 abbrev pub off : List ℕ → ℕ → ℕ
 off w k = sum (λ j. len_at w j) k
 
 abbrev pub run_at : List ℕ → ℕ → List Core
-run_at w k = run w 2064 (off w k) (len_at w k)
+run_at w k = run w values_base (off w k) (len_at w k)
 
 abbrev pub bind_at : List ℕ → ℕ → VarInfo
 bind_at w k = record {
-  id = slice_index w (4112 + k * 10);
-  kind = var_type_of (slice_index w (4112 + k * 10 + 1));
-  alias_of = alias_at (slice_index w (4112 + k * 10 + 2));
-  read_cnt = slice_index w (4112 + k * 10 + 3);
-  inline_prevented = yes (slice_index w (4112 + k * 10 + 4));
-  is_undefined = yes (slice_index w (4112 + k * 10 + 5));
+  id = id_word w k;
+  kind = var_type_of (kind_word w k);
+  alias_of = alias_at (alias_of_word w k);
+  read_cnt = read_cnt_word w k;
+  inline_prevented = yes (inline_prevented_word w k);
+  is_undefined = yes (is_undefined_word w k);
   value = value_of (run_at w k);
-  this_sensitive = yes (slice_index w (4112 + k * 10 + 6));
-  hoisted = yes (slice_index w (4112 + k * 10 + 7));
-  count = slice_index w (8080 + k);
+  this_sensitive = yes (this_sensitive_word w k);
+  hoisted = yes (hoisted_word w k);
+  count = count_word w k;
 }
 
 -- a binding without a value, by its words
@@ -69,13 +69,13 @@ AreWords r xs = (xs ≡ words_of r (slice_index_or xs 0 0) (slice_index_or xs 1 
 
 -- r says what the words of record k say, whether it is a binding's or past the last
 pub record Recorded (w : List ℕ) (k : ℕ) (r : Record) : Type 0 where
-  pub kind : type_of r.kind ≡ var_type_of (slice_index w (4112 + k * 10 + 1))
-  pub alias : alias_of r.alias ≡ alias_at (slice_index w (4112 + k * 10 + 2))
-  pub reads : r.reads ≡ slice_index w (4112 + k * 10 + 3)
-  pub prevented : r.prevented ≡ yes (slice_index w (4112 + k * 10 + 4))
-  pub undefined : r.undefined ≡ yes (slice_index w (4112 + k * 10 + 5))
-  pub this_sensitive : r.this_sensitive ≡ yes (slice_index w (4112 + k * 10 + 6))
-  pub hoisted : r.hoisted ≡ yes (slice_index w (4112 + k * 10 + 7))
+  pub kind : type_of r.kind ≡ var_type_of (kind_word w k)
+  pub alias : alias_of r.alias ≡ alias_at (alias_of_word w k)
+  pub reads : r.reads ≡ read_cnt_word w k
+  pub prevented : r.prevented ≡ yes (inline_prevented_word w k)
+  pub undefined : r.undefined ≡ yes (is_undefined_word w k)
+  pub this_sensitive : r.this_sensitive ≡ yes (this_sensitive_word w k)
+  pub hoisted : r.hoisted ≡ yes (hoisted_word w k)
 
 -- its count alone changed
 abbrev pub with_count : ℕ → VarInfo → VarInfo
@@ -83,20 +83,20 @@ with_count c b = record { id = b.id; kind = b.kind; alias_of = b.alias_of; read_
 
 -- the constants, in the same way
 abbrev pub clen_at : List ℕ → ℕ → ℕ
-clen_at w k = slice_index w (6672 + k * 2 + 1)
+clen_at w k = constant_len_word w k
 
 abbrev pub coff : List ℕ → ℕ → ℕ
 coff w k = sum (λ j. clen_at w j) k
 
 abbrev pub crun_at : List ℕ → ℕ → List Core
-crun_at w k = run w 3088 (coff w k) (clen_at w k)
+crun_at w k = run w constant_values_base (coff w k) (clen_at w k)
 
 abbrev pub const_at : List ℕ → ℕ → ℕ × Option Tree
-const_at w k = (slice_index w (6672 + k * 2), value_of (crun_at w k))
+const_at w k = (constant_id_word w k, value_of (crun_at w k))
 
 -- the identifiers that the script as read targets (request 8): a set in eight words
 unfoldable pub targeted : List ℕ → ℕ → Bool
-targeted w = λ j. yes (slice_index (tab 256 (λ i. flag_at w 16016 i)) j)
+targeted w = λ j. yes (slice_index (tab 256 (λ i. flag_at w targeted_base i)) j)
 
 -- a scope's own record
 pub record Head : Type 0 where
@@ -107,14 +107,14 @@ pub record Head : Type 0 where
   pub unres : List ℕ
 
 unfoldable pub unres_at : List ℕ → ℕ → List ℕ
-unres_at w k = tab 256 (λ j. flag_at w (7312 + k * 8) j)
+unres_at w k = tab 256 (λ j. flag_at w (unresolved_place k) j)
 
 abbrev pub head_at : List ℕ → ℕ → Head
 head_at w k = record {
-  kind = scope_kind_of (slice_index w (7184 + k * 4));
-  start = slice_index w (7184 + k * 4 + 1);
-  cstart = slice_index w (7184 + k * 4 + 2);
-  zeroth = slice_index w (7184 + k * 4 + 3);
+  kind = scope_kind_of (scope_kind_word w k);
+  start = first_binding_word w k;
+  cstart = first_constant_word w k;
+  zeroth = first_barrier_word w k;
   unres = unres_at w k;
 }
 
@@ -140,16 +140,16 @@ split (h ∷ hs) fl bs cs = scope_of h (drop h.start fl) (drop h.start bs) (drop
 
 -- the parts of the state
 unfoldable pub heads : List ℕ → List Head
-heads w = heads_at w (slice_index w 2)
+heads w = heads_at w (scope_count w)
 
 unfoldable pub flags : List ℕ → List ℕ
-flags w = tab (slice_index w 1) (λ k. slice_index w (4112 + k * 10 + 9))
+flags w = tab (binding_count w) (λ k. barrier_word w k)
 
 unfoldable pub binds : List ℕ → List VarInfo
-binds w = tab (slice_index w 1) (λ k. bind_at w k)
+binds w = tab (binding_count w) (λ k. bind_at w k)
 
 unfoldable pub consts : List ℕ → List (ℕ × Option Tree)
-consts w = tab (slice_index w 3) (λ k. const_at w k)
+consts w = tab (constant_count w) (λ k. const_at w k)
 
 unfoldable pub stack : List ℕ → Stack
 stack w = split (heads w) (flags w) (binds w) (consts w)
@@ -187,47 +187,47 @@ place i (h ∷ hs) bs = elim (has_in i (drop h.start bs)) [ true ↦ suc (h.star
 
 -- the tables beside the bindings: of each identifier where its innermost binding is, and of each binding where the one of its identifier was when it was made
 pub record Beside (w : List ℕ) : Type 0 where
-  pub index : (x : ℕ) → x < 256 → slice_index w (7568 + x) ≡ place x (heads w) (binds w)
-  pub shadow : (k : ℕ) → k < slice_index w 1 → slice_index w (7824 + k) ≡ place (slice_index w (4112 + k * 10)) (heads w) (tab k (λ j. bind_at w j))
+  pub index : (x : ℕ) → x < 256 → index_word w x ≡ place x (heads w) (binds w)
+  pub shadow : (k : ℕ) → k < binding_count w → shadowed_word w k ≡ place (id_word w k) (heads w) (tab k (λ j. bind_at w j))
 
 -- counts are within their limits, scopes are in order, identifiers are below 256, values are whole, the tables beside the bindings are those of the
 -- scopes, and no constant is a targeted identifier
 pub record Good (w : List ℕ) : Type 0 where
   pub long : 16384 ≤ length w
-  pub nodes : get_or w 0 0 ≤ 1024
-  pub count : get_or w 1 0 ≤ 256
-  pub depth : get_or w 2 0 ≤ 32
-  pub ccount : get_or w 3 0 ≤ 256
-  pub vals : off w (slice_index w 1) ≤ 512
-  pub cvals : coff w (slice_index w 3) ≤ 512
+  pub nodes : node_count w ≤ 1024
+  pub count : binding_count w ≤ 256
+  pub depth : scope_count w ≤ 32
+  pub ccount : constant_count w ≤ 256
+  pub vals : off w (binding_count w) ≤ 512
+  pub cvals : coff w (constant_count w) ≤ 512
   -- row 9: bindings and constants together
-  pub live : get_or w 1 0 + slice_index w 3 ≤ 256
-  pub recorded : off w (slice_index w 1) + coff w (slice_index w 3) ≤ 512
-  pub fits : Fits (heads w) (slice_index w 1)
-  pub cfits : CFits (heads w) (slice_index w 3)
-  pub ids : (k : ℕ) → k < slice_index w 1 → slice_index w (4112 + k * 10) < 256
-  pub cids : (k : ℕ) → k < slice_index w 3 → slice_index w (6672 + k * 2) < 256
+  pub live : binding_count w + constant_count w ≤ 256
+  pub recorded : off w (binding_count w) + coff w (constant_count w) ≤ 512
+  pub fits : Fits (heads w) (binding_count w)
+  pub cfits : CFits (heads w) (constant_count w)
+  pub ids : (k : ℕ) → k < binding_count w → id_word w k < 256
+  pub cids : (k : ℕ) → k < constant_count w → constant_id_word w k < 256
   pub names : Names (tree w)
-  pub whole : (k : ℕ) → k < slice_index w 1 → Whole (run_at w k)
-  pub cwhole : (k : ℕ) → k < slice_index w 3 → Whole (crun_at w k)
+  pub whole : (k : ℕ) → k < binding_count w → Whole (run_at w k)
+  pub cwhole : (k : ℕ) → k < constant_count w → Whole (crun_at w k)
   pub beside : Beside w
-  pub cfree : (k : ℕ) → k < slice_index w 3 → Free (targeted w) (value_of (crun_at w k))
+  pub cfree : (k : ℕ) → k < constant_count w → Free (targeted w) (value_of (crun_at w k))
 
 -- the words stand for a state, and it has scope k, or binding k
 abbrev pub HasScope : List ℕ → ℕ → Type 0
-HasScope w k = Good w × (k < get_or w 2 0)
+HasScope w k = Good w × (k < scope_count w)
 
 abbrev pub HasBinding : List ℕ → ℕ → Type 0
-HasBinding w k = Good w × (k < get_or w 1 0)
+HasBinding w k = Good w × (k < binding_count w)
 
 -- the words that no scope has, among the first 16,384: the count of identifiers and what is reserved; what is free, and the first nodes of the identifiers
 pub record Others (w w' : List ℕ) : Type 0 where
-  pub low : Agree 4 16 w w'
-  pub high : Agree 8336 16384 w w'
+  pub low : Agree ident_count_place nodes_base w w'
+  pub high : Agree used_texts_base 16384 w w'
 
 -- the words of the records from k on, and their counts, are as they were
 abbrev pub Past : ℕ → List ℕ → List ℕ → Type 0
-Past k w w' = Agree (4112 + k * 10) 6672 w w' × Agree (8080 + k) 8336 w w'
+Past k w w' = Agree (binding_place k) constants_base w w' × Agree (counts_base + k) used_texts_base w w'
 
 -- w became w', whose scopes are st: all else is as it was
 pub record Becomes (w w' : List ℕ) (st : Stack) : Type 0 where
@@ -262,4 +262,4 @@ no_record = record { id = 0; value = std.None; prevented = false }
 
 -- the bindings from k on, changed by f, stand in bs as records, oldest first
 abbrev pub Window : (Binding → Binding) → List ℕ → ℕ → List Binding → Type 0
-Window f w k bs = (j : ℕ) → j < 8 → k + j < slice_index w 1 → slice_index_or bs j no_record ≡ f (record_at w (k + j))
+Window f w k bs = (j : ℕ) → j < 8 → k + j < binding_count w → slice_index_or bs j no_record ≡ f (record_at w (k + j))

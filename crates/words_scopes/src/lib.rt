@@ -4,10 +4,11 @@
 // struct of the words as they are would be made anew for each call.
 #![tactic(auto)]
 
-ghost use Rattle.std.specs.Prelude.{◌≡◌, ℕ, ◌+◌, ◌-◌, ◌*◌, ◌<◌, ◌≤◌, not, ◌&&◌, ◌∷◌, length, slice_index, IfSome};
+ghost use Rattle.std.specs.Prelude.{◌≡◌, ℕ, ◌+◌, ◌-◌, ◌<◌, ◌≤◌, not, ◌&&◌, ◌∷◌, length, IfSome};
 ghost use Rattle.std.proofs.Math.Option.{none};
 ghost use Rattle.def_pass.specs.Scope.{defined, count_one, change, prevent_one, prevent_inline, append, fresh, new_scope};
 ghost use Rattle.words_prevent.specs.Mark.{marked};
+ghost use Rattle.words.specs.Layout.{binding_count, scope_count, constant_count, binding_place, value_len_word, first_binding_word, first_constant_word};
 ghost use Rattle.words.specs.Place.{placed};
 ghost use Rattle.words_scopes.specs.Kinds.{type_of, alias_of, kind_of};
 ghost use Rattle.words_scopes.specs.State.{AreWords, Good, HasBinding, Past, Becomes, stack, heads, binds, place, off, bind_at, name_of, hit_at, Window, recorded, Recorded, drop_inner};
@@ -67,7 +68,7 @@ impl Record {
 // The current scope, if there is one.
 pub fn current(w: &[u32]) -> Option<usize>
     requires { 16384 ≤ length w.now }
-    ensures { placed result ≡ slice_index w.now 2 }
+    ensures { placed result ≡ scope_count w.now }
 {
     (w[layout::SCOPE_COUNT] as usize).checked_sub(1)
 }
@@ -75,7 +76,7 @@ pub fn current(w: &[u32]) -> Option<usize>
 // Where the bindings of scope k begin, as its own word has it; `first_of` of scope_find answers behind the last scope, too.
 pub fn first_binding(w: &[u32], k: usize) -> usize
     requires { (16384 ≤ length w.now) × (k < 32) }
-    ensures { result ≡ slice_index w.now (7184 + k * 4 + 1) }
+    ensures { result ≡ first_binding_word w.now k }
 {
     w[layout::SCOPES + k * 4 + layout::FIRST_BINDING] as usize
 }
@@ -83,7 +84,7 @@ pub fn first_binding(w: &[u32], k: usize) -> usize
 // Where its constants begin. One read each: a field as an argument would be a number in place of a name.
 pub fn first_constant(w: &[u32], k: usize) -> usize
     requires { (16384 ≤ length w.now) × (k < 32) }
-    ensures { result ≡ slice_index w.now (7184 + k * 4 + 2) }
+    ensures { result ≡ first_constant_word w.now k }
 {
     w[layout::SCOPES + k * 4 + layout::FIRST_CONSTANT] as usize
 }
@@ -92,7 +93,7 @@ pub fn first_constant(w: &[u32], k: usize) -> usize
 pub fn find_binding(w: &[u32], x: u8) -> Option<usize>
     requires { Good w.now }
     ensures place { placed result ≡ place x (heads w.now) (binds w.now) }
-    ensures bound { IfSome result (λ k. k < slice_index w.now 1) }
+    ensures bound { IfSome result (λ k. k < binding_count w.now) }
 {
     let n = w[layout::INDEX + usize::from(x)] as usize;
     n.checked_sub(1)
@@ -103,7 +104,7 @@ pub fn find_binding(w: &[u32], x: u8) -> Option<usize>
 pub fn find_by_walk(w: &[u32], x: u8) -> Option<usize>
     requires { Good w.now }
     ensures place { placed result ≡ place x (heads w.now) (binds w.now) }
-    ensures bound { IfSome result (λ k. k < slice_index w.now 1) }
+    ensures bound { IfSome result (λ k. k < binding_count w.now) }
 {
     let depth = w[layout::SCOPE_COUNT] as usize;
     let mut e = w[layout::BINDING_COUNT] as usize;
@@ -141,7 +142,7 @@ pub fn count_one(w: &mut [u32], x: u8)
 
 // The identifier that the value of binding k is, if it is one; the value begins at node at of the store.
 pub fn named(w: &[u32], k: usize, at: usize) -> Option<u32>
-    requires { (HasBinding w.now k) × (at ≡ off w.now k) × (at + slice_index w.now (4112 + k * 10 + 8) ≤ 512) }
+    requires { (HasBinding w.now k) × (at ≡ off w.now k) × (at + value_len_word w.now k ≤ 512) }
     ensures { result ≡ name_of (bind_at w.now k).value }
 {
     if w[layout::BINDINGS + k * 10 + layout::LENGTH] == 0 {
@@ -157,7 +158,7 @@ pub fn named(w: &[u32], k: usize, at: usize) -> Option<u32>
 // Whether binding k, whose record begins at word p, gets a mark that it has not: it has none, and x is its identifier or its value, which begins at
 // node at of the store.
 fn to_mark(w: &[u32], k: usize, p: usize, at: usize, x: u8) -> bool
-    requires { (HasBinding w.now k) × (p ≡ 4112 + k * 10) × (at ≡ off w.now k) }
+    requires { (HasBinding w.now k) × (p ≡ binding_place k) × (at ≡ off w.now k) }
     ensures { result ≡ (not (bind_at w.now k).inline_prevented && hit_at w.now k x) }
 {
     w[p + layout::PREVENTED] == 0
@@ -239,7 +240,7 @@ pub fn prevent_inline(w: &mut [u32], x: u8)
 // How many nodes the values before binding e have, if those before binding k have `at`. It goes beside k, as above in the loops, whose running sum it
 // is, so that it is not added up anew; a struct of the two has no words, and could not say that `at` belongs to k.
 pub fn offset_from(w: &[u32], k: usize, at: usize, e: usize) -> usize
-    requires { (Good w.now) × (k ≤ e) × (e ≤ slice_index w.now 1) × (at ≡ off w.now k) × (at ≤ 512) }
+    requires { (Good w.now) × (k ≤ e) × (e ≤ binding_count w.now) × (at ≡ off w.now k) × (at ≤ 512) }
     ensures { (result ≡ off w.now e) × (result ≤ 512) }
 {
     at + sum_at(w, layout::LENGTHS, k, e)
@@ -247,7 +248,7 @@ pub fn offset_from(w: &[u32], k: usize, at: usize, e: usize) -> usize
 
 // How many nodes the values before binding k have.
 pub fn offset(w: &[u32], k: usize) -> usize
-    requires { (Good w.now) × (k ≤ slice_index w.now 1) }
+    requires { (Good w.now) × (k ≤ binding_count w.now) }
     ensures { (result ≡ off w.now k) × (result ≤ 512) }
 {
     offset_from(w, 0, 0, k)
@@ -268,7 +269,7 @@ fn enter(w: &mut [u32], n: usize, x: u8, a: usize)
 
 // Sets the index back to what it was before the bindings from a on, the last one first.
 fn restore(w: &mut [u32], a: usize)
-    requires { (Good w.old) × (a ≤ slice_index w.old 1) }
+    requires { (Good w.old) × (a ≤ binding_count w.old) }
     ensures { Restored w.old w.new a }
 {
     let n = w[layout::BINDING_COUNT] as usize;
@@ -297,8 +298,8 @@ pub fn record_at(w: &[u32], k: usize) -> Record
 
 // Appends a binding without a value to the innermost scope.
 pub fn append_record(w: &mut [u32], id: u8, r: Record, count: u32)
-    requires { (Good w.old) × (slice_index w.old 1 + slice_index w.old 3 < 256) × (0 < slice_index w.old 2) }
-    ensures { (Becomes w.old w.new (append (recorded id r count) (stack w.old))) × (Past (slice_index w.old 1 + 1) w.old w.new) × (slice_index w.new 1 ≡ slice_index w.old 1 + 1) × (slice_index w.new 3 ≡ slice_index w.old 3) }
+    requires { (Good w.old) × (binding_count w.old + constant_count w.old < 256) × (0 < scope_count w.old) }
+    ensures { (Becomes w.old w.new (append (recorded id r count) (stack w.old))) × (Past (binding_count w.old + 1) w.old w.new) × (binding_count w.new ≡ binding_count w.old + 1) × (constant_count w.new ≡ constant_count w.old) }
 {
     let n = w[layout::BINDING_COUNT] as usize;
     let d = w[layout::SCOPE_COUNT] as usize - 1;
@@ -321,7 +322,7 @@ pub fn push(
     prevented: bool,
     undefined: bool,
 )
-    requires { (Good w.old) × (slice_index w.old 1 + slice_index w.old 3 < 256) × (0 < slice_index w.old 2) }
+    requires { (Good w.old) × (binding_count w.old + constant_count w.old < 256) × (0 < scope_count w.old) }
     ensures { Becomes w.old w.new (append (fresh id (type_of kind) (alias_of alias) prevented undefined none) (stack w.old)) }
 {
     let r = Record::fresh(kind, alias, prevented, undefined);
@@ -330,7 +331,7 @@ pub fn push(
 
 // Opens a scope of a kind.
 pub fn open(w: &mut [u32], kind: ScopeKind)
-    requires { (Good w.old) × (slice_index w.old 2 < 32) }
+    requires { (Good w.old) × (scope_count w.old < 32) }
     ensures { Becomes w.old w.new (new_scope (kind_of kind) ∷ stack w.old) }
 {
     let d = w[layout::SCOPE_COUNT] as usize;
@@ -343,8 +344,8 @@ pub fn open(w: &mut [u32], kind: ScopeKind)
 
 // Drops the innermost of two or more scopes with its records; what was unresolved in it is unresolved above.
 pub fn drop_scope(w: &mut [u32])
-    requires { (Good w.old) × (1 < slice_index w.old 2) }
-    ensures { (Becomes w.old w.new (drop_inner (stack w.old))) × (Past 0 w.old w.new) × (slice_index w.new 1 ≡ slice_index w.old (7184 + (slice_index w.old 2 - 1) * 4 + 1)) × (slice_index w.new 3 ≤ slice_index w.old 3) }
+    requires { (Good w.old) × (1 < scope_count w.old) }
+    ensures { (Becomes w.old w.new (drop_inner (stack w.old))) × (Past 0 w.old w.new) × (binding_count w.new ≡ first_binding_word w.old (scope_count w.old - 1)) × (constant_count w.new ≤ constant_count w.old) }
 {
     let d = w[layout::SCOPE_COUNT] as usize - 1;
     let n = first_binding(w, d);

@@ -1,9 +1,8 @@
--- The whole state of the pass behind the working words: the tree's nodes, the scopes, the visitor's fields, which stand in words 5 to 13, and what is
--- targeted, in words 16016 to 16023.
+-- The whole state of the pass behind the working words: the tree's nodes, the scopes, the visitor's fields, and what is targeted.
 -- Assumes nothing: these are definitions.
-use Rattle.std.specs.Prelude.{◌≡◌, List, ℕ, zero, suc, ◌<◌, length, get_or}
+use Rattle.std.specs.Prelude.{◌≡◌, List, ℕ, zero, suc, ◌<◌, length}
 use Rattle.def_tree.specs.Combine.{Res, stop, done, Nothing, Flat}
-use Rattle.words.specs.Layout.{Agree, yes, tree, beyond}
+use Rattle.words.specs.Layout.{Agree, yes, tree, beyond, reserved_base, nodes_base, used_texts_base, node_count, ident_count, changed_word, inlining_word, is_first_run_word, var_decl_kind_word, pat_mode_word, in_test_word, conds_word, ended_word, replaced_word}
 use Rattle.def_pass.specs.Walk.{St, PatMode, assigning, as_param, as_catch, declaring}
 use Rattle.words_scopes.specs.Kinds.{var_type_of, type_of}
 use Rattle.words_scopes.specs.State.{stack, targeted}
@@ -29,22 +28,21 @@ mode_of (suc (suc (suc n))) = declaring
 abbrev pub IsModeWord : PatFoldingMode → ℕ → Type 0
 IsModeWord m n = (mode_of n ≡ pat_mode_of m) × (n < 4)
 
--- word 5 changed, 6 phase Inlining, 7 is_first_run, 8 var_decl_kind, 9 pat_mode, 10 in_test, 11 right sides open in their Cond scopes, 12 the ended
--- total, 13 the replacements made
+-- what the words say besides the nodes; `inlining` is the phase, `conds` are the right sides open in their Cond scopes
 unfoldable pub rest : List ℕ → St
 rest w = record {
   stack = stack w;
-  changed = yes (get_or w 5 0);
-  inlining = yes (get_or w 6 0);
-  is_first_run = yes (get_or w 7 0);
-  var_decl_kind = var_type_of (get_or w 8 0);
-  pat_mode = mode_of (get_or w 9 0);
-  in_test = yes (get_or w 10 0);
-  conds = get_or w 11 0;
-  nodes = get_or w 0 0;
+  changed = yes (changed_word w);
+  inlining = yes (inlining_word w);
+  is_first_run = yes (is_first_run_word w);
+  var_decl_kind = var_type_of (var_decl_kind_word w);
+  pat_mode = mode_of (pat_mode_word w);
+  in_test = yes (in_test_word w);
+  conds = conds_word w;
+  nodes = node_count w;
   targeted = targeted w;
-  ended = get_or w 12 0;
-  replaced = get_or w 13 0;
+  ended = ended_word w;
+  replaced = replaced_word w;
 }
 
 -- the ended total alone changed
@@ -69,13 +67,13 @@ abs w = record { nodes = tree w; rest = rest w }
 pub record Ok (w u : List ℕ) : Type 0 where
   pub planted : Planted u
   pub size : length u ≡ length w
-  pub idents : get_or u 4 0 ≡ get_or w 4 0
-  pub reserved : Agree 14 16 w u
-  pub high : Agree 8336 16384 w u
+  pub idents : ident_count u ≡ ident_count w
+  pub reserved : Agree reserved_base nodes_base w u
+  pub high : Agree used_texts_base 16384 w u
   pub rest : beyond u ≡ beyond w
 
 -- a step's answer: 0, and the state is that of the result, or document 01's number of its refusal. Of the words after a refusal `Ok` says what is kept:
--- they stand for some state, and their length, word 4, words 14 and 15 and those from 8,336 on are as they were
+-- they stand for some state, and their length, the count of identifiers, the words that are free, and those behind the counts of the bindings are as they were
 abbrev pub Acts : List ℕ → ℕ → Res (Flat St) Nothing → Type 0
 Acts u n (stop m) = (n ≡ m) × (0 < n)
 Acts u n (done st x) = (n ≡ 0) × (abs u ≡ st)

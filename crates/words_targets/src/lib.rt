@@ -2,10 +2,10 @@
 // working words.
 #![tactic(auto)]
 
-ghost use Rattle.std.specs.Prelude.{◌≡◌, ℕ, ◌<◌, eqb, get_or, drop};
+ghost use Rattle.std.specs.Prelude.{◌≡◌, ℕ, ◌<◌, eqb, drop};
 ghost use Rattle.def_tree.specs.Base.{member};
 ghost use Rattle.laws_flat.specs.PassF.{bounds_l, next_is};
-ghost use Rattle.words.specs.Layout.{node_of, tree};
+ghost use Rattle.words.specs.Layout.{node_of, tree, node_count};
 ghost use Rattle.words_targets.specs.Targets.{Script, Aimed, Joined, hits, Targeted};
 
 use def_file::kind::Kind;
@@ -13,7 +13,7 @@ use words::{arity_at, kind_at, layout, num_at, set_flag, wipe};
 
 // The identifier of node k is put into the set.
 fn put_name(w: &mut [u32], k: usize)
-    requires { (Script w.old) × (k < get_or w.old 0 0) × ((node_of w.old k).num < 256) }
+    requires { (Script w.old) × (k < node_count w.old) × ((node_of w.old k).num < 256) }
     ensures { Joined w.old w.new (eqb (node_of w.old k).num) }
 {
     let x = num_at(w, k);
@@ -70,7 +70,7 @@ fn aimed_at(w: &[u32], j: usize) -> Option<usize>
 
 // The target of node k is put into the set, if it has one: the identifier that it is, or the names that it binds.
 fn scan_node(w: &mut [u32], k: usize)
-    requires { (Script w.old) × (k < get_or w.old 0 0) }
+    requires { (Script w.old) × (k < node_count w.old) }
     ensures { Joined w.old w.new (hits w.old k) }
 {
     if !kind_at(w, k).aims() || arity_at(w, k) == 0 {

@@ -108,8 +108,8 @@ after-returns-in_default = of_after.after-returns-in_default
 pub arm-returns-in_err-enter : goal.arm-returns-in_err-enter
 arm-returns-in_err-enter = of_arm.arm-returns-in_err-enter
 
-pub arm-returns-then-d-eq0 : goal.arm-returns-then-d-eq0
-arm-returns-then-d-eq0 = of_arm.arm-returns-then-d-eq0
+pub arm-returns-then-below-eq0 : goal.arm-returns-then-below-eq0
+arm-returns-then-below-eq0 = of_arm.arm-returns-then-below-eq0
 
 pub arm-own-requires : goal.arm-own-requires
 arm-own-requires = of_arm.arm-own-requires
@@ -156,8 +156,8 @@ assign-to_pattern-pat-requires = of_assign.assign-to_pattern-pat-requires
 pub assign-arity_at-n-requires : goal.assign-arity_at-n-requires
 assign-arity_at-n-requires = of_assign.assign-arity_at-n-requires
 
-pub assign-overflow_add-i : goal.assign-overflow_add-i
-assign-overflow_add-i = of_assign.assign-overflow_add-i
+pub assign-overflow_add-node : goal.assign-overflow_add-node
+assign-overflow_add-node = of_assign.assign-overflow_add-node
 
 pub assign-assign_first-requires : goal.assign-assign_first-requires
 assign-assign_first-requires = of_assign.assign-assign_first-requires
@@ -165,17 +165,17 @@ assign-assign_first-requires = of_assign.assign-assign_first-requires
 pub assign-returns-in_err-assign_first : goal.assign-returns-in_err-assign_first
 assign-returns-in_err-assign_first = of_assign.assign-returns-in_err-assign_first
 
-pub assign-overflow_add-p : goal.assign-overflow_add-p
-assign-overflow_add-p = of_assign.assign-overflow_add-p
+pub assign-overflow_add-depth : goal.assign-overflow_add-depth
+assign-overflow_add-depth = of_assign.assign-overflow_add-depth
 
-pub assign-overflow_add-i-then-pat : goal.assign-overflow_add-i-then-pat
-assign-overflow_add-i-then-pat = of_assign.assign-overflow_add-i-then-pat
+pub assign-overflow_add-node-then-pat : goal.assign-overflow_add-node-then-pat
+assign-overflow_add-node-then-pat = of_assign.assign-overflow_add-node-then-pat
 
-pub assign-overflow_add-i-else-pat : goal.assign-overflow_add-i-else-pat
-assign-overflow_add-i-else-pat = of_assign.assign-overflow_add-i-else-pat
+pub assign-overflow_add-node-else-pat : goal.assign-overflow_add-node-else-pat
+assign-overflow_add-node-else-pat = of_assign.assign-overflow_add-node-else-pat
 
-pub assign-overflow_add-i-2 : goal.assign-overflow_add-i-2
-assign-overflow_add-i-2 = of_assign.assign-overflow_add-i-2
+pub assign-overflow_add-node-2 : goal.assign-overflow_add-node-2
+assign-overflow_add-node-2 = of_assign.assign-overflow_add-node-2
 
 pub assign-many-requires : goal.assign-many-requires
 assign-many-requires = of_assign.assign-many-requires
@@ -231,11 +231,11 @@ block-returns = of_block.block-returns
 pub body-arity_at-n-requires : goal.body-arity_at-n-requires
 body-arity_at-n-requires = of_body.body-arity_at-n-requires
 
-pub body-overflow_add-p : goal.body-overflow_add-p
-body-overflow_add-p = of_body.body-overflow_add-p
+pub body-overflow_add-depth : goal.body-overflow_add-depth
+body-overflow_add-depth = of_body.body-overflow_add-depth
 
-pub body-overflow_add-i : goal.body-overflow_add-i
-body-overflow_add-i = of_body.body-overflow_add-i
+pub body-overflow_add-node : goal.body-overflow_add-node
+body-overflow_add-node = of_body.body-overflow_add-node
 
 pub body-stmts-requires : goal.body-stmts-requires
 body-stmts-requires = of_body.body-stmts-requires
@@ -252,11 +252,11 @@ call-overflow_add-result = of_call.call-overflow_add-result
 pub call-returns-then-n-eq0 : goal.call-returns-then-n-eq0
 call-returns-then-n-eq0 = of_call.call-returns-then-n-eq0
 
-pub call-overflow_add-p : goal.call-overflow_add-p
-call-overflow_add-p = of_call.call-overflow_add-p
+pub call-overflow_add-depth : goal.call-overflow_add-depth
+call-overflow_add-depth = of_call.call-overflow_add-depth
 
-pub call-overflow_add-i : goal.call-overflow_add-i
-call-overflow_add-i = of_call.call-overflow_add-i
+pub call-overflow_add-node : goal.call-overflow_add-node
+call-overflow_add-node = of_call.call-overflow_add-node
 
 pub call-full-requires : goal.call-full-requires
 call-full-requires = of_call.call-full-requires
@@ -264,8 +264,8 @@ call-full-requires = of_call.call-full-requires
 pub call-returns-in_err-j : goal.call-returns-in_err-j
 call-returns-in_err-j = of_call.call-returns-in_err-j
 
-pub call-overflow_add-i-2 : goal.call-overflow_add-i-2
-call-overflow_add-i-2 = of_call.call-overflow_add-i-2
+pub call-overflow_add-node-2 : goal.call-overflow_add-node-2
+call-overflow_add-node-2 = of_call.call-overflow_add-node-2
 
 pub call-mark_callee-requires : goal.call-mark_callee-requires
 call-mark_callee-requires = of_call.call-mark_callee-requires
@@ -276,8 +276,8 @@ call-write_args-requires = of_call.call-write_args-requires
 pub call-returns-in_err-write_args : goal.call-returns-in_err-write_args
 call-returns-in_err-write_args = of_call.call-returns-in_err-write_args
 
-pub call-overflow_add-p-2 : goal.call-overflow_add-p-2
-call-overflow_add-p-2 = of_call.call-overflow_add-p-2
+pub call-overflow_add-depth-2 : goal.call-overflow_add-depth-2
+call-overflow_add-depth-2 = of_call.call-overflow_add-depth-2
 
 pub call-many-requires : goal.call-many-requires
 call-many-requires = of_call.call-many-requires
@@ -312,11 +312,11 @@ catch-overflow_add-result = of_catch.catch-overflow_add-result
 pub catch-returns-then-n-eq0 : goal.catch-returns-then-n-eq0
 catch-returns-then-n-eq0 = of_catch.catch-returns-then-n-eq0
 
-pub catch-overflow_add-p : goal.catch-overflow_add-p
-catch-overflow_add-p = of_catch.catch-overflow_add-p
+pub catch-overflow_add-depth : goal.catch-overflow_add-depth
+catch-overflow_add-depth = of_catch.catch-overflow_add-depth
 
-pub catch-overflow_add-i : goal.catch-overflow_add-i
-catch-overflow_add-i = of_catch.catch-overflow_add-i
+pub catch-overflow_add-node : goal.catch-overflow_add-node
+catch-overflow_add-node = of_catch.catch-overflow_add-node
 
 pub catch-binds-requires : goal.catch-binds-requires
 catch-binds-requires = of_catch.catch-binds-requires
@@ -324,8 +324,8 @@ catch-binds-requires = of_catch.catch-binds-requires
 pub catch-returns-in_err-j : goal.catch-returns-in_err-j
 catch-returns-in_err-j = of_catch.catch-returns-in_err-j
 
-pub catch-overflow_add-p-2 : goal.catch-overflow_add-p-2
-catch-overflow_add-p-2 = of_catch.catch-overflow_add-p-2
+pub catch-overflow_add-depth-2 : goal.catch-overflow_add-depth-2
+catch-overflow_add-depth-2 = of_catch.catch-overflow_add-depth-2
 
 pub catch-full-requires : goal.catch-full-requires
 catch-full-requires = of_catch.catch-full-requires
@@ -369,11 +369,11 @@ decl-returns = of_decl.decl-returns
 pub declr-arity_at-n-requires : goal.declr-arity_at-n-requires
 declr-arity_at-n-requires = of_declr.declr-arity_at-n-requires
 
-pub declr-overflow_add-p : goal.declr-overflow_add-p
-declr-overflow_add-p = of_declr.declr-overflow_add-p
+pub declr-overflow_add-depth : goal.declr-overflow_add-depth
+declr-overflow_add-depth = of_declr.declr-overflow_add-depth
 
-pub declr-overflow_add-i : goal.declr-overflow_add-i
-declr-overflow_add-i = of_declr.declr-overflow_add-i
+pub declr-overflow_add-node : goal.declr-overflow_add-node
+declr-overflow_add-node = of_declr.declr-overflow_add-node
 
 pub declr-tail-requires : goal.declr-tail-requires
 declr-tail-requires = of_declr.declr-tail-requires
@@ -381,8 +381,8 @@ declr-tail-requires = of_declr.declr-tail-requires
 pub declr-returns-in_err-tail : goal.declr-returns-in_err-tail
 declr-returns-in_err-tail = of_declr.declr-returns-in_err-tail
 
-pub declr-overflow_add-i-2 : goal.declr-overflow_add-i-2
-declr-overflow_add-i-2 = of_declr.declr-overflow_add-i-2
+pub declr-overflow_add-node-2 : goal.declr-overflow_add-node-2
+declr-overflow_add-node-2 = of_declr.declr-overflow_add-node-2
 
 pub declr-nameless-requires : goal.declr-nameless-requires
 declr-nameless-requires = of_declr.declr-nameless-requires
@@ -399,14 +399,14 @@ declr-init-requires = of_declr.declr-init-requires
 pub declr-returns-then-inlining : goal.declr-returns-then-inlining
 declr-returns-then-inlining = of_declr.declr-returns-then-inlining
 
-pub declr-overflow_add-i-3 : goal.declr-overflow_add-i-3
-declr-overflow_add-i-3 = of_declr.declr-overflow_add-i-3
+pub declr-overflow_add-node-3 : goal.declr-overflow_add-node-3
+declr-overflow_add-node-3 = of_declr.declr-overflow_add-node-3
 
 pub declr-name_at-bound-requires : goal.declr-name_at-bound-requires
 declr-name_at-bound-requires = of_declr.declr-name_at-bound-requires
 
-pub declr-overflow_add-i-4 : goal.declr-overflow_add-i-4
-declr-overflow_add-i-4 = of_declr.declr-overflow_add-i-4
+pub declr-overflow_add-node-4 : goal.declr-overflow_add-node-4
+declr-overflow_add-node-4 = of_declr.declr-overflow_add-node-4
 
 pub declr-over-requires : goal.declr-over-requires
 declr-over-requires = of_declr.declr-over-requires
@@ -441,8 +441,8 @@ fdecl-overflow_add-result = of_fdecl.fdecl-overflow_add-result
 pub fdecl-returns-then-n-eq0 : goal.fdecl-returns-then-n-eq0
 fdecl-returns-then-n-eq0 = of_fdecl.fdecl-returns-then-n-eq0
 
-pub fdecl-overflow_add-i : goal.fdecl-overflow_add-i
-fdecl-overflow_add-i = of_fdecl.fdecl-overflow_add-i
+pub fdecl-overflow_add-node : goal.fdecl-overflow_add-node
+fdecl-overflow_add-node = of_fdecl.fdecl-overflow_add-node
 
 pub fdecl-skip-j-requires : goal.fdecl-skip-j-requires
 fdecl-skip-j-requires = of_fdecl.fdecl-skip-j-requires
@@ -459,8 +459,8 @@ fexpr-arity_at-n-requires = of_fexpr.fexpr-arity_at-n-requires
 pub fexpr-form_at-f-requires : goal.fexpr-form_at-f-requires
 fexpr-form_at-f-requires = of_fexpr.fexpr-form_at-f-requires
 
-pub fexpr-overflow_add-i : goal.fexpr-overflow_add-i
-fexpr-overflow_add-i = of_fexpr.fexpr-overflow_add-i
+pub fexpr-overflow_add-node : goal.fexpr-overflow_add-node
+fexpr-overflow_add-node = of_fexpr.fexpr-overflow_add-node
 
 pub fexpr-func-requires : goal.fexpr-func-requires
 fexpr-func-requires = of_fexpr.fexpr-func-requires
@@ -480,8 +480,8 @@ fexpr-overflow_add-result = of_fexpr.fexpr-overflow_add-result
 pub fexpr-returns-then-n-eq0 : goal.fexpr-returns-then-n-eq0
 fexpr-returns-then-n-eq0 = of_fexpr.fexpr-returns-then-n-eq0
 
-pub fexpr-overflow_add-i-2 : goal.fexpr-overflow_add-i-2
-fexpr-overflow_add-i-2 = of_fexpr.fexpr-overflow_add-i-2
+pub fexpr-overflow_add-node-2 : goal.fexpr-overflow_add-node-2
+fexpr-overflow_add-node-2 = of_fexpr.fexpr-overflow_add-node-2
 
 pub fexpr-skip-j-requires : goal.fexpr-skip-j-requires
 fexpr-skip-j-requires = of_fexpr.fexpr-skip-j-requires
@@ -501,11 +501,11 @@ forin-overflow_add-result = of_forin.forin-overflow_add-result
 pub forin-returns-then-n-eq0 : goal.forin-returns-then-n-eq0
 forin-returns-then-n-eq0 = of_forin.forin-returns-then-n-eq0
 
-pub forin-overflow_add-p : goal.forin-overflow_add-p
-forin-overflow_add-p = of_forin.forin-overflow_add-p
+pub forin-overflow_add-depth : goal.forin-overflow_add-depth
+forin-overflow_add-depth = of_forin.forin-overflow_add-depth
 
-pub forin-overflow_add-i : goal.forin-overflow_add-i
-forin-overflow_add-i = of_forin.forin-overflow_add-i
+pub forin-overflow_add-node : goal.forin-overflow_add-node
+forin-overflow_add-node = of_forin.forin-overflow_add-node
 
 pub forin-full-requires : goal.forin-full-requires
 forin-full-requires = of_forin.forin-full-requires
@@ -513,8 +513,8 @@ forin-full-requires = of_forin.forin-full-requires
 pub forin-returns-in_err-j : goal.forin-returns-in_err-j
 forin-returns-in_err-j = of_forin.forin-returns-in_err-j
 
-pub forin-overflow_add-i-2 : goal.forin-overflow_add-i-2
-forin-overflow_add-i-2 = of_forin.forin-overflow_add-i-2
+pub forin-overflow_add-node-2 : goal.forin-overflow_add-node-2
+forin-overflow_add-node-2 = of_forin.forin-overflow_add-node-2
 
 pub forin-write_tree-requires : goal.forin-write_tree-requires
 forin-write_tree-requires = of_forin.forin-write_tree-requires
@@ -528,8 +528,8 @@ forin-write_but_last-requires = of_forin.forin-write_but_last-requires
 pub forin-returns-in_err-write_but_last : goal.forin-returns-in_err-write_but_last
 forin-returns-in_err-write_but_last = of_forin.forin-returns-in_err-write_but_last
 
-pub forin-overflow_add-p-2 : goal.forin-overflow_add-p-2
-forin-overflow_add-p-2 = of_forin.forin-overflow_add-p-2
+pub forin-overflow_add-depth-2 : goal.forin-overflow_add-depth-2
+forin-overflow_add-depth-2 = of_forin.forin-overflow_add-depth-2
 
 pub forin-loops-requires : goal.forin-loops-requires
 forin-loops-requires = of_forin.forin-loops-requires
@@ -549,11 +549,11 @@ fors-form_at-f-requires = of_fors.fors-form_at-f-requires
 pub fors-arity_at-n-requires : goal.fors-arity_at-n-requires
 fors-arity_at-n-requires = of_fors.fors-arity_at-n-requires
 
-pub fors-overflow_add-p : goal.fors-overflow_add-p
-fors-overflow_add-p = of_fors.fors-overflow_add-p
+pub fors-overflow_add-depth : goal.fors-overflow_add-depth
+fors-overflow_add-depth = of_fors.fors-overflow_add-depth
 
-pub fors-overflow_add-i : goal.fors-overflow_add-i
-fors-overflow_add-i = of_fors.fors-overflow_add-i
+pub fors-overflow_add-node : goal.fors-overflow_add-node
+fors-overflow_add-node = of_fors.fors-overflow_add-node
 
 pub fors-loops-requires : goal.fors-loops-requires
 fors-loops-requires = of_fors.fors-loops-requires
@@ -567,8 +567,8 @@ fors-returns-then-f-eq-EMPTY_HEAD = of_fors.fors-returns-then-f-eq-EMPTY_HEAD
 pub fors-returns-else-f-eq-EMPTY_HEAD : goal.fors-returns-else-f-eq-EMPTY_HEAD
 fors-returns-else-f-eq-EMPTY_HEAD = of_fors.fors-returns-else-f-eq-EMPTY_HEAD
 
-pub full-returns-then-l-eq0 : goal.full-returns-then-l-eq0
-full-returns-then-l-eq0 = of_full.full-returns-then-l-eq0
+pub full-returns-then-levels-eq0 : goal.full-returns-then-levels-eq0
+full-returns-then-levels-eq0 = of_full.full-returns-then-levels-eq0
 
 pub full-bare-requires : goal.full-bare-requires
 full-bare-requires = of_full.full-bare-requires
@@ -678,11 +678,11 @@ ifs-overflow_add-result = of_ifs.ifs-overflow_add-result
 pub ifs-returns-then-n-eq0 : goal.ifs-returns-then-n-eq0
 ifs-returns-then-n-eq0 = of_ifs.ifs-returns-then-n-eq0
 
-pub ifs-overflow_add-p : goal.ifs-overflow_add-p
-ifs-overflow_add-p = of_ifs.ifs-overflow_add-p
+pub ifs-overflow_add-depth : goal.ifs-overflow_add-depth
+ifs-overflow_add-depth = of_ifs.ifs-overflow_add-depth
 
-pub ifs-overflow_add-i : goal.ifs-overflow_add-i
-ifs-overflow_add-i = of_ifs.ifs-overflow_add-i
+pub ifs-overflow_add-node : goal.ifs-overflow_add-node
+ifs-overflow_add-node = of_ifs.ifs-overflow_add-node
 
 pub ifs-full-requires : goal.ifs-full-requires
 ifs-full-requires = of_ifs.ifs-full-requires
@@ -690,8 +690,8 @@ ifs-full-requires = of_ifs.ifs-full-requires
 pub ifs-returns-in_err-j : goal.ifs-returns-in_err-j
 ifs-returns-in_err-j = of_ifs.ifs-returns-in_err-j
 
-pub ifs-overflow_add-p-2 : goal.ifs-overflow_add-p-2
-ifs-overflow_add-p-2 = of_ifs.ifs-overflow_add-p-2
+pub ifs-overflow_add-depth-2 : goal.ifs-overflow_add-depth-2
+ifs-overflow_add-depth-2 = of_ifs.ifs-overflow_add-depth-2
 
 pub ifs-arms-requires : goal.ifs-arms-requires
 ifs-arms-requires = of_ifs.ifs-arms-requires
@@ -705,14 +705,14 @@ init-name-requires = of_init.init-name-requires
 pub init-returns-then-is_const : goal.init-returns-then-is_const
 init-returns-then-is_const = of_init.init-returns-then-is_const
 
-pub init-overflow_add-i : goal.init-overflow_add-i
-init-overflow_add-i = of_init.init-overflow_add-i
+pub init-overflow_add-node : goal.init-overflow_add-node
+init-overflow_add-node = of_init.init-overflow_add-node
 
 pub init-name_at-bound-requires : goal.init-name_at-bound-requires
 init-name_at-bound-requires = of_init.init-name_at-bound-requires
 
-pub init-overflow_add-i-2 : goal.init-overflow_add-i-2
-init-overflow_add-i-2 = of_init.init-overflow_add-i-2
+pub init-overflow_add-node-2 : goal.init-overflow_add-node-2
+init-overflow_add-node-2 = of_init.init-overflow_add-node-2
 
 pub init-skip-j-requires : goal.init-skip-j-requires
 init-skip-j-requires = of_init.init-skip-j-requires
@@ -732,8 +732,8 @@ init-declr_after-requires = of_init.init-declr_after-requires
 pub init-returns-then-n-eq1 : goal.init-returns-then-n-eq1
 init-returns-then-n-eq1 = of_init.init-returns-then-n-eq1
 
-pub init-overflow_add-p : goal.init-overflow_add-p
-init-overflow_add-p = of_init.init-overflow_add-p
+pub init-overflow_add-depth : goal.init-overflow_add-depth
+init-overflow_add-depth = of_init.init-overflow_add-depth
 
 pub init-full-requires : goal.init-full-requires
 init-full-requires = of_init.init-full-requires
@@ -768,11 +768,11 @@ items-overflow_add-result = of_items.items-overflow_add-result
 pub items-returns-then-n-eq0 : goal.items-returns-then-n-eq0
 items-returns-then-n-eq0 = of_items.items-returns-then-n-eq0
 
-pub items-overflow_add-p : goal.items-overflow_add-p
-items-overflow_add-p = of_items.items-overflow_add-p
+pub items-overflow_add-depth : goal.items-overflow_add-depth
+items-overflow_add-depth = of_items.items-overflow_add-depth
 
-pub items-overflow_add-i : goal.items-overflow_add-i
-items-overflow_add-i = of_items.items-overflow_add-i
+pub items-overflow_add-node : goal.items-overflow_add-node
+items-overflow_add-node = of_items.items-overflow_add-node
 
 pub items-full-requires : goal.items-full-requires
 items-full-requires = of_items.items-full-requires
@@ -780,8 +780,8 @@ items-full-requires = of_items.items-full-requires
 pub items-returns-in_err-j : goal.items-returns-in_err-j
 items-returns-in_err-j = of_items.items-returns-in_err-j
 
-pub items-overflow_add-p-2 : goal.items-overflow_add-p-2
-items-overflow_add-p-2 = of_items.items-overflow_add-p-2
+pub items-overflow_add-depth-2 : goal.items-overflow_add-depth-2
+items-overflow_add-depth-2 = of_items.items-overflow_add-depth-2
 
 pub items-stmts-requires : goal.items-stmts-requires
 items-stmts-requires = of_items.items-stmts-requires
@@ -792,11 +792,11 @@ items-returns = of_items.items-returns
 pub kids-arity_at-n-requires : goal.kids-arity_at-n-requires
 kids-arity_at-n-requires = of_kids.kids-arity_at-n-requires
 
-pub kids-overflow_add-p : goal.kids-overflow_add-p
-kids-overflow_add-p = of_kids.kids-overflow_add-p
+pub kids-overflow_add-depth : goal.kids-overflow_add-depth
+kids-overflow_add-depth = of_kids.kids-overflow_add-depth
 
-pub kids-overflow_add-i : goal.kids-overflow_add-i
-kids-overflow_add-i = of_kids.kids-overflow_add-i
+pub kids-overflow_add-node : goal.kids-overflow_add-node
+kids-overflow_add-node = of_kids.kids-overflow_add-node
 
 pub kids-many-requires : goal.kids-many-requires
 kids-many-requires = of_kids.kids-many-requires
@@ -831,14 +831,14 @@ logic-overflow_add-result = of_logic.logic-overflow_add-result
 pub logic-returns-then-n-eq0 : goal.logic-returns-then-n-eq0
 logic-returns-then-n-eq0 = of_logic.logic-returns-then-n-eq0
 
-pub logic-overflow_add-i : goal.logic-overflow_add-i
-logic-overflow_add-i = of_logic.logic-overflow_add-i
+pub logic-overflow_add-node : goal.logic-overflow_add-node
+logic-overflow_add-node = of_logic.logic-overflow_add-node
 
 pub logic-skip-j-requires : goal.logic-skip-j-requires
 logic-skip-j-requires = of_logic.logic-skip-j-requires
 
-pub logic-overflow_add-p : goal.logic-overflow_add-p
-logic-overflow_add-p = of_logic.logic-overflow_add-p
+pub logic-overflow_add-depth : goal.logic-overflow_add-depth
+logic-overflow_add-depth = of_logic.logic-overflow_add-depth
 
 pub logic-conds-requires : goal.logic-conds-requires
 logic-conds-requires = of_logic.logic-conds-requires
@@ -882,11 +882,11 @@ name-overflow_add-result = of_name.name-overflow_add-result
 pub name-returns-then-n-eq0 : goal.name-returns-then-n-eq0
 name-returns-then-n-eq0 = of_name.name-returns-then-n-eq0
 
-pub name-overflow_add-p : goal.name-overflow_add-p
-name-overflow_add-p = of_name.name-overflow_add-p
+pub name-overflow_add-depth : goal.name-overflow_add-depth
+name-overflow_add-depth = of_name.name-overflow_add-depth
 
-pub name-overflow_add-i : goal.name-overflow_add-i
-name-overflow_add-i = of_name.name-overflow_add-i
+pub name-overflow_add-node : goal.name-overflow_add-node
+name-overflow_add-node = of_name.name-overflow_add-node
 
 pub name-full-requires : goal.name-full-requires
 name-full-requires = of_name.name-full-requires
@@ -1032,8 +1032,8 @@ params-many-requires = of_params.params-many-requires
 pub params-returns-in_err-j : goal.params-returns-in_err-j
 params-returns-in_err-j = of_params.params-returns-in_err-j
 
-pub params-returns-then-d-eq0 : goal.params-returns-then-d-eq0
-params-returns-then-d-eq0 = of_params.params-returns-then-d-eq0
+pub params-returns-then-below-eq0 : goal.params-returns-then-below-eq0
+params-returns-then-below-eq0 = of_params.params-returns-then-below-eq0
 
 pub params-body-requires : goal.params-body-requires
 params-body-requires = of_params.params-body-requires
@@ -1101,8 +1101,8 @@ tries-overflow_add-result = of_tries.tries-overflow_add-result
 pub tries-returns-then-n-eq0 : goal.tries-returns-then-n-eq0
 tries-returns-then-n-eq0 = of_tries.tries-returns-then-n-eq0
 
-pub tries-overflow_add-i : goal.tries-overflow_add-i
-tries-overflow_add-i = of_tries.tries-overflow_add-i
+pub tries-overflow_add-node : goal.tries-overflow_add-node
+tries-overflow_add-node = of_tries.tries-overflow_add-node
 
 pub tries-write_tree-requires : goal.tries-write_tree-requires
 tries-write_tree-requires = of_tries.tries-write_tree-requires
@@ -1110,14 +1110,14 @@ tries-write_tree-requires = of_tries.tries-write_tree-requires
 pub tries-returns-in_err-write_tree : goal.tries-returns-in_err-write_tree
 tries-returns-in_err-write_tree = of_tries.tries-returns-in_err-write_tree
 
-pub tries-overflow_add-i-2 : goal.tries-overflow_add-i-2
-tries-overflow_add-i-2 = of_tries.tries-overflow_add-i-2
+pub tries-overflow_add-node-2 : goal.tries-overflow_add-node-2
+tries-overflow_add-node-2 = of_tries.tries-overflow_add-node-2
 
 pub tries-skip-j-requires : goal.tries-skip-j-requires
 tries-skip-j-requires = of_tries.tries-skip-j-requires
 
-pub tries-overflow_add-p : goal.tries-overflow_add-p
-tries-overflow_add-p = of_tries.tries-overflow_add-p
+pub tries-overflow_add-depth : goal.tries-overflow_add-depth
+tries-overflow_add-depth = of_tries.tries-overflow_add-depth
 
 pub tries-parts-requires : goal.tries-parts-requires
 tries-parts-requires = of_tries.tries-parts-requires
@@ -1146,11 +1146,11 @@ whiles-returns-in_err-write_kids_but_last = of_whiles.whiles-returns-in_err-writ
 pub whiles-arity_at-n-requires : goal.whiles-arity_at-n-requires
 whiles-arity_at-n-requires = of_whiles.whiles-arity_at-n-requires
 
-pub whiles-overflow_add-p : goal.whiles-overflow_add-p
-whiles-overflow_add-p = of_whiles.whiles-overflow_add-p
+pub whiles-overflow_add-depth : goal.whiles-overflow_add-depth
+whiles-overflow_add-depth = of_whiles.whiles-overflow_add-depth
 
-pub whiles-overflow_add-i : goal.whiles-overflow_add-i
-whiles-overflow_add-i = of_whiles.whiles-overflow_add-i
+pub whiles-overflow_add-node : goal.whiles-overflow_add-node
+whiles-overflow_add-node = of_whiles.whiles-overflow_add-node
 
 pub whiles-loops-requires : goal.whiles-loops-requires
 whiles-loops-requires = of_whiles.whiles-loops-requires

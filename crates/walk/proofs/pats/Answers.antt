@@ -14,8 +14,8 @@ unfolding visit_mut_pat_f
 returns-in_err-pat_step c = ways.did-exit c.from_residual.result c.from_residual.ensures.1 (laws.act-stop _ c.in_err-pat_step.ensures)
 
 pub skip-requires : goal.skip-requires
-skip-requires c = heres.at-skip (heres.here-tree (λ t s. when (is_bind t) (pat_by s.pat_mode t) s) c.args.i c.in_ok-pat_step.ensures c.requires)
+skip-requires c = heres.at-skip (heres.here-tree (λ t s. when (is_bind t) (pat_by s.pat_mode t) s) c.args.node c.in_ok-pat_step.ensures c.requires)
 
 pub returns : goal.returns
 unfolding visit_mut_pat_f
-returns c = laws.act-then _ c.in_ok-pat_step.ensures (ways.did-skip c.args.i c.in_ok-pat_step.ensures.ok.planted c.skip.ensures.0)
+returns c = laws.act-then _ c.in_ok-pat_step.ensures (ways.did-skip c.args.node c.in_ok-pat_step.ensures.ok.planted c.skip.ensures.0)

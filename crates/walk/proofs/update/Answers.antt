@@ -16,8 +16,8 @@ unfolding visit_mut_update_expr_f
 returns-in_err-write_kids c = ways.did-exit c.from_residual.result c.from_residual.ensures.1 (laws.act-stop _ c.in_err-write_kids.ensures)
 
 pub skip-requires : goal.skip-requires
-skip-requires c = heres.at-skip (heres.here-tree (λ t. write_forest true (kids t)) c.args.i c.in_ok-write_kids.ensures c.requires)
+skip-requires c = heres.at-skip (heres.here-tree (λ t. write_forest true (kids t)) c.args.node c.in_ok-write_kids.ensures c.requires)
 
 pub returns : goal.returns
 unfolding visit_mut_update_expr_f
-returns c = laws.act-then _ c.in_ok-write_kids.ensures (ways.did-skip c.args.i c.in_ok-write_kids.ensures.ok.planted c.skip.ensures.0)
+returns c = laws.act-then _ c.in_ok-write_kids.ensures (ways.did-skip c.args.node c.in_ok-write_kids.ensures.ok.planted c.skip.ensures.0)

@@ -42,54 +42,54 @@ assign-to_pattern-pat-requires t c = heres.here-flat (heres.here-turn c.set_pat_
 pub assign-arity_at-n-requires : goal.assign-arity_at-n-requires
 assign-arity_at-n-requires t c = heres.at-node (heres.here-turn c.set_pat_mode.ensures c.requires)
 
-pub assign-overflow_add-i : goal.assign-overflow_add-i
-assign-overflow_add-i t c = omega (arith, c.requires.depth, (heres.at-node c.requires).1)
+pub assign-overflow_add-node : goal.assign-overflow_add-node
+assign-overflow_add-node t c = omega (arith, c.requires.depth, (heres.at-node c.requires).1)
 
 pub assign-assign_first-requires : goal.assign-assign_first-requires
 assign-assign_first-requires t c = heres.at-trees (heres.here-kids (heres.here-turn c.set_pat_mode.ensures c.requires) c.arity_at-n.ensures)
 
 pub assign-returns-in_err-assign_first : goal.assign-returns-in_err-assign_first
-assign-returns-in_err-assign_first t c = ways.did-exit c.from_residual.result c.from_residual.ensures.1 (assigned (walks_f c.args.d) c.requires c.set_pat_mode.ensures c.form_at-f.ensures c.to_pattern-pat.ensures c.arity_at-n.ensures (laws.act-stop _ c.in_err-assign_first.ensures))
+assign-returns-in_err-assign_first t c = ways.did-exit c.from_residual.result c.from_residual.ensures.1 (assigned (walks_f c.args.below) c.requires c.set_pat_mode.ensures c.form_at-f.ensures c.to_pattern-pat.ensures c.arity_at-n.ensures (laws.act-stop _ c.in_err-assign_first.ensures))
 
 -- the walk, from the first or the second on
-walked : (t : ℕ) (c : assign-Joined-pat t) → Did c.assign_first.new.w c.if-pat.w (Ok c.if-pat.j) (chosen (walks_f c.args.d) c.to_pattern-pat.result (c.args.p + 1) c.arity_at-n.result (c.args.i + 1) (abs c.assign_first.new.w))
+walked : (t : ℕ) (c : assign-Joined-pat t) → Did c.assign_first.new.w c.if-pat.w (Ok c.if-pat.j) (chosen (walks_f c.args.below) c.to_pattern-pat.result (c.args.depth + 1) c.arity_at-n.result (c.args.node + 1) (abs c.assign_first.new.w))
 walked t c = elim c.if-pat.branch [
   | assign-then-pat+in_ok-j b ↦ rw (b.w-is, b.j-is) (ways.iff-yes _ _ b.if-pat.true b.in_ok-j.ensures)
   | assign-else-pat+in_ok-j-2 b ↦ rw (b.w-is, b.j-is) (ways.iff-no _ _ b.if-pat.false b.in_ok-j-2.ensures)
 ]
 
-pub assign-overflow_add-p : goal.assign-overflow_add-p
-assign-overflow_add-p t c = omega (arith, c.requires.depth, (heres.at-node c.requires).1)
+pub assign-overflow_add-depth : goal.assign-overflow_add-depth
+assign-overflow_add-depth t c = omega (arith, c.requires.depth, (heres.at-node c.requires).1)
 
-pub assign-overflow_add-i-then-pat : goal.assign-overflow_add-i-then-pat
-assign-overflow_add-i-then-pat t c = omega (arith, c.requires.depth, (heres.at-node c.requires).1)
+pub assign-overflow_add-node-then-pat : goal.assign-overflow_add-node-then-pat
+assign-overflow_add-node-then-pat t c = omega (arith, c.requires.depth, (heres.at-node c.requires).1)
 
-pub assign-overflow_add-i-else-pat : goal.assign-overflow_add-i-else-pat
-assign-overflow_add-i-else-pat t c = omega (arith, c.requires.depth, (heres.at-node c.requires).1)
+pub assign-overflow_add-node-else-pat : goal.assign-overflow_add-node-else-pat
+assign-overflow_add-node-else-pat t c = omega (arith, c.requires.depth, (heres.at-node c.requires).1)
 
-pub assign-overflow_add-i-2 : goal.assign-overflow_add-i-2
-assign-overflow_add-i-2 t c = omega (arith, c.requires.depth, (heres.at-node c.requires).1)
+pub assign-overflow_add-node-2 : goal.assign-overflow_add-node-2
+assign-overflow_add-node-2 t c = omega (arith, c.requires.depth, (heres.at-node c.requires).1)
 
 pub assign-many-requires : goal.assign-many-requires
-assign-many-requires t c = (omega (arith, c.decreases), (heres.here-trees (assign_first c.form_at-f.result) c.arity_at-n.result (c.args.i + 1) c.in_ok-assign_first.ensures (heres.here-kids (heres.here-turn c.set_pat_mode.ensures c.requires) c.arity_at-n.ensures)))
+assign-many-requires t c = (omega (arith, c.decreases), (heres.here-trees (assign_first c.form_at-f.result) c.arity_at-n.result (c.args.node + 1) c.in_ok-assign_first.ensures (heres.here-kids (heres.here-turn c.set_pat_mode.ensures c.requires) c.arity_at-n.ensures)))
 
 pub assign-tail-requires : goal.assign-tail-requires
-assign-tail-requires t c = (omega (arith, c.decreases), (heres.here-trees (assign_first c.form_at-f.result) c.arity_at-n.result (c.args.i + 1) c.in_ok-assign_first.ensures (heres.here-kids (heres.here-turn c.set_pat_mode.ensures c.requires) c.arity_at-n.ensures)))
+assign-tail-requires t c = (omega (arith, c.decreases), (heres.here-trees (assign_first c.form_at-f.result) c.arity_at-n.result (c.args.node + 1) c.in_ok-assign_first.ensures (heres.here-kids (heres.here-turn c.set_pat_mode.ensures c.requires) c.arity_at-n.ensures)))
 
 pub assign-returns-in_err-j : goal.assign-returns-in_err-j
-assign-returns-in_err-j t c = ways.did-exit c.from_residual-in_err-j.result c.from_residual-in_err-j.ensures.1 (assigned (walks_f c.args.d) c.requires c.set_pat_mode.ensures c.form_at-f.ensures c.to_pattern-pat.ensures c.arity_at-n.ensures (laws.act-then _ c.in_ok-assign_first.ensures (laws.did-stop _ (ways.iff-yes _ _ c.if-pat.true c.in_err-j.ensures))))
+assign-returns-in_err-j t c = ways.did-exit c.from_residual-in_err-j.result c.from_residual-in_err-j.ensures.1 (assigned (walks_f c.args.below) c.requires c.set_pat_mode.ensures c.form_at-f.ensures c.to_pattern-pat.ensures c.arity_at-n.ensures (laws.act-then _ c.in_ok-assign_first.ensures (laws.did-stop _ (ways.iff-yes _ _ c.if-pat.true c.in_err-j.ensures))))
 
 pub assign-returns-in_err-j-2 : goal.assign-returns-in_err-j-2
-assign-returns-in_err-j-2 t c = ways.did-exit c.from_residual-in_err-j-2.result c.from_residual-in_err-j-2.ensures.1 (assigned (walks_f c.args.d) c.requires c.set_pat_mode.ensures c.form_at-f.ensures c.to_pattern-pat.ensures c.arity_at-n.ensures (laws.act-then _ c.in_ok-assign_first.ensures (laws.did-stop _ (ways.iff-no _ _ c.if-pat.false c.in_err-j-2.ensures))))
+assign-returns-in_err-j-2 t c = ways.did-exit c.from_residual-in_err-j-2.result c.from_residual-in_err-j-2.ensures.1 (assigned (walks_f c.args.below) c.requires c.set_pat_mode.ensures c.form_at-f.ensures c.to_pattern-pat.ensures c.arity_at-n.ensures (laws.act-then _ c.in_ok-assign_first.ensures (laws.did-stop _ (ways.iff-no _ _ c.if-pat.false c.in_err-j-2.ensures))))
 
 pub assign-assign_last-requires : goal.assign-assign_last-requires
 assign-assign_last-requires t c =
-    let each = sim-each ((sims c.args.d).full (c.args.p + 1)) in
-    let here = heres.here-trees (assign_first c.form_at-f.result) c.arity_at-n.result (c.args.i + 1) c.in_ok-assign_first.ensures (heres.here-kids (heres.here-turn c.set_pat_mode.ensures c.requires) c.arity_at-n.ensures) in
+    let each = sim-each ((sims c.args.below).full (c.args.depth + 1)) in
+    let here = heres.here-trees (assign_first c.form_at-f.result) c.arity_at-n.result (c.args.node + 1) c.in_ok-assign_first.ensures (heres.here-kids (heres.here-turn c.set_pat_mode.ensures c.requires) c.arity_at-n.ensures) in
     heres.at-trees (heres.here-again (sim_f-if c.to_pattern-pat.result each (sim-split sim-skip each)) here (walked t (goal.at.assign-assign_last-requires t c).Joined-pat))
 
 pub assign-returns-in_err-assign_last : goal.assign-returns-in_err-assign_last
-assign-returns-in_err-assign_last t c = ways.did-exit c.from_residual-in_err-assign_last.result c.from_residual-in_err-assign_last.ensures.1 (assigned (walks_f c.args.d) c.requires c.set_pat_mode.ensures c.form_at-f.ensures c.to_pattern-pat.ensures c.arity_at-n.ensures (laws.act-then _ c.in_ok-assign_first.ensures (laws.did_then _ (walked t (goal.at.assign-returns-in_err-assign_last t c).Joined-pat) (laws.act-stop _ c.in_err-assign_last.ensures))))
+assign-returns-in_err-assign_last t c = ways.did-exit c.from_residual-in_err-assign_last.result c.from_residual-in_err-assign_last.ensures.1 (assigned (walks_f c.args.below) c.requires c.set_pat_mode.ensures c.form_at-f.ensures c.to_pattern-pat.ensures c.arity_at-n.ensures (laws.act-then _ c.in_ok-assign_first.ensures (laws.did_then _ (walked t (goal.at.assign-returns-in_err-assign_last t c).Joined-pat) (laws.act-stop _ c.in_err-assign_last.ensures))))
 
 pub assign-returns : goal.assign-returns
-assign-returns t c = assigned (walks_f c.args.d) c.requires c.set_pat_mode.ensures c.form_at-f.ensures c.to_pattern-pat.ensures c.arity_at-n.ensures (laws.act-then _ c.in_ok-assign_first.ensures (laws.did_then _ (walked t (goal.at.assign-returns t c).Joined-pat) (ways.act-end c.if-pat.j c.in_ok-assign_last.ensures)))
+assign-returns t c = assigned (walks_f c.args.below) c.requires c.set_pat_mode.ensures c.form_at-f.ensures c.to_pattern-pat.ensures c.arity_at-n.ensures (laws.act-then _ c.in_ok-assign_first.ensures (laws.did_then _ (walked t (goal.at.assign-returns t c).Joined-pat) (ways.act-end c.if-pat.j c.in_ok-assign_last.ensures)))

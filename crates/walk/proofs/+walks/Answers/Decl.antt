@@ -16,4 +16,4 @@ decl-kids-requires t c = (omega (arith, c.decreases), heres.here-turn c.set_var_
 
 pub decl-returns : goal.decl-returns
 unfolding visit_mut_var_decl_f
-decl-returns t c = ways.modify-then (set_var_decl_kind (decl_kind_of (node_at (abs c.args.w.now) c.args.i).form)) (plain_f (walks_f c.args.d) c.args.p c.args.i) (ways.decl-turn c.requires c.form_at-f.ensures c.decl_kind.ensures c.set_var_decl_kind.ensures) c.kids.ensures
+decl-returns t c = ways.modify-then (set_var_decl_kind (decl_kind_of (node_at (abs c.args.w.now) c.args.node).form)) (plain_f (walks_f c.args.below) c.args.depth c.args.node) (ways.decl-turn c.requires c.form_at-f.ensures c.decl_kind.ensures c.set_var_decl_kind.ensures) c.kids.ensures

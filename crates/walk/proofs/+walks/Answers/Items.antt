@@ -25,25 +25,25 @@ pub items-overflow_add-result : goal.items-overflow_add-result
 items-overflow_add-result t c = omega (arith, c.requires.depth, (heres.at-node c.requires).1)
 
 pub items-returns-then-n-eq0 : goal.items-returns-then-n-eq0
-items-returns-then-n-eq0 t c = ways.iff-yes _ _ (ways.form-yes c.requires c.form_at-f.ensures c.if-f-ne-TEST.false) (ways.on-kids (λ q. split_f ((walks_f c.args.d).full q) (visit_mut_stmts_f (walks_f c.args.d) q)) c.requires c.arity_at-n.ensures (ways.split-none ((walks_f c.args.d).full (c.args.p + 1)) (visit_mut_stmts_f (walks_f c.args.d) (c.args.p + 1)) c.arity_at-n.result (c.args.i + 1) c.if-n-eq0.true c.requires.planted))
+items-returns-then-n-eq0 t c = ways.iff-yes _ _ (ways.form-yes c.requires c.form_at-f.ensures c.if-f-ne-TEST.false) (ways.on-kids (λ q. split_f ((walks_f c.args.below).full q) (visit_mut_stmts_f (walks_f c.args.below) q)) c.requires c.arity_at-n.ensures (ways.split-none ((walks_f c.args.below).full (c.args.depth + 1)) (visit_mut_stmts_f (walks_f c.args.below) (c.args.depth + 1)) c.arity_at-n.result (c.args.node + 1) c.if-n-eq0.true c.requires.planted))
 
-pub items-overflow_add-p : goal.items-overflow_add-p
-items-overflow_add-p t c = omega (arith, c.requires.depth, (heres.at-node c.requires).1)
+pub items-overflow_add-depth : goal.items-overflow_add-depth
+items-overflow_add-depth t c = omega (arith, c.requires.depth, (heres.at-node c.requires).1)
 
-pub items-overflow_add-i : goal.items-overflow_add-i
-items-overflow_add-i t c = omega (arith, c.requires.depth, (heres.at-node c.requires).1)
+pub items-overflow_add-node : goal.items-overflow_add-node
+items-overflow_add-node t c = omega (arith, c.requires.depth, (heres.at-node c.requires).1)
 
 pub items-full-requires : goal.items-full-requires
 items-full-requires t c = (omega (arith, c.decreases), heres.here-one c.if-n-eq0.false (heres.here-kids c.requires c.arity_at-n.ensures))
 
 pub items-returns-in_err-j : goal.items-returns-in_err-j
-items-returns-in_err-j t c = ways.did-exit c.from_residual.result c.from_residual.ensures.1 (ways.iff-yes _ _ (ways.form-yes c.requires c.form_at-f.ensures c.if-f-ne-TEST.false) (ways.on-kids (λ q. split_f ((walks_f c.args.d).full q) (visit_mut_stmts_f (walks_f c.args.d) q)) c.requires c.arity_at-n.ensures (ways.split-stop ((walks_f c.args.d).full (c.args.p + 1)) (visit_mut_stmts_f (walks_f c.args.d) (c.args.p + 1)) c.arity_at-n.result (c.args.i + 1) c.if-n-eq0.false c.in_err-j.ensures)))
+items-returns-in_err-j t c = ways.did-exit c.from_residual.result c.from_residual.ensures.1 (ways.iff-yes _ _ (ways.form-yes c.requires c.form_at-f.ensures c.if-f-ne-TEST.false) (ways.on-kids (λ q. split_f ((walks_f c.args.below).full q) (visit_mut_stmts_f (walks_f c.args.below) q)) c.requires c.arity_at-n.ensures (ways.split-stop ((walks_f c.args.below).full (c.args.depth + 1)) (visit_mut_stmts_f (walks_f c.args.below) (c.args.depth + 1)) c.arity_at-n.result (c.args.node + 1) c.if-n-eq0.false c.in_err-j.ensures)))
 
-pub items-overflow_add-p-2 : goal.items-overflow_add-p-2
-items-overflow_add-p-2 t c = omega (arith, c.requires.depth, (heres.at-node c.requires).1)
+pub items-overflow_add-depth-2 : goal.items-overflow_add-depth-2
+items-overflow_add-depth-2 t c = omega (arith, c.requires.depth, (heres.at-node c.requires).1)
 
 pub items-stmts-requires : goal.items-stmts-requires
-items-stmts-requires t c = (omega (arith, c.decreases), heres.here-next ((sims c.args.d).full (c.args.p + 1)) (heres.here-kids c.requires c.arity_at-n.ensures) c.if-n-eq0.false c.in_ok-j.ensures)
+items-stmts-requires t c = (omega (arith, c.decreases), heres.here-next ((sims c.args.below).full (c.args.depth + 1)) (heres.here-kids c.requires c.arity_at-n.ensures) c.if-n-eq0.false c.in_ok-j.ensures)
 
 pub items-returns : goal.items-returns
-items-returns t c = ways.iff-yes _ _ (ways.form-yes c.requires c.form_at-f.ensures c.if-f-ne-TEST.false) (ways.on-kids (λ q. split_f ((walks_f c.args.d).full q) (visit_mut_stmts_f (walks_f c.args.d) q)) c.requires c.arity_at-n.ensures (ways.split-then ((walks_f c.args.d).full (c.args.p + 1)) (visit_mut_stmts_f (walks_f c.args.d) (c.args.p + 1)) c.arity_at-n.result (c.args.i + 1) c.if-n-eq0.false c.in_ok-j.ensures c.stmts.ensures))
+items-returns t c = ways.iff-yes _ _ (ways.form-yes c.requires c.form_at-f.ensures c.if-f-ne-TEST.false) (ways.on-kids (λ q. split_f ((walks_f c.args.below).full q) (visit_mut_stmts_f (walks_f c.args.below) q)) c.requires c.arity_at-n.ensures (ways.split-then ((walks_f c.args.below).full (c.args.depth + 1)) (visit_mut_stmts_f (walks_f c.args.below) (c.args.depth + 1)) c.arity_at-n.result (c.args.node + 1) c.if-n-eq0.false c.in_ok-j.ensures c.stmts.ensures))
