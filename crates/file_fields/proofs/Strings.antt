@@ -15,7 +15,7 @@ use lib.Seq.{drop-cons, drop-drop, get_or-drop}
 use Rattle.def_file.specs.Script.{same_text}
 use Rattle.def_file.specs.Read.{number, u32, ends_from, texts_from, rising, any_text, distinct}
 use Rattle.file_fields.specs.declared.texts.Texts.{Texts}
-use Rattle.file_fields.specs.Text.{part, start_of, text_in, texts_of, Placed}
+use Rattle.file_fields.specs.Text.{part, start_of, text_in, texts_of, Placed, hash_of}
 use Rattle.def_tree.proofs.Tests.{is_T, is_true, and_left, and_right}
 
 -- what `==` on slices says
@@ -24,6 +24,22 @@ same_pointwise [] [] = refl
 same_pointwise [] (y ∷ b) = refl
 same_pointwise (x ∷ a) [] = refl
 same_pointwise (x ∷ a) (y ∷ b) = ap (λ (c : Bool). eqb x y && c) (same_pointwise a b)
+
+-- texts whose hashes differ are not the same
+same-is : (a b : List ℕ) → same_text a b ≡ true → a ≡ b
+same-is [] [] e = refl
+same-is [] (y ∷ b) e = absurd (is_T false e)
+same-is (x ∷ a) [] e = absurd (is_T false e)
+same-is (x ∷ a) (y ∷ b) e =
+    let t = is_T (eqb x y && same_text a b) e in
+    ap₂ {C = List ℕ} (λ (z : ℕ) (zs : List ℕ). z ∷ zs) (eqb→eq x y (and_left (eqb x y) (same_text a b) t)) (same-is a b (is_true (same_text a b) (and_right (eqb x y) (same_text a b) t)))
+
+no_true : (c : Bool) → (c ≡ true → ⊥) → false ≡ c
+no_true true h = absurd (h refl)
+no_true false h = refl
+
+pub apart : (a b : List ℕ) → (hash_of a ≡ hash_of b → ⊥) → false ≡ same_text a b
+apart a b h = no_true (same_text a b) (λ e. h (ap hash_of (same-is a b e)))
 
 -- the ends
 pub ends-length : (t : ℕ) (bs : List ℕ) → length (ends_from t bs) ≡ t
@@ -188,11 +204,11 @@ distinct-end ts k h = rw (drop_of_length-le ts h) refl
 
 -- the texts from k on, by their numbers
 module _ {bs : List ℕ} {at : Texts} (P : Placed bs at) where
-  pub any-range : (x : List ℕ) (k n : ℕ) → k + n ≡ at.count → list_any (λ j. pointwise eqb x (text_in bs at.ends at.bytes j)) (range_with_len k n) ≡ any_text x (drop k (texts_of bs at))
+  pub any-range : (x : List ℕ) (k n : ℕ) → k + n ≡ at.count → list_any (λ j. same_text x (text_in bs at.ends at.bytes j)) (range_with_len k n) ≡ any_text x (drop k (texts_of bs at))
   any-range x k zero e = sym (any-end x (texts_of bs at) k (omega (arith, count-texts P)))
   any-range x k (suc n) e =
       let h = any-range x (k + 1) n (omega arith) in
-      ap₂ {C = Bool} ◌||◌ (same_pointwise x (text_in bs at.ends at.bytes k)) h ∙ sym (any-next (text-cons P k (omega arith)) x)
+      ap {B = Bool} (λ (b : Bool). same_text x (text_in bs at.ends at.bytes k) || b) h ∙ sym (any-next (text-cons P k (omega arith)) x)
 
   pub all-range : (k n : ℕ) → k + n ≡ at.count → list_all (λ i. not (any_text (text_in bs at.ends at.bytes i) (drop (i + 1) (texts_of bs at)))) (range_with_len k n) ≡ distinct (drop k (texts_of bs at))
   all-range k zero e = sym (distinct-end (texts_of bs at) k (omega (arith, count-texts P)))

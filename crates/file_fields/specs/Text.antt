@@ -1,5 +1,6 @@
 -- The texts of a file by their number. Assumes nothing: these are definitions.
-use Rattle.std.specs.Prelude.{◌≡◌, Bool, ◌&&◌, List, [], ℕ, zero, suc, ◌+◌, ◌-◌, ◌*◌, ◌≤◌, leb, length, take, drop}
+use Rattle.std.specs.Prelude.{◌≡◌, Bool, ◌&&◌, List, [], ℕ, zero, suc, ◌+◌, ◌-◌, ◌*◌, ◌%◌, ◌^◌, ◌<◌, ◌≤◌, leb, length, take, drop, get_or}
+use Rattle.std.specs.List.{fold}
 use Rattle.def_tree.specs.Base.{pick}
 use Rattle.file_fields.specs.declared.texts.Texts.{Texts}
 use Rattle.def_file.specs.Read.{u32, ends_from, texts_from, rising}
@@ -20,6 +21,17 @@ text_in bs ends from k = part bs (from + start_of bs ends k) (from + u32 bs (end
 -- all texts, as reading has them
 abbrev pub texts_of : List ℕ → Texts → List (List ℕ)
 texts_of bs x = texts_from 0 (ends_from x.count (drop x.ends bs)) (drop x.bytes bs)
+
+-- the hash of a text
+abbrev pub hashed : ℕ → ℕ → ℕ
+hashed n b = (n * 31 % 2 ^ 32 + b) % 2 ^ 32
+
+unfoldable pub hash_of : List ℕ → ℕ
+hash_of text = fold hashed 0 text
+
+-- the numbers are the hashes of the texts
+abbrev pub Hashed : List ℕ → Texts → List ℕ → Type 0
+Hashed bs x hs = (k : ℕ) → k < x.count → get_or hs k 0 ≡ hash_of (text_in bs x.ends x.bytes k)
 
 -- the ends stand in the file
 pub record Stored (bs : List ℕ) (x : Texts) : Type 0 where

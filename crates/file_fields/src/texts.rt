@@ -1,7 +1,8 @@
 // The texts: their ends, looking one up, and row 5.
-ghost use Rattle.std.specs.Prelude.{◌≡◌, ◌+◌, ◌*◌, ◌<◌, drop};
+ghost use Rattle.std.specs.Prelude.{◌≡◌, ◌+◌, ◌*◌, ◌<◌, drop, length};
+ghost use Rattle.def_file.specs.Script.{same_text};
 ghost use Rattle.def_file.specs.Read.{u32, ends_from, rising, any_text, distinct};
-ghost use Rattle.file_fields.specs.Text.{Stored, Placed, start_of, text_in, texts_of};
+ghost use Rattle.file_fields.specs.Text.{Stored, Placed, start_of, text_in, texts_of, hash_of, Hashed};
 
 use crate::fields::u32_at;
 
@@ -12,6 +13,17 @@ pub struct Texts {
     pub ends: usize,
     pub bytes: usize,
     pub count: usize,
+}
+
+// A number of a text, by which most texts that differ are told apart.
+fn hash_of(text: &[u8]) -> u32
+    ensures { result ≡ hash_of text.now }
+{
+    let mut hash: u32 = 0;
+    for byte in text {
+        hash = hash.wrapping_mul(31).wrapping_add(u32::from(*byte));
+    }
+    hash
 }
 
 impl Texts {
@@ -61,13 +73,39 @@ impl Texts {
         at == b
     }
 
+    // The hash of each text.
+    fn hashes(self, file: &[u8]) -> [u32; 256]
+        requires { Stored file.now self }
+        ensures { (length result ≡ 256) × Hashed file.now self result }
+    {
+        let mut hashes = [0; 256];
+        for i in 0..self.count {
+            hashes[i] = hash_of(self.text(file, i));
+        }
+        hashes
+    }
+
+    // Are texts i and j the same. Their bytes are compared where their hashes are the same.
+    fn same(self, file: &[u8], hashes: &[u32], i: usize, j: usize) -> bool
+        requires { Stored file.now self × (i < self.count) × (j < self.count) × (length hashes.now ≡ 256) × Hashed file.now self hashes.now }
+        ensures { result ≡ same_text (text_in file.now self.ends self.bytes i) (text_in file.now self.ends self.bytes j) }
+    {
+        let one = hashes[i];
+        let other = hashes[j];
+        if one == other {
+            let x = self.text(file, i);
+            let y = self.text(file, j);
+            return x == y;
+        }
+        false
+    }
+
     // Is text i one of those behind it.
-    fn again(self, file: &[u8], i: usize) -> bool
-        requires { Placed file.now self × (i < self.count) }
+    fn again(self, file: &[u8], hashes: &[u32], i: usize) -> bool
+        requires { Placed file.now self × (i < self.count) × (length hashes.now ≡ 256) × Hashed file.now self hashes.now }
         ensures { result ≡ any_text (text_in file.now self.ends self.bytes i) (drop (i + 1) (texts_of file.now self)) }
     {
-        let x = self.text(file, i);
-        (i + 1..self.count).any(|j| x == self.text(file, j))
+        (i + 1..self.count).any(|j| self.same(file, hashes, i, j))
     }
 
     // Row 5: no text stands twice.
@@ -75,6 +113,7 @@ impl Texts {
         requires { Placed file.now self }
         ensures { result ≡ distinct (texts_of file.now self) }
     {
-        (0..self.count).all(|i| !self.again(file, i))
+        let hashes = self.hashes(file);
+        (0..self.count).all(|i| !self.again(file, &hashes, i))
     }
 }

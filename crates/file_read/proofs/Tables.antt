@@ -1,8 +1,11 @@
 -- The constant table among lent ones: what it is as a list, what it is compared with, and that it refuses nothing. Assumes nothing.
-use Rattle.std.proofs.Common.{◌≡◌, ℕ, zero, suc, ◌+◌, ◌*◌, ◌/◌, ◌%◌, ◌<◌, eqb, leb, Bool, true, false, ◌&&◌, ◌||◌, not, List, [], ◌∷◌, map, length, get_or, drop, refl, sym, ap, ap₂, ◌∙◌, arith}
+use Rattle.std.proofs.Common.{◌≡◌, ℕ, zero, suc, ◌+◌, ◌*◌, ◌/◌, ◌%◌, ◌<◌, ◌≤◌, eqb, leb, Bool, true, false, ◌&&◌, ◌||◌, not, List, [], ◌∷◌, map, length, get_or, drop, refl, sym, ap, ap₂, ◌∙◌, arith}
 use Rattle.std.specs.List.{list_all, range_with_len, zip}
 use Rattle.std.proofs.lemmas.Bool.{and_parts, le-leb}
 use Rattle.std.proofs.lemmas.Bool.Decides.{nat_tests}
+use native.Mathlib.Numerals.{add-one}
+use lib.ListN.{drop_of_length-le}
+use lib.Seq.{drop-cons}
 use Rattle.def_tree.specs.Base.{to_nat}
 use Rattle.def_kinds.specs.Stands.{stands}
 use Rattle.def_kinds.specs.Lent.{is_table, within}
@@ -40,6 +43,28 @@ no_greater (suc zero) (suc zero) g h = refl
 no_greater (suc zero) (suc (suc k)) g h = absurd (grind (arith, nat_tests))
 no_greater (suc (suc b)) k g h = absurd (grind (arith, nat_tests))
 
+-- a test of each element, one after the other; and of two lists at each place
+pub all_step : (p : ℕ → Bool) (xs : List ℕ) (i : ℕ) (known : Bool) → i < length xs → ((known && p (get_or xs i 0)) && list_all p (drop (i + 1) xs)) ≡ (known && list_all p (drop i xs))
+all_step p xs i true h = rw (drop-cons xs i 0 h, add-one) refl
+all_step p xs i false h = refl
+
+pub all_done : (p : ℕ → Bool) (xs : List ℕ) (i : ℕ) (known : Bool) → length xs ≤ i → known ≡ (known && list_all p (drop i xs))
+all_done p xs i true h = rw (drop_of_length-le xs h) refl
+all_done p xs i false h = refl
+
+pub no_greater_from : List ℕ → List ℕ → ℕ → Bool
+no_greater_from xs ks i = list_all (λ (p : ℕ × ℕ). leb p.0 p.1) (zip (drop i xs) (drop i ks))
+
+pub zip_step : (xs ks : List ℕ) (i : ℕ) (known : Bool) → i < length xs → i < length ks → ((known && leb (get_or xs i 0) (get_or ks i 0)) && no_greater_from xs ks (i + 1)) ≡ (known && no_greater_from xs ks i)
+unfolding no_greater_from
+zip_step xs ks i true h l = rw (drop-cons xs i 0 h, drop-cons ks i 0 l, add-one) refl
+zip_step xs ks i false h l = refl
+
+pub zip_done : (xs ks : List ℕ) (i : ℕ) (known : Bool) → length xs ≤ i → known ≡ (known && no_greater_from xs ks i)
+unfolding no_greater_from
+zip_done xs ks i true h = rw (drop_of_length-le xs h) refl
+zip_done xs ks i false h = refl
+
 zip-within : (xs ks : List ℕ) → length xs ≡ length ks → list_all (λ b. leb b 1) xs ≡ true → list_all (λ b. leb b 1) ks ≡ true → list_all (λ (p : ℕ × ℕ). leb p.0 p.1) (zip xs ks) ≡ within xs ks
 zip-within [] ks e g h = refl
 zip-within (b ∷ bs) [] e g h = absurd (omega (arith, e))
@@ -51,13 +76,17 @@ zip-within (b ∷ bs) (k ∷ ks) e g h =
 bits : list_all (λ b. leb b 1) KINDS ≡ true
 bits = refl
 
-table-long : (T : List ℕ) → is_table T ≡ true → length T ≡ 2304
+pub table-long : (T : List ℕ) → is_table T ≡ true → length T ≡ 2304
 table-long T e = grind (arith, nat_tests, and_parts (eqb (length T) 2304) (list_all (λ b. leb b 1) T) e)
 
-pub within-constant : (T : List ℕ) → is_table T ≡ true → list_all (λ (p : ℕ × ℕ). leb p.0 p.1) (zip T KINDS) ≡ within T constant
+within-constant : (T : List ℕ) → is_table T ≡ true → list_all (λ (p : ℕ × ℕ). leb p.0 p.1) (zip T KINDS) ≡ within T constant
 within-constant T e =
     let p = and_parts (eqb (length T) 2304) (list_all (λ b. leb b 1) T) e in
     zip-within T KINDS (table-long T e) p.1 bits ∙ ap (within T) constant-is
+
+pub from_start : (T : List ℕ) → is_table T ≡ true → no_greater_from T KINDS 0 ≡ within T constant
+unfolding no_greater_from
+from_start T e = within-constant T e
 
 -- it is a table, and allows what it allows
 within_itself : (xs : List ℕ) → within xs xs ≡ true

@@ -1,14 +1,14 @@
 -- A value overwritten in a store of values. Assumes nothing.
-use mathlib.Core.Path.{◌≡◌, sym, ap, ◌∙◌}
-use mathlib.Core.List.{List}
+use mathlib.Core.Path.{◌≡◌, refl, sym, ap, ◌∙◌}
+use mathlib.Core.List.{List, []}
 use mathlib.Core.Logic.{⊎_elim}
 use Prim.Native.Nat.{ℕ, ◌+◌, ◌-◌, ◌*◌, ◌/◌, ◌≤◌, ◌<◌}
 use native.Mathlib.Nat.{mul-le-mul, mul-div_cancel}
 use native.Mathlib.Omega.{arith}
 use lib.ListN.{length, get_or, set, length-set}
 use lib.Seq.{get_or-set_same, get_or-set_other}
-use Rattle.words.specs.Tab.{sum, below_or_not, sum-ext, sum-part, sum_one, sum-next, sum-zero}
-use Rattle.words.specs.Layout.{run, tree}
+use Rattle.words.specs.Tab.{sum, below_or_not, sum-ext, sum-part, sum_one, sum-next, sum-zero, tab-zero}
+use Rattle.words.specs.Layout.{run, tree, core_from}
 use Rattle.words.specs.Moved.{Moved}
 use Rattle.words.specs.declared.Run.{Run}
 use Rattle.words.specs.declared.layout.Table.{Table}
@@ -40,6 +40,20 @@ stride k s h l = let p : k ≤ 256 = omega arith in mul-le-mul p l
 
 -- a sum by its parts
 pub ruleset sums = (sum-next, sum-zero)
+
+-- a run of no nodes, by its length
+no_run : (w : List ℕ) (base o n : ℕ) → n ≡ 0 → run w base o n ≡ []
+unfolding run
+no_run w base o n e = rw e (tab-zero (λ j. core_from w (base + (o + j) * 2)))
+
+-- none gives way to none: all is as it was
+pub unfilled : (w : List ℕ) (base : ℕ) (t : Table) (k n : ℕ) (r : Run) → len_in w t k ≡ 0 → r.len ≡ 0 → Refilled w w base t k n r
+unfilled w base t k n r old new = record {
+  size = refl;
+  this = no_run w base (off_in w t k) (len_in w t k) old ∙ sym (no_run w 16 r.at r.len new);
+  other = λ j l e. refl;
+  out = λ j l e. refl;
+}
 
 -- value k of n becomes the run r: spliced, and its length is stored
 module _ {w v : List ℕ} {base : ℕ} {t : Table} (is : IsStore base t) (k n : ℕ) (r : Run) (h : k < n) (small : k * t.stride ≤ 2560) (long : 16384 ≤ length w)

@@ -35,10 +35,14 @@ pub fn refill(w: &mut [u32], base: usize, lengths: layout::Table, k: usize, n: u
     requires { (16384 ≤ length w.old) × IsStore base lengths × (k < n) × (n ≤ 256) × (r.at + r.len ≤ 1024) × (off_in w.old lengths n ≤ 512) × (r.len + off_in w.old lengths n ≤ 512 + len_in w.old lengths k) }
     ensures { Refilled w.old w.new base lengths k n r }
 {
-    let at = sum_at(w, lengths, 0, k);
-    let end = at + sum_at(w, lengths, k, n);
     let p = lengths.base + k * lengths.stride;
     let old = w[p] as usize;
+    // Where none gives way to none, nothing is to be added up.
+    if old + r.len == 0 {
+        return;
+    }
+    let at = sum_at(w, lengths, 0, k);
+    let end = at + sum_at(w, lengths, k, n);
     splice(w, base, at, old, end, r);
     w[p] = r.len as u32;
 }

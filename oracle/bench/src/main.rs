@@ -1,5 +1,8 @@
-//! Port and original on the same trees, in one process: `bench [REPEATS]`; `bench doubling MOST`, functions in one another; or
-//! `bench only port|original NODES TIMES`, for counting instructions from outside.
+//! Port and original on the same trees, in one process: `bench [REPEATS]`; `bench [REPEATS] SCRIPT`, that script alone; `bench doubling MOST`,
+//! functions in one another; or `bench only port|original SCRIPT TIMES`, for counting instructions from outside.
+//!
+//! SCRIPT is `gates:600` or `600` alone, `patterns:600`, `functions:10`, `right-functions:5`, or a part of the name of another row of the table, as
+//! `bindings` or "values that move".
 //!
 //! The port's time is that of its whole C function: the file read and checked, the runs, the result written, the words cleared. The
 //! original's is that of the runs alone, on a tree that was built before; `whole` adds what the port does besides: the file read,
@@ -145,12 +148,25 @@ fn show(name: &str, nodes: usize, times: Times) {
     );
 }
 
-fn all(repeats: usize) {
+fn head(repeats: usize) {
     println!("microseconds, the least of {repeats} turns");
     println!(
         "{:32} nodes  runs      port  original  ratio     whole  port, ns for a node and run",
         ""
     );
+}
+
+/// One script alone; ten calls a turn where a call takes no time to speak of.
+fn one(word: &str, repeats: usize) {
+    let (name, script) = scripts::by_name(word).unwrap_or_else(|| panic!("no script {word}"));
+    let (nodes, list) = (script.tree.count(), [script]);
+    let calls = if least(&list, 1, 1).port < 1e6 { 10 } else { 1 };
+    head(repeats);
+    show(&name, nodes, least(&list, repeats, calls));
+}
+
+fn all(repeats: usize) {
+    head(repeats);
     for nodes in [100, 200, 300, 400, 600, 800, 1000] {
         show("gates", nodes, least(&[scripts::gates(nodes)], repeats, 10));
         let patterns = [scripts::pattern_gates(nodes)];
@@ -190,8 +206,8 @@ fn doubling(most: usize) {
 }
 
 /// One side alone, the tree of the original built outside `Built::run`.
-fn only(side: &str, nodes: usize, times: usize) {
-    let script = scripts::gates(nodes);
+fn only(side: &str, word: &str, times: usize) {
+    let (_, script) = scripts::by_name(word).unwrap_or_else(|| panic!("no script {word}"));
     let (file, mut port) = (write(&script), Port::new());
     for _ in 0..times {
         match side {
@@ -201,18 +217,32 @@ fn only(side: &str, nodes: usize, times: usize) {
     }
 }
 
+const USAGE: &str =
+    "usage: bench [REPEATS] [SCRIPT] | bench doubling MOST | bench only port|original SCRIPT TIMES";
+
 fn main() {
     let given: Vec<String> = std::env::args().skip(1).collect();
-    let number = |at: usize| given.get(at).and_then(|n| n.parse().ok());
-    on_deep_stack(|| {
-        match (given.first().map(|word| &word[..]), number(2), number(3)) {
-            (Some("only"), Some(nodes), Some(times)) => only(&given[1], nodes, times),
-            (Some("doubling"), ..) => doubling(number(1).unwrap_or(22)),
-            (None, ..) => all(30),
-            _ => match number(0) {
-                Some(repeats) => all(repeats),
-                None => eprintln!("usage: bench [REPEATS] | bench doubling MOST | bench only port|original NODES TIMES"),
-            },
-        }
+    let words: Vec<&str> = given.iter().map(String::as_str).collect();
+    let number = |word: &str| word.parse::<usize>().ok();
+    on_deep_stack(|| match words[..] {
+        [] => all(30),
+        ["only", side @ ("port" | "original"), script, times] => match number(times) {
+            Some(times) => only(side, script, times),
+            None => eprintln!("{USAGE}"),
+        },
+        ["doubling"] => doubling(22),
+        ["doubling", most] => match number(most) {
+            Some(most) => doubling(most),
+            None => eprintln!("{USAGE}"),
+        },
+        [repeats, script] => match number(repeats) {
+            Some(repeats) => one(script, repeats),
+            None => eprintln!("{USAGE}"),
+        },
+        [word] => match number(word) {
+            Some(repeats) => all(repeats),
+            None => one(word, 30),
+        },
+        _ => eprintln!("{USAGE}"),
     });
 }

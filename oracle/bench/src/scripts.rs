@@ -197,3 +197,21 @@ pub fn slow() -> Vec<(&'static str, Script)> {
         ("12 right sides of functions", right_sides_of_functions()),
     ]
 }
+
+/// The script that a word names: `FAMILY:COUNT`, a number of nodes of `gates`, or a part of a slow one's name.
+pub fn by_name(word: &str) -> Option<(String, Script)> {
+    let (family, count) = word.split_once(':').unwrap_or(("gates", word));
+    if let Ok(count) = count.parse() {
+        let script = match family {
+            "gates" => gates(count),
+            "patterns" => pattern_gates(count),
+            "functions" => functions(count),
+            "right-functions" => right_functions(count),
+            _ => return None,
+        };
+        return Some((family.to_string(), script));
+    }
+    let mut all = slow().into_iter();
+    all.find(|(name, _)| name.contains(word))
+        .map(|(name, script)| (name.to_string(), script))
+}

@@ -2,7 +2,7 @@
 use Rattle.std.proofs.Common.{◌≡◌, ◌+◌, arith}
 use Rattle.words.specs.Tab.{sum-part, sum-zero}
 use Rattle.scope_values.specs.Steps.{len_in, off_in}
-use Rattle.scope_values.proofs.Store.{stride, refilled}
+use Rattle.scope_values.proofs.Store.{stride, refilled, unfilled}
 use Rattle.scope_values.proofs.refill.Goals as goal
 
 pub splice-requires : goal.splice-requires
@@ -13,6 +13,9 @@ splice-requires c =
     let part = sum-part (λ j. len_in w t j) c.args.k c.args.n r.2 in
     let zero = sum-zero (λ j. len_in w t j) in
     (r.0, r.1.0, r.1.1, r.4, omega (arith, c.sum_at.ensures, part), omega (arith, c.sum_at-at.ensures, c.sum_at.ensures, zero, r.5), omega (arith, c.sum_at-at.ensures, c.sum_at.ensures, zero, r.6))
+
+pub returns-then-old-r-eq0 : goal.returns-then-old-r-eq0
+returns-then-old-r-eq0 c = unfilled c.args.w.now c.args.base c.args.lengths c.args.k c.args.n c.args.r (omega (arith, c.if-old-r-eq0.true)) (omega (arith, c.if-old-r-eq0.true))
 
 pub returns : goal.returns
 returns c =
