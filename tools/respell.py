@@ -23,13 +23,13 @@ DATA = re.compile(r"(?m)^(?:abbrev )?(?:pub )?data .*?where\n((?:  .*\n)+)")
 # Lemmas that would get the name of a definition, by the files in which they stand: each gets `_lem`.
 LEMMAS = {
     "file_copy/proofs/Again.antt": ["node_at"],
-    "file_preorder/proofs/+children_declarator_node/Proof.antt": ["node_at"],
+    "file_read/proofs/+children_declarator_node/Proof.antt": ["node_at"],
     "laws_pass/proofs/ReadsAgain.antt": ["one_more"],
     "laws_pass/proofs/TreeLaws.antt": ["in_scope", "put_const"],
     "laws_roundtrip/proofs/Header.antt": ["head_bytes"],
     "laws_roundtrip/proofs/Round.antt": ["head_bytes"],
     "pass_run/proofs/Turns.antt": ["told_of"],
-    "scope_define/proofs/Declares.antt": ["no_value"],
+    "scope_declare/proofs/Declares.antt": ["no_value"],
     "scope_find/proofs/Facts.antt": ["in_scope"],
     "scope_find/proofs/Placed.antt": ["place_here"],
     "scope_read_write/proofs/Again.antt": ["same_id"],

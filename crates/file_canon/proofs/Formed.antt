@@ -12,9 +12,9 @@ use Rattle.def_file.specs.Script.{Script, has_id, zero_node, text_at}
 use Rattle.def_canon.specs.Canon.{index_of, has_text_number, context, texts_used, contexts_used, canon_node, canon}
 use Rattle.def_tree.proofs.Tests.{is_T}
 use Rattle.laws_canon.proofs.Uses.{uses-few}
-use Rattle.file_fields.specs.Text.{text_in}
-use Rattle.file_fields.proofs.Raws.{nodes-length}
-use Rattle.file_fields.proofs.Strings.{text-is}
+use Rattle.file_read.specs.Text.{text_in}
+use Rattle.file_read.proofs.Raws.{nodes-length}
+use Rattle.file_read.proofs.Strings.{text-is}
 use Rattle.file_read.specs.declared.header.Header.{Header}
 use Rattle.file_copy.proofs.Zeros.{node-zeros}
 use Rattle.file_canon.specs.Uses.{used_at, uses_of, Holds}

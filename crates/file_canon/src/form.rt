@@ -10,7 +10,7 @@ ghost use Rattle.file_canon.specs.Canon.{Wrote};
 use crate::uses::Uses;
 use def_file::Raw;
 use def_file::kind::Kind;
-use file_fields::fields::node_at;
+use file_read::fields::node_at;
 use file_read::header::Header;
 use file_write::put::{copy, put_head, put_number, put_raw};
 use refusal::Refusal;

@@ -7,7 +7,7 @@ mod uses;
 ghost use Rattle.std.specs.Prelude.{◌≡◌, ◌≤◌, length};
 ghost use Rattle.file_write.specs.Written.{says};
 ghost use Rattle.file_copy.specs.Copy.{numbers};
-ghost use Rattle.file_preorder.specs.Child.{Room};
+ghost use Rattle.file_read.specs.Child.{Room};
 ghost use Rattle.file_canon.specs.Uses.{Numbered};
 ghost use Rattle.file_canon.specs.Canon.{CanonIs};
 
@@ -15,7 +15,7 @@ use crate::form::Form;
 use crate::uses::Uses;
 use def_file::kind::Kind;
 use file_copy::Copied;
-use file_fields::fields::node_at;
+use file_read::fields::node_at;
 use file_read::read::read;
 use refusal::Refusal;
 use words::clear;

@@ -30,9 +30,9 @@ use Rattle.def_file.specs.Read.{raw_of, Place, node_ok, below, fills, nodes_ok}
 use Rattle.file_read.specs.Idents.{ids_of, Listed, Texted}
 use Rattle.file_read.specs.Head.{places}
 use Rattle.file_read.specs.Load.{script_of, Loaded, Loading, Kept}
-use Rattle.file_fields.specs.Text.{text_in}
-use Rattle.file_fields.proofs.Raws.{nodes-length, node-raw}
-use Rattle.file_fields.proofs.Strings.{count-texts, text-is}
+use Rattle.file_read.specs.Text.{text_in}
+use Rattle.file_read.proofs.Raws.{nodes-length, node-raw}
+use Rattle.file_read.proofs.Strings.{count-texts, text-is}
 use Rattle.def_file.proofs.Tested.{Tested, tested, lit-no-id}
 use Rattle.def_tree.proofs.Tests.{is_T, and_left, and_right}
 use Rattle.file_read.proofs.Names.{same_refl, enter-old, enter-new, ids-same, listed_same, texted-same}

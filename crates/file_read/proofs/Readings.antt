@@ -23,16 +23,16 @@ use Rattle.std.proofs.Common.{Result, Ok, Err, None}
 use Rattle.refusal.specs.declared.Refusal.{Refusal}
 use Rattle.refusal.specs.declared.Refusal.TheVariants as Row
 use Rattle.refusal.specs.Number.{number}
-use Rattle.file_preorder.specs.Child.{root_place}
-use Rattle.file_fields.specs.declared.texts.Texts.{Texts}
-use Rattle.file_fields.specs.Text.{Placed, texts_of}
+use Rattle.file_read.specs.Child.{root_place}
+use Rattle.file_read.specs.declared.texts.Texts.{Texts}
+use Rattle.file_read.specs.Text.{Placed, texts_of}
 use Rattle.file_read.specs.Idents.{ids_of, Listed}
 use Rattle.file_read.specs.Head.{places, HeadIs, Counts}
 use Rattle.file_read.specs.Load.{script_of, Readable, Loaded, Done, Kept}
 use Rattle.file_read.specs.Table.{table_row}
 use Rattle.file_read.specs.Reading.{CheckIs, Held, counts_of, Told, Left, LoadIs, answer_of, ReadsAs}
-use Rattle.file_fields.proofs.Raws.{nodes-length}
-use Rattle.file_fields.proofs.Strings.{count-texts}
+use Rattle.file_read.proofs.Raws.{nodes-length}
+use Rattle.file_read.proofs.Strings.{count-texts}
 use Rattle.file_read.proofs.Names.{ids-length}
 use Rattle.file_read.proofs.Cores.{core_all}
 

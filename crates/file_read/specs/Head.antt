@@ -3,7 +3,7 @@ use Rattle.std.specs.Prelude.{◌≡◌, List, ℕ, ◌+◌, ◌*◌, ◌≤◌,
 use Rattle.def_file.specs.Read.{Read, bad, u32, header}
 use Rattle.refusal.specs.declared.Refusal.{Refusal}
 use Rattle.refusal.specs.Number.{number}
-use Rattle.file_fields.specs.declared.texts.Texts.{Texts}
+use Rattle.file_read.specs.declared.texts.Texts.{Texts}
 use Rattle.file_read.specs.declared.header.Header.{Header}
 
 -- where the texts stand in a file of n nodes and t texts

@@ -3,3 +3,5 @@ pub mod Head
 pub mod Load
 pub mod Reading
 pub mod Table
+pub mod Text
+pub mod Child

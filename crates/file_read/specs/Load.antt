@@ -6,7 +6,7 @@ use Rattle.words.specs.Layout.{tree, beyond, node_count}
 use Rattle.def_file.specs.Script.{Script, has_id, enter_all, idents}
 use Rattle.def_file.specs.Core.{core_nodes}
 use Rattle.def_file.specs.Read.{nodes_from, raw_of, nodes_ok}
-use Rattle.file_fields.specs.Text.{texts_of, Placed}
+use Rattle.file_read.specs.Text.{texts_of, Placed}
 use Rattle.file_read.specs.Head.{places}
 use Rattle.file_read.specs.Idents.{ids_of, Listed, Texted}
 

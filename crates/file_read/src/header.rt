@@ -3,8 +3,8 @@ ghost use Rattle.std.specs.Prelude.{◌≡◌, ◌&&◌, ◌+◌, ◌*◌, ◌�
 ghost use Rattle.def_file.specs.Read.{u32};
 ghost use Rattle.file_read.specs.Head.{places, HeadIs};
 
-use file_fields::fields::u32_at;
-use file_fields::texts::Texts;
+use crate::fields::u32_at;
+use crate::texts::Texts;
 use refusal::Refusal;
 
 // How many nodes, texts and text bytes a file has. Their bounds are row 3, which is asked of a header as it stands in the file: clauses, and no facts of

@@ -2,11 +2,11 @@
 ghost use Rattle.std.specs.Prelude.{◌≡◌, true, ◌+◌, ◌*◌, ◌<◌, ◌≤◌, length, drop};
 ghost use Rattle.def_file.specs.Script.{has_id};
 ghost use Rattle.def_file.specs.Read.{raw_of};
-ghost use Rattle.file_preorder.specs.Child.{Room};
+ghost use Rattle.file_read.specs.Child.{Room};
 ghost use Rattle.file_read.specs.Idents.{ids_of, Listed, Texted, Found, FirstSet, Enters};
 
+use crate::fields::node_at;
 use def_file::Raw;
-use file_fields::fields::node_at;
 use words::layout;
 
 // The place of the identifier of the node x among those listed.

@@ -2,10 +2,10 @@
 ghost use Rattle.std.specs.Prelude.{◌≤◌, length};
 ghost use Rattle.file_read.specs.Load.{Named, Readable, Loading, Step, Done};
 
+use crate::fields::node_at;
 use crate::header::Header;
 use crate::idents::enter;
 use def_file::kind::Kind;
-use file_fields::fields::node_at;
 use refusal::Refusal;
 use words::{Node, add_node, layout, wipe};
 

@@ -5,9 +5,9 @@ ghost use Rattle.file_read.specs.Reading.{CheckIs, LoadIs, ReadIs, ReadUnderIs};
 
 use crate::header::{Header, read_header};
 use crate::load::load;
+use crate::preorder::nodes_ok_under;
 use crate::table::check_table;
 use file_kinds::KINDS;
-use file_preorder::nodes_ok_under;
 use refusal::Refusal;
 
 // Rows 2 to 6, under a table of kinds.

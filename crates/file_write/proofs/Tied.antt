@@ -19,7 +19,7 @@ use Rattle.words.specs.Tab.{get_d-tab, get_d-tab-out, below_or_not}
 use Rattle.words.specs.Layout.{tree}
 use Rattle.words.proofs.Nodes.{tree-length}
 use Rattle.file_read.specs.Idents.{numbered, ids_of, Listed}
-use Rattle.file_fields.proofs.Raws.{node-raw}
+use Rattle.file_read.proofs.Raws.{node-raw}
 use Rattle.laws_roundtrip.specs.Fits.{Bytes}
 use Rattle.laws_roundtrip.proofs.Nodes.{nodes-length}
 use Rattle.laws_roundtrip.proofs.Texts.{texts-length}

@@ -9,7 +9,7 @@ ghost use Rattle.file_write.specs.Back.{Source, node_in, ident_in, text_in, back
 use crate::put::put_raw;
 use def_file::Raw;
 use def_file::kind::Kind;
-use file_fields::fields::node_at;
+use file_read::fields::node_at;
 use words::{arity_at, form_at, kind_at, layout, num_at};
 
 // A file of so many nodes, and the words that hold its tree.

@@ -6,7 +6,7 @@
 ghost use Rattle.std.specs.Prelude.{◌≡◌, ◌||◌, bytes_eq, codes, if◌then◌else◌};
 ghost use Rattle.std.specs.Process.{exit_status};
 
-use file_fields::fields::u32_at;
+use file_read::fields::u32_at;
 use input::read_full;
 use pass::{inline, list};
 use std::env::{Env, FillError};

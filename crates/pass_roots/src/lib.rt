@@ -12,7 +12,7 @@ ghost use Rattle.pass_roots.specs.Listing.{Known, marks_to, root_at, given, word
 ghost use Rattle.pass_roots.specs.Nth.{nth, nth_is};
 
 use def_file::Raw;
-use file_fields::fields::node_at;
+use file_read::fields::node_at;
 use refusal::Refusal;
 use words::{layout, put};
 

@@ -13,13 +13,13 @@ use Rattle.def_tree.specs.Tree.{Core, count}
 use Rattle.words_scopes.specs.State.{value_of}
 use Rattle.words_nodes.specs.Nodes.{Planted, tree_from}
 use Rattle.words_nodes.proofs.Splice.{subtree-value, subtree-one}
-use Rattle.scope_define.specs.declared.Init.{Init}
-use Rattle.scope_define.specs.declared.Init.TheVariants.{NoInit, Recorded, Seen}
-use Rattle.scope_define.specs.Kinds.{start_of}
+use Rattle.scope_declare.specs.declared.define.Init.{Init}
+use Rattle.scope_declare.specs.declared.define.Init.TheVariants.{NoInit, Recorded, Seen}
+use Rattle.scope_declare.specs.Kinds.{start_of}
 use Rattle.scope_declare.specs.Inits.{init_from, Sited}
 use Rattle.scope_declare.proofs.Init.{run_none, none-one, At, given_none}
-use Rattle.scope_var_info.specs.Handles.{tree_o}
-use Rattle.scope_var_info.proofs.Numbers.{tree-in}
+use Rattle.scope.specs.Handles.{tree_o}
+use Rattle.scope.proofs.Numbers.{tree-in}
 use Rattle.scope.specs.Given.{init_by, init_o, Runs}
 
 -- the nodes of a value that is given

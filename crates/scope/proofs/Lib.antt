@@ -2,3 +2,4 @@
 pub mod Given
 pub mod Moves
 pub mod Undefined
+pub mod Numbers

@@ -7,8 +7,8 @@ use Rattle.def_tree.specs.Tree.{Core}
 use Rattle.def_pass.specs.Twice.{is_twice}
 use Rattle.def_pass.specs.Scope.{VarType, is_var, declare}
 use Rattle.def_pass.specs.Walk.{St, grow, declare_m, no_value}
-use Rattle.scope_define.specs.declared.Init.{Init}
-use Rattle.scope_define.specs.declared.Init.TheVariants.{NoInit, Recorded, Seen}
+use Rattle.scope_declare.specs.declared.define.Init.{Init}
+use Rattle.scope_declare.specs.declared.define.Init.TheVariants.{NoInit, Recorded, Seen}
 use Rattle.scope_declare.specs.Inits.{init_from, has_none}
 use Rattle.scope.specs.Steps.{named}
 

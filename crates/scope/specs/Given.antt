@@ -5,9 +5,9 @@ use Rattle.def_tree.specs.Tree.{Tree, Core}
 use Rattle.def_pass.specs.Scope as def
 use Rattle.words.specs.Layout.{run, nodes_base, node_count}
 use Rattle.words_scopes.specs.State.{value_of, run_of}
-use Rattle.scope_define.specs.declared.Init.{Init}
-use Rattle.scope_define.specs.declared.Init.TheVariants.{NoInit, Recorded, Seen}
-use Rattle.scope_var_info.specs.Handles.{tree_o}
+use Rattle.scope_declare.specs.declared.define.Init.{Init}
+use Rattle.scope_declare.specs.declared.define.Init.TheVariants.{NoInit, Recorded, Seen}
+use Rattle.scope.specs.Handles.{tree_o}
 
 -- a value that is given: none, or the tree at a node
 abbrev pub value_at : List Core → Maybe ℕ → Option Tree

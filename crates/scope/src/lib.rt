@@ -1,6 +1,8 @@
 // scope.rs, item by item, as its callers see it: each function asks only that the words stand for a state, and says what it does in terms of that
-// state. The look-ups are in crates/scope_var_info; a node or a value that the state has not is answered as none.
+// state. The look-ups are in `var_info`; a node or a value that the state has not is answered as none.
 #![tactic(auto)]
+
+pub mod var_info;
 
 ghost use Rattle.std.specs.Prelude.{◌≡◌, ◌&&◌, not, OnErr};
 ghost use Rattle.def_pass.specs.Scope.{declare, is_var, add_const, change, defined, with_value};
@@ -17,16 +19,18 @@ ghost use Rattle.scope.specs.Steps.{named, done_of, Moves};
 
 use refusal::Refusal;
 pub use scope_child::{close, open_scope};
+pub use scope_declare::define::Init;
 use scope_declare::no_value;
-pub use scope_define::Init;
 pub use scope_find::{
     Name, has_constant, ident_prevented, name_at, read_cnt, read_prevents_inlining, scope_for,
     should_prevent_inline_because_of_scope, write_prevents_inline,
 };
-pub use scope_marks::mark::{mark_this_sensitive, prevent_inline_of_params, store_inline_barrier};
+pub use scope_read_write::mark::{
+    mark_this_sensitive, prevent_inline_of_params, store_inline_barrier,
+};
 pub use scope_read_write::{Write, add_read, add_write};
-use scope_var_info::in_tree;
-pub use scope_var_info::{
+use var_info::in_tree;
+pub use var_info::{
     find_binding, find_binding_from_current, find_constant, has_same_this, idx_val,
     is_inline_prevented, is_param, is_undefined, put_constant, put_value, value_ident, value_kind,
     value_len, var_inline_prevented,
@@ -100,7 +104,7 @@ pub fn add_const(w: &mut [u32], x: u8, v: Option<usize>) -> Result<(), Refusal>
     ensures { Grown w.old w.new (add_const (targeted w.old) x (value_at (tree w.old) v) (stack w.old)) result }
 {
     let r = run_of(w, v);
-    scope_constants::add_const(w, x, r)
+    scope_values::constant::add_const(w, x, r)
 }
 
 // The nodes of a value: of none, or of the tree that begins at a node.
@@ -135,5 +139,5 @@ pub fn first_value(w: &mut [u32], x: u8, v: Option<usize>) -> Result<(), Refusal
     ensures { Grown w.old w.new (change x (λ c. defined (with_value (value_at (tree w.old) v) c)) (stack w.old)) result }
 {
     let r = run_of(w, v);
-    scope_define::first_value(w, x, r)
+    scope_declare::define::first_value(w, x, r)
 }

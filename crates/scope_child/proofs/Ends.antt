@@ -14,7 +14,7 @@ use Rattle.words_scopes.proofs.Index.{beside_none}
 use Rattle.scope_values.proofs.Count.{depth_is}
 use Rattle.scope_values.proofs.Listed.{stack-none}
 use Rattle.scope_child.specs.Hoist.{record_at, hoist_up, end_up}
-use Rattle.scope_redeclare.proofs.Top.{top_scope, under, heads-top, stack_top, under-length, top-fits}
+use Rattle.scope_declare.proofs.Top.{top_scope, under, heads-top, stack_top, under-length, top-fits}
 use Rattle.scope_child.proofs.Hoist.{record_same}
 
 pub no-fn : (k : ScopeKind) → (k ≡ Cond) ⊎ ((k ≡ Loop) ⊎ (k ≡ Block)) → is_fn (kind_of k) ≡ false

@@ -10,7 +10,7 @@ use Rattle.scope_values.proofs.Listed.{change-at, listed-becomes}
 use Rattle.std.proofs.Common.{None}
 use Rattle.words_scopes.specs.declared.Record.{Record}
 use Rattle.scope_find.specs.Own.{Own, OwnAt}
-use Rattle.scope_redeclare.proofs.Top.{put_top, put-there, put-absent, unres_top}
+use Rattle.scope_declare.proofs.Top.{put_top, put-there, put-absent, unres_top}
 use Rattle.scope_child.specs.Hoist.{record_at, hoist_one, hoist_up, end_one}
 
 -- what goes up, on the stack

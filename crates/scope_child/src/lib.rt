@@ -11,8 +11,8 @@ ghost use Rattle.words_scopes.specs.Kinds.{kind_of};
 ghost use Rattle.scope_child.specs.Hoist.{record_at, hoist_one, hoist_up, end_one, end_up};
 
 use refusal::Refusal;
+use scope_declare::redeclare::{rewrite, set_count};
 use scope_find::{find_binding_from_current, scope_kind};
-use scope_redeclare::{rewrite, set_count};
 use scope_values::set_run;
 use words::{Run, flag_at, layout, sum_at, wipe};
 pub use words_scopes::kinds::{Scope, ScopeKind};

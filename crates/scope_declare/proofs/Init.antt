@@ -22,12 +22,12 @@ use Rattle.words_scopes.specs.State.{Good, stack, index_in, binds, value_of, run
 use Rattle.words_scopes.proofs.Split as laws
 use Rattle.scope_values.proofs.Count.{length-binds}
 use Rattle.scope_values.proofs.Listed.{stack-none}
-use Rattle.scope_define.specs.Declare.{declare_with}
+use Rattle.scope_declare.specs.Declare.{declare_with}
 use Rattle.scope_values.specs.Steps.{Offered}
-use Rattle.scope_define.specs.Kinds.{init_at, start_of, nodes_of, Sized, bar_of}
-use Rattle.scope_define.specs.declared.Init.{Init}
-use Rattle.scope_define.specs.declared.Init.TheVariants.{NoInit, Recorded, Seen}
-use Rattle.scope_redeclare.proofs.Top.{stack_top}
+use Rattle.scope_declare.specs.Kinds.{init_at, start_of, nodes_of, Sized, bar_of}
+use Rattle.scope_declare.specs.declared.define.Init.{Init}
+use Rattle.scope_declare.specs.declared.define.Init.TheVariants.{NoInit, Recorded, Seen}
+use Rattle.scope_declare.proofs.Top.{stack_top}
 use Rattle.scope_find.specs.Look.{idx_here, bound_here, node_tree}
 use Rattle.scope_find.proofs.Facts.{with_index, idx-find, node-tree, or-false}
 use Rattle.words_nodes.specs.Nodes.{Planted, tree_from}

@@ -7,9 +7,9 @@ use Rattle.def_pass.specs.Scope.{Stack, place_or, is_param, param_o, barred}
 use Rattle.scope_find.specs.Look.{idx_here, bars_here, bound_here}
 use Rattle.words_nodes.specs.Nodes.{tree_from}
 use Rattle.words_scopes.specs.declared.kinds.VarType.{VarType}
-use Rattle.scope_define.specs.declared.Declaration.{Declaration}
-use Rattle.scope_define.specs.declared.Init.{Init}
-use Rattle.scope_define.specs.declared.Init.TheVariants.{NoInit, Recorded, Seen}
+use Rattle.scope_declare.specs.declared.define.Declaration.{Declaration}
+use Rattle.scope_declare.specs.declared.define.Init.{Init}
+use Rattle.scope_declare.specs.declared.define.Init.TheVariants.{NoInit, Recorded, Seen}
 
 -- an init whose tree is among some nodes, and that it begins at one of the n
 abbrev pub init_from : List Core → Init → def.Init

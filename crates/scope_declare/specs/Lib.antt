@@ -1,1 +1,3 @@
 pub mod Inits
+pub mod Kinds
+pub mod Declare

@@ -2,6 +2,9 @@
 // the source's own arguments.
 #![tactic(auto)]
 
+pub mod define;
+pub mod redeclare;
+
 ghost use Rattle.std.specs.Prelude.{◌≡◌, ◌||◌, ◌&&◌, ◌≤◌, ◌<◌};
 ghost use Rattle.def_pass.specs.Tree.{is_ident};
 ghost use Rattle.def_pass.specs.Scope.{declare, no_init, in_loop, alias_from, is_inline_prevented, should_prevent_inline_because_of_scope};
@@ -14,8 +17,8 @@ ghost use Rattle.words_nodes.specs.Nodes.{Planted, tree_from, size};
 ghost use Rattle.scope_declare.specs.Inits.{init_from, Sited, has_none, place_here, barred_here, works_with, plain};
 
 use def_file::kind::Kind;
+use define::{Declaration, Init, declare_with};
 use refusal::Refusal;
-use scope_define::{Declaration, Init, declare_with};
 use scope_find::{
     barred, bound_here, find_binding_from_current, ident_at, idx_val, in_loop, is_inline_prevented,
     should_prevent_inline_because_of_scope, var_type,

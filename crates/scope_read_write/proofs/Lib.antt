@@ -1,2 +1,3 @@
 pub mod Again
 pub mod Limits
+pub mod Fields

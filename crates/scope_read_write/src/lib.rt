@@ -1,5 +1,7 @@
-// Reads and writes of identifiers, with row 9.
+// scope.rs over the working words: reads and writes of identifiers, with row 9; marks.
 #![tactic(auto)]
+
+pub mod mark;
 
 ghost use Rattle.std.specs.Prelude.{◌≡◌, true};
 ghost use Rattle.def_pass.specs.Scope.{prevent_inline, add_read, add_write};
@@ -8,9 +10,9 @@ ghost use Rattle.scope_values.specs.Steps.{Grown, GrownLate};
 ghost use Rattle.scope_find.specs.Answers.{write_bound, write_free, write_to};
 ghost use Rattle.scope_read_write.specs.Writes.{forced};
 
+use mark::{count_read, prevent_inline_of_params};
 use refusal::Refusal;
 use scope_find::{has_constant, read_prevents_inlining, scope_for, write_prevents_inline};
-use scope_marks::mark::{count_read, prevent_inline_of_params};
 use scope_values::room_for;
 use words::layout;
 use words_scopes::kinds::{VarDeclKind, VarType};

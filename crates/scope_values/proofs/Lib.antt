@@ -3,3 +3,6 @@ pub mod Count
 pub mod Store
 pub mod Listed
 pub mod Outwards
+pub mod Constants
+pub mod Targeted
+pub mod ConstWords

@@ -2,6 +2,8 @@
 // cannot hold the words that it stands in.
 #![tactic(auto)]
 
+pub mod constant;
+
 ghost use Rattle.std.specs.Prelude.{◌≡◌, ℕ, ◌+◌, ◌-◌, ◌≤◌, ◌<◌, ◌||◌, length, set, ltb};
 ghost use Rattle.def_pass.specs.Scope.{recorded_nodes, live, change, with_value};
 ghost use Rattle.words.specs.Layout.{values_base, constant_values_base, binding_count, constant_count, value_len_word, first_binding_word, first_constant_word};
@@ -29,7 +31,7 @@ pub fn splice(w: &mut [u32], base: usize, at: usize, old: usize, end: usize, r: 
 }
 
 // In a store of n values, of the bindings or of the constants: value k becomes a run of the tree's nodes, and those behind it are shifted. `set_run` and
-// `set_const` of scope_constants are names for one call of it each, for their laws.
+// `set_const` of `constant` are names for one call of it each, for their laws.
 #[tactic(auto, using(crate::proofs::Store::sums))]
 pub fn refill(w: &mut [u32], base: usize, lengths: layout::Table, k: usize, n: usize, r: Run)
     requires { (16384 ≤ length w.old) × IsStore base lengths × (k < n) × (n ≤ 256) × (r.at + r.len ≤ 1024) × (off_in w.old lengths n ≤ 512) × (r.len + off_in w.old lengths n ≤ 512 + len_in w.old lengths k) }

@@ -19,7 +19,7 @@ use Rattle.def_pass.specs.Walk.{St, M, when, mark, grow, declare_m, declr_analys
 use Rattle.std.specs.Bool.{then_some}
 use Rattle.scope.specs.Given.{value_at}
 use Rattle.scope_declare.proofs.Init.{from-kind}
-use Rattle.scope_var_info.proofs.Numbers.{tree-in}
+use Rattle.scope.proofs.Numbers.{tree-in}
 use Rattle.words.specs.Layout.{node_of, tree}
 use Rattle.words.proofs.Nodes.{tree-length}
 use Rattle.words_nodes.specs.Nodes.{Planted, tree_from, forest_from}

@@ -23,7 +23,7 @@ use Rattle.words_nodes.proofs.Words.{tree-whole}
 use Rattle.words_nodes.proofs.Walks.{second-child, skip_is}
 use Rattle.words_state.specs.State.{rest, abs}
 use Rattle.words_state.proofs.Fields.{becomes-ok, ok-self, ok-then}
-use Rattle.scope_var_info.specs.Handles.{of_binding}
+use Rattle.scope.specs.Handles.{of_binding}
 use Rattle.walk_ident.specs.Steps.{first_test, first_f, swap_f}
 use Rattle.walk_ident.proofs.Laws.{becomes-abs, tree-kind, tree-num}
 

@@ -14,8 +14,8 @@ use Rattle.words.proofs.Nodes.{tree-at}
 use Rattle.words_scopes.specs.State.{name_of, stack}
 use Rattle.scope.specs.Steps.{named}
 use Rattle.words_state.specs.State.{rest, abs}
-use Rattle.scope_var_info.specs.Handles.{of_binding, value_tree, counted_o}
-use Rattle.scope_var_info.proofs.Numbers.{count_none}
+use Rattle.scope.specs.Handles.{of_binding, value_tree, counted_o}
+use Rattle.scope.proofs.Numbers.{count_none}
 use Rattle.words_nodes.proofs.Trees.{count-some}
 use Rattle.walk_ident.specs.Steps.{stays, undefined, inlined, fate_of, fate_at, constant_at}
 

@@ -10,7 +10,7 @@ use Rattle.laws_flat.specs.WalkF.{test_read}
 use Rattle.words_scopes.specs.State.{stack}
 use Rattle.words_state.specs.declared.SavedFields.{SavedFields}
 use Rattle.words_state.specs.State.{abs, Fielded, Ok}
-use Rattle.scope_var_info.specs.Handles.{numbered, value_tree}
+use Rattle.scope.specs.Handles.{numbered, value_tree}
 use Rattle.walk_ident.specs.declared.Found.{Found}
 use Rattle.walk_ident.specs.declared.Found.TheVariants as found
 

@@ -16,7 +16,7 @@ ghost use Rattle.words_scopes.specs.Kinds.{kind_of};
 ghost use Rattle.words_nodes.specs.Nodes.{Planted, Child, tree_from, size};
 ghost use Rattle.words_state.specs.State.{rest, abs, Act, Turns};
 ghost use Rattle.scope.specs.Steps.{named, Did};
-ghost use Rattle.scope_var_info.specs.Handles.{value_tree, counted_o};
+ghost use Rattle.scope.specs.Handles.{value_tree, counted_o};
 ghost use Rattle.scope_find.specs.Answers.{count_of};
 ghost use Rattle.walk_ident.specs.Steps.{analysis_f, costly, test_stack, Fated, value_by, Has, constant_at, noted, counts_if, swap_f, value_f, const_f, Restored};
 

@@ -28,8 +28,8 @@ use Rattle.def_pass.specs.Walk.{St, set_pat_mode, declaring, head_bind, over_m, 
 use Rattle.words_nodes.specs.Nodes.{Planted, Child, tree_from, forest_from}
 use Rattle.words_nodes.proofs.Trees.{node-count, child-in, tree-at-is}
 use Rattle.words_nodes.proofs.Walks.{second-child, forest-at-is}
-use Rattle.walk_shape.specs.Shape.{Room}
-use Rattle.walk_shape.proofs.Shapes.{shape-trees, room-stays, trees-end, first-stays}
+use Rattle.walk_laws.specs.Shape.{Room}
+use Rattle.walk_laws.proofs.Shapes.{shape-trees, room-stays, trees-end, first-stays}
 use Rattle.words_state.specs.State.{rest, abs, Turns}
 use Rattle.words_state.proofs.Fields.{ok-self, ok-then}
 use Rattle.laws_flat.specs.WalkF.{WalksF, name_last_f, declr_inlining_f, declr_to_f, visit_mut_var_declarator_f}

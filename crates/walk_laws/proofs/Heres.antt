@@ -13,10 +13,10 @@ use Rattle.words.proofs.Nodes.{tree-at, tree-length}
 use Rattle.def_pass.specs.Walk.{St}
 use Rattle.words_nodes.specs.Nodes.{Planted, tree_from}
 use Rattle.words_nodes.proofs.Trees.{length-flat, count-some}
-use Rattle.walk_shape.specs.Shape.{Room}
+use Rattle.walk_laws.specs.Shape.{Room}
 use Rattle.words_nodes.proofs.Walks.{forest-at-is}
 use Rattle.words_nodes.proofs.Loops.{forest-first}
-use Rattle.walk_shape.proofs.Shapes.{room-stays, trees-end}
+use Rattle.walk_laws.proofs.Shapes.{room-stays, trees-end}
 use Rattle.words_state.specs.State.{abs, Acts, Act, Turns}
 use Rattle.walk_laws.specs.Did.{Did, Here}
 use Rattle.walk_laws.proofs.Rooms.{whole_of, room-one, room-kids, room-less, room-node, room-behind, room_next}

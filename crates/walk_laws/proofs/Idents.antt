@@ -16,11 +16,11 @@ use Rattle.words.specs.Layout.{tree}
 use Rattle.def_pass.specs.Tree.{void_zero}
 use Rattle.def_pass.specs.Scope.{VarInfo, var_inline_prevented, find_binding, add_read}
 use Rattle.def_pass.specs.Walk.{St, modify, mark, when, set_changed, tally, same_ident, replace}
-use Rattle.walk_shape.specs.Shape.{Room}
+use Rattle.walk_laws.specs.Shape.{Room}
 use Rattle.words_state.specs.State.{rest, abs, Acts, Act}
 use Rattle.laws_flat.specs.WalkF.{WalksF, test_read, inline_value_f, found_f, ident_inlining_f, ident_analysis_f, after_ident_f}
 use Rattle.walk_ident.specs.Steps as steps
-use Rattle.scope_var_info.specs.Handles.{value_tree, counted_o}
+use Rattle.scope.specs.Handles.{value_tree, counted_o}
 use Rattle.walk_ident.specs.Steps.{analysis_f, Fate, stays, undefined, inlined, fate_by, fate_of, fate_at, const_f, value_f, swap_f}
 use Rattle.walk_laws.specs.Did.{Did, Here}
 use Rattle.walk_laws.proofs.Heres.{here-still}

@@ -5,3 +5,4 @@ pub mod Laws
 pub mod Rooms
 pub mod Shorts
 pub mod Ways
+pub mod Shapes

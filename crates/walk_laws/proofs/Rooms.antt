@@ -16,8 +16,8 @@ use Rattle.words.proofs.Nodes.{tree-length, tree-at}
 use Rattle.def_pass.specs.Walk.{St}
 use Rattle.words_nodes.specs.Nodes.{Planted}
 use Rattle.words_nodes.proofs.Trees.{one-whole, plant-behind, trees-le}
-use Rattle.walk_shape.specs.Shape.{Room}
-use Rattle.walk_shape.proofs.Shapes.{shape-trees}
+use Rattle.walk_laws.specs.Shape.{Room}
+use Rattle.walk_laws.proofs.Shapes.{shape-trees}
 use Rattle.words_state.specs.State.{abs}
 use Rattle.walk_laws.specs.Did.{Did}
 

@@ -11,7 +11,7 @@ use Rattle.def_pass.specs.Scope.{VarType}
 use Rattle.def_pass.specs.Walk.{St, as_catch, set_pat_mode, modify, head_bind}
 use Rattle.laws_flat.specs.WalkF.{WalksF, visit_mut_stmts_f, catch_param_f, declr_to_f}
 use Rattle.words_nodes.specs.Nodes.{Planted}
-use Rattle.walk_shape.specs.Shape.{Room}
+use Rattle.walk_laws.specs.Shape.{Room}
 use Rattle.words_state.specs.State.{abs}
 pub use Rattle.scope.specs.Steps.{Did}
 

@@ -26,8 +26,8 @@ use Rattle.words_nodes.specs.Nodes.{Planted, tree_from, forest_from}
 use Rattle.words_nodes.proofs.Loops.{Open, open-past, forest-here, forest-past}
 use Rattle.words_nodes.proofs.Words.{tree-whole, in_tree}
 use Rattle.words_state.specs.State.{rest, abs, Act}
-use Rattle.scope_var_info.specs.Handles.{tree_o, of_binding}
-use Rattle.scope_var_info.proofs.Numbers.{tree-in}
+use Rattle.scope.specs.Handles.{tree_o, of_binding}
+use Rattle.scope.proofs.Numbers.{tree-in}
 use Rattle.walk_write.proofs.Steps.{Step, step-act, act-step, step-as, step-none, step_then, step-stop, step-tree, act-tree, act-count, record-step}
 use Rattle.walk_write.proofs.Shapes.{head_of}
 use Rattle.walk_write.proofs.Marks.{kind-here}

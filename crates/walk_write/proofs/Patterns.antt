@@ -15,8 +15,8 @@ use Rattle.words_scopes.specs.State.{stack}
 use Rattle.words_scopes.proofs.Split.{no_bind}
 use Rattle.words_nodes.specs.Nodes.{Planted}
 use Rattle.words_state.specs.State.{rest, abs, Act}
-use Rattle.scope_var_info.specs.Handles.{bindings_of, numbered}
-use Rattle.scope_var_info.proofs.Numbers.{number-some}
+use Rattle.scope.specs.Handles.{bindings_of, numbered}
+use Rattle.scope.proofs.Numbers.{number-some}
 use Rattle.walk_write.proofs.Steps.{step-act, act-step, step-as, step-none}
 use Rattle.walk_write.proofs.Writing.{num-here}
 

@@ -2,8 +2,8 @@
 use Rattle.std.proofs.Common.{◌≡◌, ℕ, zero, suc, ◌+◌, ◌-◌, ◌*◌, ◌%◌, ◌<◌, ◌≤◌, Bool, true, false, not, ◌&&◌, ◌||◌, T, eqb, List, [], ◌∷◌, ◌++◌, map, length, get_or, take, drop, set, min, sym, refl, ap, ◌∙◌, subst, ⊎_elim, eq-or-lt_of_le, arith, length-drop, length-set, get_or-drop, get_or-take, get_or-set_other, get_or-set_same, drop-set-lt, eq-eqb, ne_eqb}
 use Rattle.std.proofs.Common as std
 use mathlib.Core.Option.{Option, none, some}
-use Rattle.words_prevent.specs.Mark as marks
-use Rattle.words_prevent.specs.declared.Binding.{Binding}
+use Rattle.words_scopes.specs.Mark as marks
+use Rattle.words_scopes.specs.declared.binding.Binding.{Binding}
 use Rattle.def_tree.specs.Base.{pick}
 use Rattle.def_tree.specs.Tree.{Tree, Core, no_core}
 use Rattle.def_pass.specs.Tree.{is_ident, num}

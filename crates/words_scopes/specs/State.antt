@@ -8,7 +8,7 @@ use Rattle.def_tree.specs.Base.{pick}
 use Rattle.def_file.specs.declared.kind.Kind.TheVariants.{BindingIdent, Ident}
 use Rattle.def_file.specs.Named.{number_of}
 use Rattle.def_pass.specs.Tree.{is_ident, num}
-use Rattle.words_prevent.specs.declared.Binding.{Binding}
+use Rattle.words_scopes.specs.declared.binding.Binding.{Binding}
 pub use Rattle.words_scopes.specs.Kinds.{var_type_of, alias_at, scope_kind_of}
 use Rattle.words_scopes.specs.Kinds.{type_of, alias_of}
 use Rattle.words_scopes.specs.declared.Record.{Record}

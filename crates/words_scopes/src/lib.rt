@@ -7,18 +7,19 @@
 ghost use Rattle.std.specs.Prelude.{◌≡◌, ℕ, ◌+◌, ◌-◌, ◌<◌, ◌≤◌, not, ◌&&◌, ◌∷◌, length, IfSome};
 ghost use Rattle.std.proofs.Math.Option.{none};
 ghost use Rattle.def_pass.specs.Scope.{defined, count_one, change, prevent_one, prevent_inline, append, fresh, new_scope};
-ghost use Rattle.words_prevent.specs.Mark.{marked};
+ghost use Rattle.words_scopes.specs.Mark.{marked};
 ghost use Rattle.words.specs.Layout.{binding_count, scope_count, constant_count, binding_place, value_len_word, first_binding_word, first_constant_word};
 ghost use Rattle.words.specs.Place.{placed};
 ghost use Rattle.words_scopes.specs.Kinds.{type_of, alias_of, kind_of};
 ghost use Rattle.words_scopes.specs.State.{AreWords, Good, HasBinding, Past, Becomes, stack, heads, binds, place, off, bind_at, name_of, hit_at, Window, recorded, Recorded, drop_inner};
 ghost use Rattle.words_scopes.specs.Index.{Entered, Restored};
 
+use binding::{Binding, mark_all};
 use def_file::kind::Kind;
 use kinds::{ScopeKind, VarType, alias_from_word, alias_word};
 use words::{first_at, layout, merge, node_at, put, sum_at, wipe};
-use words_prevent::{Binding, mark_all};
 
+pub mod binding;
 pub mod kinds;
 
 // A binding without its identifier, its value and its count.
@@ -99,7 +100,7 @@ pub fn find_binding(w: &[u32], x: u8) -> Option<usize>
     n.checked_sub(1)
 }
 
-// The same by a walk from the current scope to the root, without the index: scope_calls sets both side by side. `find_constant` of scope_constants is
+// The same by a walk from the current scope to the root, without the index: scope_calls sets both side by side. `find_constant` of scope_values is
 // the same walk, but goes on past a constant without a value.
 pub fn find_by_walk(w: &[u32], x: u8) -> Option<usize>
     requires { Good w.now }

@@ -2,7 +2,7 @@
 use Rattle.std.proofs.Common.{drop, refl, sym, ◌∙◌, arith}
 use lib.Seq.{take_all}
 use Rattle.def_file.specs.Read.{nodes_from}
-use Rattle.file_fields.proofs.Raws.{nodes-length, node-raw}
+use Rattle.file_read.proofs.Raws.{nodes-length, node-raw}
 use Rattle.file_canon.proofs.Numbers.{noted-kept, kept-then, used-none, room-texts, room-contexts, used-more}
 use Rattle.file_canon.proofs.number.Goals as goal
 

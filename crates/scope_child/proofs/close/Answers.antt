@@ -7,7 +7,7 @@ use Rattle.words_scopes.specs.State.{stack, scope_kind_of}
 use Rattle.scope_find.specs.Look.{scope_at}
 use Rattle.scope_values.proofs.Count.{depth_is}
 use Rattle.scope_values.proofs.Listed.{becomes-then}
-use Rattle.scope_redeclare.proofs.Top as top
+use Rattle.scope_declare.proofs.Top as top
 use Rattle.scope_child.proofs.Ends as ends
 use Rattle.scope_child.proofs.close.Goals as goal
 

@@ -5,8 +5,8 @@ use Rattle.def_pass.specs.Scope.{VarInfo, is_var, with_value, append}
 use Rattle.words_scopes.specs.State.{bind_at, with_count, stack}
 use Rattle.scope_values.specs.Steps.{refill}
 use Rattle.scope_values.proofs.Listed.{none-value, none-offered, becomes-self}
-use Rattle.scope_redeclare.proofs.Top as top
-use Rattle.scope_redeclare.proofs.Again.{twice, listed-count, listed-ccount}
+use Rattle.scope_declare.proofs.Top as top
+use Rattle.scope_declare.proofs.Again.{twice, listed-count, listed-ccount}
 use Rattle.scope_child.specs.Hoist.{record_at, hoist_one}
 use Rattle.scope_child.proofs.Hoist.{hoist-none-is, end-other, gone, up, bare-gone, refill-gone, gone-there, gone-absent, ends_there, ends-absent}
 use Rattle.scope_child.proofs.hoist_one.Goals as goal

@@ -15,7 +15,7 @@ use Rattle.def_pass.specs.Scope.{in_loop, is_inline_prevented, should_prevent_in
 use Rattle.words_scopes.specs.State.{stack}
 use Rattle.words_scopes.specs.Kinds.{type_of, alias_of}
 use Rattle.scope_values.specs.Steps.{Offered}
-use Rattle.scope_define.specs.Kinds.{bar_of, nodes_of, Sized}
+use Rattle.scope_declare.specs.Kinds.{bar_of, nodes_of, Sized}
 use Rattle.scope_declare.proofs.declare.Goals as goal
 use Rattle.scope_declare.proofs.declare.Goals.{Joined-again, then-again, else-again}
 

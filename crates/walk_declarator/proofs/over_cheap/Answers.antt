@@ -10,8 +10,8 @@ use Rattle.words_scopes.specs.Kinds.{type_of}
 use Rattle.words_scopes.specs.State.{stack}
 use Rattle.words_nodes.specs.Nodes.{tree_from}
 use Rattle.words_state.specs.State.{rest}
-use Rattle.scope_var_info.specs.Handles.{tree_o}
-use Rattle.scope_var_info.proofs.Numbers as numbers
+use Rattle.scope.specs.Handles.{tree_o}
+use Rattle.scope.proofs.Numbers as numbers
 use Rattle.scope.proofs.Given as given
 use Rattle.walk_declarator.proofs.Acts as acts
 use Rattle.walk_declarator.proofs.Parts as parts

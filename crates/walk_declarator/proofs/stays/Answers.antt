@@ -6,7 +6,7 @@ use Rattle.def_pass.specs.Walk.{stays}
 use Rattle.words.specs.Layout.{tree}
 use Rattle.words_scopes.specs.State.{stack}
 use Rattle.words_nodes.specs.Nodes.{tree_from, forest_from}
-use Rattle.scope_var_info.proofs.Numbers as numbers
+use Rattle.scope.proofs.Numbers as numbers
 use Rattle.walk_declarator.specs.Steps.{named}
 use Rattle.walk_declarator.proofs.Parts as parts
 use Rattle.walk_declarator.proofs.stays.Goals as goal

@@ -9,7 +9,7 @@ use Rattle.words_scopes.specs.Kinds.{type_of}
 use Rattle.words_scopes.specs.State.{stack}
 use Rattle.words_nodes.specs.Nodes.{tree_from}
 use Rattle.words_state.specs.State.{rest}
-use Rattle.scope_var_info.proofs.Numbers as numbers
+use Rattle.scope.proofs.Numbers as numbers
 use Rattle.walk_declarator.proofs.Acts as acts
 use Rattle.walk_declarator.proofs.Parts as parts
 use Rattle.walk_declarator.proofs.take_or_mark.Goals as goal

@@ -1,5 +1,5 @@
 use Rattle.std.proofs.Common.{sym, ap, ◌∙◌}
-use Rattle.scope_var_info.specs.Handles.{counted_o}
+use Rattle.scope.specs.Handles.{counted_o}
 use Rattle.walk_ident.proofs.Fates as fates
 use Rattle.walk_ident.proofs.constant.Goals as goal
 

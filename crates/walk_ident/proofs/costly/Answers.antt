@@ -5,7 +5,7 @@ use mathlib.Core.Path.{subst}
 use Rattle.words_scopes.specs.State.{stack}
 use Rattle.def_pass.specs.Scope.{VarInfo, value_o}
 use Rattle.scope_find.specs.Look.{IsKindOfValue}
-use Rattle.scope_var_info.proofs.Numbers as numbers
+use Rattle.scope.proofs.Numbers as numbers
 use Rattle.walk_ident.proofs.Idents as idents
 use Rattle.walk_ident.proofs.costly.Goals as goal
 

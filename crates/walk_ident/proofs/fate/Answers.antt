@@ -2,8 +2,8 @@ use Rattle.std.proofs.Common.{sym, ◌∙◌, suc, refl, arith}
 use mathlib.Core.Option.{none}
 use Rattle.def_pass.specs.Scope.{value_o}
 use Rattle.words_scopes.specs.State.{stack}
-use Rattle.scope_var_info.specs.Handles.{numbered, value_tree}
-use Rattle.scope_var_info.proofs.Numbers as numbers
+use Rattle.scope.specs.Handles.{numbered, value_tree}
+use Rattle.scope.proofs.Numbers as numbers
 use Rattle.walk_ident.proofs.Fates as fates
 use Rattle.walk_ident.proofs.fate.Goals as goal
 

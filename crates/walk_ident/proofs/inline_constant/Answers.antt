@@ -4,8 +4,8 @@ use Rattle.words_scopes.specs.State.{stack}
 use Rattle.def_pass.specs.Scope.{find_constant}
 use Rattle.words_state.specs.State.{abs}
 use Rattle.scope.specs.Steps.{Did}
-use Rattle.scope_var_info.specs.Handles.{value_tree}
-use Rattle.scope_var_info.proofs.Numbers as numbers
+use Rattle.scope.specs.Handles.{value_tree}
+use Rattle.scope.proofs.Numbers as numbers
 use Rattle.walk_ident.specs.Steps.{changes, constant_at, const_f}
 use Rattle.walk_ident.proofs.Laws as laws
 use Rattle.walk_ident.proofs.Fates as fates

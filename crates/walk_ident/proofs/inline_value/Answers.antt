@@ -7,8 +7,8 @@ use Rattle.words.specs.Layout.{tree}
 use Rattle.words_scopes.specs.State.{stack}
 use Rattle.words_state.specs.State.{rest, abs}
 use Rattle.scope.specs.Steps.{Did}
-use Rattle.scope_var_info.specs.Handles.{numbered}
-use Rattle.scope_var_info.proofs.Numbers as numbers
+use Rattle.scope.specs.Handles.{numbered}
+use Rattle.scope.proofs.Numbers as numbers
 use Rattle.walk_ident.specs.Steps.{value_by, noted, counts_if, swap_f, value_f}
 use Rattle.walk_ident.proofs.Laws as laws
 use Rattle.walk_ident.proofs.inline_value.Goals as goal

@@ -1,7 +1,7 @@
 use Rattle.std.proofs.Common.{suc, ◌∙◌}
 use Rattle.def_pass.specs.Scope.{value_o}
 use Rattle.words_scopes.specs.State.{stack}
-use Rattle.scope_var_info.specs.Handles.{numbered}
+use Rattle.scope.specs.Handles.{numbered}
 use Rattle.walk_ident.specs.Steps.{value_by}
 use Rattle.walk_ident.proofs.Fates as fates
 use Rattle.walk_ident.proofs.same_ident.Goals as goal

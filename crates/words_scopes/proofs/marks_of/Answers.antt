@@ -1,7 +1,7 @@
 -- The records of a window, marked. Assumes nothing.
 use Rattle.std.proofs.Common.{ℕ, ◌+◌, List, get_or, ap, ◌∙◌, arith}
-use Rattle.words_prevent.specs.Mark.{marked}
-use Rattle.words_prevent.specs.declared.Binding.{Binding}
+use Rattle.words_scopes.specs.Mark.{marked}
+use Rattle.words_scopes.specs.declared.binding.Binding.{Binding}
 use Rattle.words_scopes.specs.State.{record_at, no_record}
 use Rattle.words_scopes.proofs.Words as laws
 use Rattle.words_scopes.proofs.marks_of.Goals as goal

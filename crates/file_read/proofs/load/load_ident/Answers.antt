@@ -9,9 +9,9 @@ use Rattle.def_file.specs.declared.Raw.{Raw}
 use Rattle.def_file.proofs.Named.{numbered}
 use Rattle.def_file.specs.Script.{zero_node, same_text, is_arguments, has_id, enter as entered, place_of}
 use Rattle.def_file.specs.Read.{raw_of}
-use Rattle.file_fields.proofs.Strings.{same_pointwise}
-use Rattle.file_fields.specs.declared.texts.Texts.{Texts}
-use Rattle.file_fields.specs.Text.{text_in}
+use Rattle.file_read.proofs.Strings.{same_pointwise}
+use Rattle.file_read.specs.declared.texts.Texts.{Texts}
+use Rattle.file_read.specs.Text.{text_in}
 use Rattle.file_read.specs.Idents.{ids_of, Case}
 use Rattle.file_read.specs.Load.{script_of}
 use Rattle.file_read.proofs.Cores.{loading-read, loading-text, loading-name, loaded-more, kept_by, kept-mid, kept_then, over, number-final, core-ident, flag_to_nat}

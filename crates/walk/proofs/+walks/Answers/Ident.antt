@@ -7,7 +7,7 @@ use Rattle.laws_flat.specs.WalkF.{walks_f}
 use Rattle.walk_laws.proofs.Heres as heres
 use Rattle.walk_laws.proofs.Ways as ways
 use Rattle.walk_laws.proofs.Idents as idents
-use Rattle.scope_var_info.specs.Handles.{value_tree}
+use Rattle.scope.specs.Handles.{value_tree}
 use Rattle.walk_ident.specs.Steps.{value_by, constant_at}
 use Rattle.walk.proofs.+walks.Goals as goal
 

@@ -7,8 +7,8 @@ use Rattle.words_nodes.specs.Nodes.{tree_from}
 use Rattle.words_nodes.proofs.Splice.{inner-in}
 use Rattle.words_state.specs.State.{abs}
 use Rattle.scope.specs.Steps.{Did}
-use Rattle.scope_var_info.specs.Handles.{tree_o}
-use Rattle.scope_var_info.proofs.Numbers as numbers
+use Rattle.scope.specs.Handles.{tree_o}
+use Rattle.scope.proofs.Numbers as numbers
 use Rattle.walk_ident.specs.Steps.{first_f}
 use Rattle.walk_ident.proofs.Assigns as assigns
 use Rattle.walk_ident.proofs.assign.first_assigned.Goals as goal

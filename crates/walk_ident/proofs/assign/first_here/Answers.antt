@@ -5,8 +5,8 @@ use Rattle.def_pass.specs.Scope.{VarInfo, is_inline_prevented, var_inline_preven
 use Rattle.words_scopes.specs.State.{stack}
 use Rattle.scope_find.specs.Look.{node_tree}
 use Rattle.scope_declare.proofs.Init.{node-from}
-use Rattle.scope_var_info.specs.Handles.{numbered, of_binding}
-use Rattle.scope_var_info.proofs.Numbers as numbers
+use Rattle.scope.specs.Handles.{numbered, of_binding}
+use Rattle.scope.proofs.Numbers as numbers
 use Rattle.walk_ident.specs.Steps.{first_test}
 use Rattle.walk_ident.proofs.Assigns as assigns
 use Rattle.walk_ident.proofs.assign.first_here.Goals as goal

@@ -5,8 +5,8 @@ use Rattle.words_scopes.specs.State.{stack}
 use Rattle.words_scopes.proofs.Split.{no_bind}
 use Rattle.words_state.specs.State.{abs}
 use Rattle.scope_values.proofs.Listed.{grown-kept}
-use Rattle.scope_var_info.specs.Handles.{numbered, bindings_of}
-use Rattle.scope_var_info.proofs.Numbers.{number-some}
+use Rattle.scope.specs.Handles.{numbered, bindings_of}
+use Rattle.scope.proofs.Numbers.{number-some}
 use Rattle.walk_write.proofs.Writing.{num-here}
 use Rattle.walk_write.proofs.AssignLast.{store-none, store-held, store_kept}
 use Rattle.walk_write.proofs.assign.store_value.Goals as goal

@@ -2,7 +2,7 @@
 use native.Mathlib.Omega.{arith}
 use Rattle.words_scopes.specs.Kinds.{type_of}
 use Rattle.walk_write.proofs.Declares.{turned-in, bound-needs, bound-act}
-use Rattle.scope_var_info.proofs.Numbers.{tree-in}
+use Rattle.scope.proofs.Numbers.{tree-in}
 use Rattle.walk_write.proofs.declared.declare_bound.Goals as goal
 
 pub turn-requires-2 : goal.turn-requires-2

@@ -5,7 +5,7 @@ use Rattle.def_canon.specs.Canon.{index_of}
 use Rattle.laws_canon.proofs.Uses.{index-le}
 use Rattle.file_canon.specs.Uses.{uses_of}
 use Rattle.file_canon.specs.Form.{read_of}
-use Rattle.file_fields.proofs.Raws.{node-raw}
+use Rattle.file_read.proofs.Raws.{node-raw}
 use Rattle.file_canon.proofs.Formed.{holds-texts, holds-contexts, plain-node, texted-node, named-node}
 use Rattle.file_canon.proofs.form.Form.node.Goals as goal
 

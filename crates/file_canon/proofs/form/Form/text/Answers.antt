@@ -1,7 +1,7 @@
 -- A text by its number. Assumes nothing.
 use Rattle.std.proofs.Common.{◌+◌, ◌*◌, ap, ◌∙◌, arith}
-use Rattle.file_fields.specs.declared.texts.Texts.{Texts}
-use Rattle.file_fields.specs.Text.{text_in}
+use Rattle.file_read.specs.declared.texts.Texts.{Texts}
+use Rattle.file_read.specs.Text.{text_in}
 use Rattle.file_canon.proofs.Formed.{holds-texts, text-known, text-there}
 use Rattle.file_canon.proofs.form.Form.text.Goals as goal
 

@@ -1,4 +1,0 @@
-// scope.rs: marks, over the working words.
-#![tactic(auto)]
-
-pub mod mark;

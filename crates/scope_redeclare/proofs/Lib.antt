@@ -1,4 +1,0 @@
--- What the proofs of several functions use.
-pub mod Top
-pub mod Fields
-pub mod Again

@@ -1,5 +1,0 @@
-use Rattle.scope_var_info.proofs.Numbers as numbers
-use Rattle.scope_var_info.proofs.binding.Goals as goal
-
-pub returns : goal.returns
-returns c = rw c.then_some.ensures (numbers.binding-is c.args.w.now c.requires c.args.b c.known.result c.known.ensures.0 c.known.ensures.1)

@@ -1,6 +1,0 @@
-use Rattle.std.specs.Prelude.{Some}
-use Rattle.scope_var_info.proofs.Numbers as numbers
-use Rattle.scope_var_info.proofs.constant_run.Goals as goal
-
-pub returns : goal.returns
-returns c = (numbers.const-kept c.args.w.now c.args.x c.in_ok-run.run' c.in_ok-run.ensures, numbers.const_free c.args.w.now c.args.x (Some c.in_ok-run.run') c.in_ok-run.ensures)

@@ -1,8 +1,0 @@
-use native.Mathlib.Omega.{arith}
-use Rattle.scope_var_info.proofs.Numbers as numbers
-use Rattle.scope_var_info.proofs.value_ident.Goals as goal
-
-pub named-requires : goal.named-requires
-named-requires c =
-    let h = c.in_ok-b.ensures.1 in
-    ((c.requires, h), c.offset-at.ensures.0, omega (arith, numbers.bound-inside c.args.w.now c.requires c.in_ok-b.b h, c.offset-at.ensures.0))

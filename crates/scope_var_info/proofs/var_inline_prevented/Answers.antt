@@ -1,5 +1,0 @@
-use Rattle.scope_var_info.proofs.Numbers as numbers
-use Rattle.scope_var_info.proofs.var_inline_prevented.Goals as goal
-
-pub returns-then-known : goal.returns-then-known
-returns-then-known c = rw (numbers.number_in c.args.w.now c.requires c.args.b (c.known.ensures.0 c.if-known.true)) c.var_inline_prevented.ensures

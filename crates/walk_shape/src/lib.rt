@@ -1,2 +1,0 @@
-// What a walk on the list of nodes keeps of the list around the tree that it walks: definitions and proofs only.
-#![tactic(auto)]
