@@ -24,7 +24,7 @@ use def_file::form;
 use def_file::kind::Kind;
 use refusal::Refusal;
 use scope::{ScopeKind, Write, name_at};
-use walk_answer::steps::{bare, decl_kind, nameless, settled, to_pattern};
+use walk_answer::steps::{bare, decl_kind, leaf, nameless, settled, to_pattern};
 use walk_declarator::{Declr, Spot, declr_after, over, stays};
 use walk_ident::assign::after_assign;
 use walk_ident::{
@@ -58,6 +58,9 @@ fn full(w: &mut [u32], depth: usize, levels: usize, node: usize) -> Result<usize
             Kind::Ident => ident(w, depth, levels - 1, node),
             _ => Ok(node + 1),
         };
+    }
+    if leaf(w, node) {
+        return Ok(node + 1);
     }
     let j = own(w, depth, levels - 1, node)?;
     if settled(w, node) {

@@ -5,7 +5,7 @@ ghost use Rattle.words_scopes.specs.Kinds.{type_of};
 ghost use Rattle.def_tree.specs.Combine.{tree_at};
 ghost use Rattle.def_pass.specs.Walk.{decl_kind_of, to_pattern};
 ghost use Rattle.words_state.specs.State.{abs};
-ghost use Rattle.walk_laws.specs.Did.{Here, Headed, bare_node, settled_node};
+ghost use Rattle.walk_laws.specs.Did.{Here, Headed, bare_node, leaf_node, settled_node};
 
 use def_file::form;
 use def_file::kind::Kind;
@@ -43,6 +43,14 @@ pub fn bare(w: &[u32], i: usize) -> bool
     ensures { result ≡ bare_node (node_of w.now i) }
 {
     arity_at(w, i) == 0 && kind_at(w, i).is_cheap()
+}
+
+// Is node i an empty statement or a `this`: it has no handler of its own, and visit_mut_expr does nothing.
+pub fn leaf(w: &[u32], i: usize) -> bool
+    requires { Here w.now 1 i 0 0 }
+    ensures { result ≡ leaf_node (node_of w.now i) }
+{
+    arity_at(w, i) == 0 && matches!(kind_at(w, i), Kind::Empty | Kind::This)
 }
 
 // Does visit_mut_expr do nothing behind the handler of node i: no identifier, no && or ||, no assignment.

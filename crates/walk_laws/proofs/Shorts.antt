@@ -20,7 +20,7 @@ use Rattle.laws_flat.specs.WalkF.{WalksF, walks_f, handle_f, plain_f, own_f, aft
 use Rattle.laws_flat.specs.PassF.{some! }
 use Rattle.laws_flat.proofs.Sim.{sims, sim-own}
 use Rattle.laws_flat.proofs.Bounds.{pattern-at}
-use Rattle.walk_laws.specs.Did.{Did, Here, bare_node, settled_node}
+use Rattle.walk_laws.specs.Did.{Did, Here, bare_node, leaf_node, settled_node}
 use Rattle.walk_laws.proofs.Laws.{many-none}
 use Rattle.walk_laws.proofs.Heres.{walk_end, here-one, here-kids}
 use Rattle.walk_laws.proofs.Ways.{node-is, on-kids, own-by, kind-yes, form-yes, form-no, full-then, first-no, second-no, after-ident, after-logic, logic-other}
@@ -48,12 +48,23 @@ plain-kind k o = ⊎_elim (λ e. ap (λ (m : ℕ). handler_of (kind_of m)) (eqb-
 literal : (k : ℕ) → (eqb k 21 ≡ true) ⊎ (eqb k 22 ≡ true) → (k ≡ 21 → ⊥) → (not (eqb k 21) && (not (eqb k 32) && not (eqb k 33))) ≡ true
 literal k o z = ⊎_elim (λ e. absurd (z (eqb-true k 21 e))) (λ e. ap (λ (m : ℕ). not (eqb m 21) && (not (eqb m 32) && not (eqb m 33))) (eqb-true k 22 e)) o
 
+-- an empty statement and a `this`: no handler of their own, and no step behind it
+leaf_plain : (k : ℕ) → (eqb k 3 ≡ true) ⊎ (eqb k 26 ≡ true) → handler_of (kind_of k) ≡ h_plain
+leaf_plain k o = ⊎_elim (λ e. ap (λ (m : ℕ). handler_of (kind_of m)) (eqb-true k 3 e)) (λ e. ap (λ (m : ℕ). handler_of (kind_of m)) (eqb-true k 26 e)) o
+
+leaf_settled : (k : ℕ) → (eqb k 3 ≡ true) ⊎ (eqb k 26 ≡ true) → (not (eqb k 21) && (not (eqb k 32) && not (eqb k 33))) ≡ true
+leaf_settled k o = ⊎_elim (λ e. ap (λ (m : ℕ). not (eqb m 21) && (not (eqb m 32) && not (eqb m 33))) (eqb-true k 3 e)) (λ e. ap (λ (m : ℕ). not (eqb m 21) && (not (eqb m 32) && not (eqb m 33))) (eqb-true k 26 e)) o
+
 module _ (v : WalksF) {w : List ℕ} {i p d : ℕ} (h : Here w 1 i p d) where
-  pub bare-own : bare_node (node_of w i) ≡ true → Did w w (Ok (i + 1)) (own_f v p i (abs w))
+  -- a node without children and without a handler of its own
+  childless : eqb (node_of w i).arity 0 ≡ true → handler_of (kind_of (node_of w i).kind) ≡ h_plain → Did w w (Ok (i + 1)) (own_f v p i (abs w))
   unfolding handle_f plain_f
+  childless a k = own-by v h_plain h refl k (on-kids (λ q. many (v.full q)) h (sym (eqb-true (node_of w i).arity 0 a)) (many-none (v.full (p + 1)) (i + 1) h.planted))
+
+  pub bare-own : bare_node (node_of w i) ≡ true → Did w w (Ok (i + 1)) (own_f v p i (abs w))
   bare-own b =
       let s = bare_parts (eqb (node_of w i).arity 0) (eqb (node_of w i).kind 21) (eqb (node_of w i).kind 22) b in
-      own-by v h_plain h refl (plain-kind (node_of w i).kind s.1) (on-kids (λ q. many (v.full q)) h (sym (eqb-true (node_of w i).arity 0 s.0)) (many-none (v.full (p + 1)) (i + 1) h.planted))
+      childless s.0 (plain-kind (node_of w i).kind s.1)
 
   pub settled-after : {j : ℕ} → settled_node (node_of w i) ≡ true → j ≡ i + count (tree_from (tree w) i) → Did w w (Ok j) (after_f v p i (abs w))
   settled-after b e =
@@ -72,6 +83,13 @@ module _ {w : List ℕ} {i p l : ℕ} (h : Here w 1 i p (l - 1 + 1)) (z : l ≡ 
       let s = bare_parts (eqb (node_of w i).arity 0) (eqb (node_of w i).kind 21) (eqb (node_of w i).kind 22) b in
       let o = bare-own (walks_f (l - 1)) h b in
       full-then p i l z o (settled-after (walks_f (l - 1)) h (literal (node_of w i).kind s.1 (λ x. q (e ∙ x))) (walk_end (sim-own (sims (l - 1)) p) h o))
+
+-- an empty statement or a `this`: past it
+pub leaf-over : {w : List ℕ} {i p l : ℕ} → Here w 1 i p (l - 1 + 1) → (l ≡ 0 → ⊥) → leaf_node (node_of w i) ≡ true → Did w w (Ok (i + 1)) ((walks_f l).full p i (abs w))
+leaf-over {w} {i} {p} {l} h z b =
+    let s = bare_parts (eqb (node_of w i).arity 0) (eqb (node_of w i).kind 3) (eqb (node_of w i).kind 26) b in
+    let o = childless (walks_f (l - 1)) h s.0 (leaf_plain (node_of w i).kind s.1) in
+    full-then p i l z o (settled-after (walks_f (l - 1)) h (leaf_settled (node_of w i).kind s.1) (walk_end (sim-own (sims (l - 1)) p) h o))
 
 -- the two tests, by what was read of a node
 module _ (c : Core) where

@@ -4,7 +4,7 @@ use Rattle.std.specs.Prelude.{◌≡◌, List, ℕ, suc, ◌+◌, ◌≤◌, ◌
 use Rattle.std.proofs.Math.Option.{Option, none, some}
 use Rattle.def_tree.specs.Combine.{done, ◌>>◌, and_then, iff, node_at, tree_at, forest_at, set_arity, Walk as One, Walks as Many, on_rest, skip, many, split_f, each_but_f, on_kids_f}
 use Rattle.def_tree.specs.Tree.{Tree, Core}
-use Rattle.def_file.specs.declared.kind.Kind.TheVariants.{CatchClause, BindingIdent, Ident, Null, Bin, Assign}
+use Rattle.def_file.specs.declared.kind.Kind.TheVariants.{CatchClause, BindingIdent, Ident, Null, Bin, Assign, Empty, This}
 use Rattle.def_file.specs.Named.{number_of, is_kind}
 use Rattle.words.specs.Layout.{tree, node_of}
 use Rattle.def_pass.specs.Scope.{VarType}
@@ -24,6 +24,10 @@ pub record Here (w : List ℕ) (n i p d : ℕ) : Type 0 where
 -- an identifier or a literal without children
 abbrev pub bare_node : Core → Bool
 bare_node c = eqb c.arity 0 && (is_kind Ident c.kind || is_kind Null c.kind)
+
+-- an empty statement or a `this`
+abbrev pub leaf_node : Core → Bool
+leaf_node c = eqb c.arity 0 && (is_kind Empty c.kind || is_kind This c.kind)
 
 -- no identifier, no && or ||, no assignment
 abbrev pub settled_node : Core → Bool

@@ -588,6 +588,9 @@ full-overflow_add-result = of_full.full-overflow_add-result
 pub full-returns-in_default : goal.full-returns-in_default
 full-returns-in_default = of_full.full-returns-in_default
 
+pub full-returns-then-leaf : goal.full-returns-then-leaf
+full-returns-then-leaf = of_full.full-returns-then-leaf
+
 pub full-own-requires : goal.full-own-requires
 full-own-requires = of_full.full-own-requires
 

@@ -31,6 +31,9 @@ full-overflow_add-result t c = omega (arith, c.requires.depth, (heres.at-node c.
 pub full-returns-in_default : goal.full-returns-in_default
 full-returns-in_default t c = shorts.bare-other (heres.here-up c.if-levels-eq0.false c.requires) c.if-levels-eq0.false (sym c.bare.ensures ∙ c.if-bare.true) refl (λ e. c.in_default.not-Ident (c.kind_at.ensures.0 ∙ ap kind_of e))
 
+pub full-returns-then-leaf : goal.full-returns-then-leaf
+full-returns-then-leaf t c = shorts.leaf-over (heres.here-up c.if-levels-eq0.false c.requires) c.if-levels-eq0.false (sym c.leaf.ensures ∙ c.if-leaf.true)
+
 pub full-own-requires : goal.full-own-requires
 full-own-requires t c = (omega (arith, c.decreases, c.if-levels-eq0.false), heres.here-up c.if-levels-eq0.false c.requires)
 
