@@ -71,7 +71,7 @@ and_number h x = (h.0 ++ bytes 4 x, bytes-append h.0 (bytes 4 x) h.1 (number-byt
 head-bytes : (n t b : ℕ) → Bytes (head_bytes n t b)
 head-bytes n t b = (and_number (and_number (and_number (and_number (and_number (and_number (and_number (bytes 4 1, number-bytes 4 1) (32 + 16 * n + 4 * t + b)) n) 32) t) (32 + 16 * n)) (32 + 16 * n + 4 * t)) b).1
 
-file-bytes : (s : Script) → Fits s → Bytes (file s)
+pub file-bytes : (s : Script) → Fits s → Bytes (file s)
 unfolding file
 file-bytes s f =
     let h = head_bytes (length s.nodes) (length s.texts) (length (text_bytes s.texts)) in

@@ -2,7 +2,7 @@
 use Rattle.std.proofs.Common.{◌≡◌, ◌<◌, Result, Err, IsErrAnd, arith}
 use Rattle.std.proofs.lemmas.Result.{err_from_is_err_and}
 use Rattle.refusal.specs.declared.Refusal.{Refusal}
-use Rattle.refusal.specs.declared.Refusal.TheVariants.{Call, Version, Counts, Layout, Texts, Nodes, Idents, Depth, Room, Buffer, Table, Pairs, CanonBuffer}
+use Rattle.refusal.specs.declared.Refusal.TheVariants.{Call, Version, Counts, Layout, Texts, Nodes, Idents, Depth, Room, Buffer, TextBuffer, NoText, Clash, Table, Pairs, CanonBuffer}
 use Rattle.refusal.specs.Number.{number}
 
 pub number-some : (r : Refusal) → 0 < number r
@@ -16,6 +16,9 @@ number-some Idents = omega arith
 number-some Depth = omega arith
 number-some Room = omega arith
 number-some Buffer = omega arith
+number-some TextBuffer = omega arith
+number-some NoText = omega arith
+number-some Clash = omega arith
 number-some Table = omega arith
 number-some Pairs = omega arith
 number-some CanonBuffer = omega arith

@@ -1,7 +1,7 @@
 -- The numbers of the refusals. Assumes nothing: these are definitions.
 use Rattle.std.specs.Prelude.{ℕ, Result, Ok, Err}
 use Rattle.refusal.specs.declared.Refusal.{Refusal}
-use Rattle.refusal.specs.declared.Refusal.TheVariants.{Call, Version, Counts, Layout, Texts, Nodes, Idents, Depth, Room, Buffer, Table, Pairs, CanonBuffer}
+use Rattle.refusal.specs.declared.Refusal.TheVariants.{Call, Version, Counts, Layout, Texts, Nodes, Idents, Depth, Room, Buffer, TextBuffer, NoText, Clash, Table, Pairs, CanonBuffer}
 
 -- the number of its row
 abbrev pub number : Refusal → ℕ
@@ -15,6 +15,9 @@ number Idents = 7
 number Depth = 8
 number Room = 9
 number Buffer = 10
+number TextBuffer = 11
+number NoText = 12
+number Clash = 13
 number Table = 14
 number Pairs = 15
 number CanonBuffer = 16

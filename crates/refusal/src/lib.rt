@@ -1,4 +1,4 @@
-// Why the pass refuses: the rows of "Refusals in checking order" and the checks of requests 10 and 11, with their numbers.
+// Why a call is refused, and the number of each refusal.
 #![tactic(auto)]
 
 ghost use Rattle.std.specs.Prelude.{◌≡◌};
@@ -29,6 +29,12 @@ pub enum Refusal {
     Room,
     // A result buffer that is too short.
     Buffer,
+    // A text buffer that is too short.
+    TextBuffer,
+    // A script of which no text is the tree, or a name, a string or a number that no text has.
+    NoText,
+    // A lexical name that is declared twice in a scope, or by `var` or as a parameter too.
+    Clash,
     // A lent kind table that is not 2,304 bytes, none above 1.
     Table,
     // A lent kind table that allows a pair that the constant one forbids.
@@ -59,6 +65,9 @@ impl From<Refusal> for u32 {
             Refusal::Depth => 8,
             Refusal::Room => 9,
             Refusal::Buffer => 10,
+            Refusal::TextBuffer => 11,
+            Refusal::NoText => 12,
+            Refusal::Clash => 13,
             Refusal::Table => 14,
             Refusal::Pairs => 15,
             Refusal::CanonBuffer => 16,
