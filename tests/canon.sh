@@ -1,6 +1,6 @@
 #!/usr/bin/env bash
 # The writer of canonical files: its C function through tests/canon.py; the caller's tool, and, where script/inline can run, the files that it writes.
-# The last line counts.
+# What is passed over, and where, tests/steps.txt says. The last line counts.
 set -u
 cd "$(dirname "$0")/.." || exit 1
 . tests/counts.bash
@@ -10,25 +10,18 @@ need_library || finish
 one "driver" gcc -O1 -Wall -Wextra -Werror -o "$out/driver" tests/port.c "$library" -pthread || finish
 count "canon" python3 -B tests/canon.py "$out/driver"
 
-if ! command -v cargo >/dev/null 2>&1; then
-    echo "tool: skipped, no cargo"
-    finish
-fi
 tool=caller/target/release/negbosun-inline
 build_tool() {
     (cd caller && cargo build --release --offline --quiet -j "${JOBS:-1}" --bins)
 }
-one "tool" build_tool || finish
-
 # The tool writes the sample's canonical file, which is of one script with the sample.
 sample_written() {
     "$tool" canon samples/tide.tree >"$out/tide.tree" && "$tool" canon "$out/tide.tree" | cmp - "$out/tide.tree" &&
         "$tool" same samples/tide.tree "$out/tide.tree" | grep -qx "samples/tide.tree and $out/tide.tree: one script"
 }
-one "sample" sample_written
-if ! command -v node >/dev/null 2>&1 || [ ! -d /usr/share/nodejs/acorn ] || [ ! -d /usr/share/nodejs/eslint-scope ]; then
-    echo "script/inline: skipped, node or Debian's JavaScript libraries are absent (script/setup)"
-    finish
+if part tool; then
+    one "tool" build_tool || finish
+    one "sample" sample_written
 fi
 
 # What script/inline writes is its script's canonical file, whatever the text's layout is; two samples are two scripts.
@@ -43,9 +36,11 @@ two_scripts() {
     script/inline --tree samples/scripts/spring_tide.js >"$out/script.tree" && "$tool" same "$out/script.tree" samples/tide.tree
     [ $? -eq 1 ]
 }
-for script in samples/scripts/*.js; do
-    one "${script##*/}" script_written "$script"
-done
-one "another layout" other_layout
-one "two samples" two_scripts
+if part script; then
+    for script in samples/scripts/*.js; do
+        one "${script##*/}" script_written "$script"
+    done
+    one "another layout" other_layout
+    one "two samples" two_scripts
+fi
 finish

@@ -1,6 +1,6 @@
 #!/usr/bin/env bash
-# include/negbosun.h: compiled as C and as C++ without a warning, linked to the library, and held to what it promises; its numbers are the
-# Rust crate's. The last line counts.
+# include/negbosun.h: compiled as C and, where g++ is there, as C++ without a warning, linked to the library, and held to what it promises; its numbers
+# are the Rust crate's. The last line counts.
 set -u
 cd "$(dirname "$0")/.." || exit 1
 . tests/counts.bash
@@ -51,13 +51,15 @@ one "names in the library" keeps_to_itself
 for standard in c99 c11 c17; do
     compiled "gcc $standard" gcc -std="$standard"
 done
-for standard in c++11 c++17 c++20; do
-    compiled "g++ $standard" g++ -std="$standard" -x c++
-done
 one "alone in C" alone gcc -std=c99 -x c
-one "alone in C++" alone g++ -std=c++11 -x c++
 for name in MOST_RUNS WORDS MOST_BYTES MOST_ROOTS ROOT_WORDS TABLE_BYTES; do
     one "$name" same_number "NEGBOSUN_$name" "$(rust "$name")"
 done
 one "version" grep -q "^#define NEGBOSUN_VERSION \"$(version)\"\$" include/negbosun.h
+if part g++; then
+    for standard in c++11 c++17 c++20; do
+        compiled "g++ $standard" g++ -std="$standard" -x c++
+    done
+    one "alone in C++" alone g++ -std=c++11 -x c++
+fi
 finish

@@ -1,20 +1,13 @@
 #!/usr/bin/env bash
 # Builds the oracle from the original's two source files, replays the stored vectors against it,
 # and checks generator, reader and original against one another. Where the sources or cargo are
-# not there it says so and passes over itself. The last line counts.
+# not there it says so and passes over itself (tests/steps.txt). The last line counts.
 set -u
 cd "$(dirname "$0")/.." || exit 1
 . tests/counts.bash
 
-skip() {
-  echo "oracle: skipped, $*"
-  finish
-}
-
-sources=${NEGBOSUN_ORIGINAL:-../shared/docs/src}
-[ -f "$sources/simplify/inlining/mod.rs" ] || skip "no sources of the original in $sources"
-command -v cargo >/dev/null 2>&1 || skip "no cargo"
-NEGBOSUN_ORIGINAL=$(cd "$sources" && pwd) && export NEGBOSUN_ORIGINAL
+whole
+NEGBOSUN_ORIGINAL=$(cd "${NEGBOSUN_ORIGINAL:-../shared/docs/src}" && pwd) && export NEGBOSUN_ORIGINAL
 
 # The stored vectors are what the command of docs/TESTING.md writes.
 rewritten() {
@@ -40,10 +33,8 @@ one "small rewritten" rewritten small
 one "patterns rewritten" rewritten patterns
 count "limits" "$bin/limits"
 count "consistency" "$bin/consistency" "${SEED:-1}" 2000
-if command -v node >/dev/null 2>&1; then
+if part differences; then
   count "differences" bash -c "cd oracle && target/release/differences check differences/classes.txt"
-else
-  echo "differences: skipped, no node"
 fi
 
 finish

@@ -1,29 +1,49 @@
 #!/usr/bin/env bash
-# script/inline: text to tree file and back, what is refused, and, with a port, samples, guard and command. The last line counts.
-# The port is NEGBOSUN_PORT, or target/bin/negbosun, or, while that is not built, the original's oracle in its place.
+# script/inline: text to tree file and back, what is refused, samples, guard and command. The port is target/bin/negbosun, or what NEGBOSUN_PORT
+# names; nothing is taken in its place. What is passed over, and where, tests/steps.txt says. The last line counts.
 set -u
 cd "$(dirname "$0")/.." || exit 1
-log=$(mktemp)
-trap 'rm -f "$log"' EXIT
+. tests/counts.bash
+. tests/library.bash
 
-skip() {
-    echo "script: skipped, $*"
-    echo "0 passed, 0 failed"
-    exit 0
+whole
+if [ -z "${NEGBOSUN_PORT:-}" ]; then
+    need_program || finish
+    export NEGBOSUN_PORT=$PWD/target/bin/negbosun
+fi
+# The caller's tool takes a limit of runs and a kind table, which script/inline hands on to it where it is there.
+if [ -z "$(why_not cargo)" ]; then
+    need_library || finish
+    one "tool" bash -c "cd caller && cargo build --release --offline --quiet -j '${JOBS:-1}' --bins" || finish
+fi
+
+NODE_PATH=/usr/share/nodejs${NODE_PATH:+:$NODE_PATH} node script/test/run.js 2>&1 | tee "$out/shown"
+status=${PIPESTATUS[0]}
+
+# taken PART HEADS..: the counts of the groups whose lines begin so are a part's; or the line by which they were passed over is.
+taken() {
+    local name=$1 heads counts
+    shift
+    heads=$(printf '\\|%s' "$@")
+    counts=$(sed -n "s/^\(${heads#??}\)[^:]*: \([0-9]*\) passed, \([0-9]*\) failed\$/\2 \3/p" "$out/shown" | awk '{p += $1; f += $2} END {print p + 0, f + 0}')
+    if [ "$counts" = "0 0" ]; then
+        pass_over "$name" "$(sed -n "s/^\(${heads#??}\)[^:]*: skipped, //p" "$out/shown")"
+        return
+    fi
+    part "$name" && add $counts
+    end_part
+    rest_passed=$((rest_passed - ${counts% *}))
+    rest_failed=$((rest_failed - ${counts#* }))
 }
 
-if ! script/setup >"$log" 2>&1; then
-    tail -n 3 "$log"
-    skip "node 18.3, or one of the libraries node-acorn, node-eslint-scope, node-escodegen and node-magic-string, is absent and could not be installed"
+if [[ $(tail -n 1 "$out/shown") =~ ^([0-9]+)\ passed,\ ([0-9]+)\ failed$ ]] && [ $((status != 0)) -eq $((BASH_REMATCH[2] != 0)) ]; then
+    rest_passed=${BASH_REMATCH[1]}
+    rest_failed=${BASH_REMATCH[2]}
+    taken kind-tables "the command under a kind table"
+    taken browser "pages in a browser" "a page printed"
+    add "$rest_passed" "$rest_failed"
+else
+    echo "script: no count, status $status"
+    add 0 1
 fi
-
-if [ -z "${NEGBOSUN_PORT:-}" ]; then
-    for candidate in target/bin/negbosun oracle/target/release/oracle; do
-        if [ -x "$candidate" ]; then
-            export NEGBOSUN_PORT=$PWD/$candidate
-            break
-        fi
-    done
-fi
-echo "script: the port is ${NEGBOSUN_PORT:-not built; what needs it is skipped}"
-NODE_PATH=/usr/share/nodejs node script/test/run.js
+finish
