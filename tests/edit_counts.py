@@ -1,8 +1,9 @@
 """How many wrong programs the edits under crates/*/must-fail have for each public function, and whether docs/TESTING.md names those that have fewer than two.
 
-usage: edit_counts.py [--table]     the last line counts; or the lines of the document's table
+usage: edit_counts.py [--table]     the last line counts the public functions that have two; or the lines of the document's table
 
 An edit counts for a function that it names, or in whose text its `old:` stands; for a public function, those of the private functions below it in its crate count, too.
+What tests/edits_not_counted.txt lists does not count.
 """
 import glob
 import os
@@ -18,6 +19,7 @@ import kit
 PRINTING = ('scope_calls', 'tree_print')
 HEAD = re.compile(r'^( *)(pub )?(?:const |unsafe |extern "C" )*fn (\w+)')
 IMPL = re.compile(r'^impl(?:<[^>]*>)? (.* for )?(\w+)')
+NOT_COUNTED = os.path.join(HERE, 'edits_not_counted.txt')
 PAGE = os.path.join(kit.TOP, 'docs', 'TESTING.md')
 
 
@@ -35,6 +37,12 @@ def groups_of(edit):
         elif line.startswith('old: '):
             groups[-1][1].append((file, line[len('old: '):]))
     return groups
+
+
+def not_counted():
+    """The edits, CRATE/LABEL, and the functions for which they do not count."""
+    with open(NOT_COUNTED, encoding='utf-8') as it:
+        return {tuple(line.split()[:2]) for line in it if line.strip() and not line.startswith('#')}
 
 
 class Function:
@@ -77,17 +85,19 @@ class Crate:
             found, owners = functions_of(file, [] if path in ('lib', 'main') else path.split('/'))
             self.functions.update((it.name, it) for it in found)
             self.files[os.path.relpath(file, home)] = (open(file, encoding='utf-8').read(), owners)
+        listed = not_counted()
         for edit in sorted(glob.glob(os.path.join(home, 'must-fail', '*.edit'))):
+            label = '%s/%s' % (name, os.path.basename(edit)[:-len('.edit')])
             for names, changes in groups_of(edit):
-                self.count(names, changes)
+                self.count(names, changes, {function for at, function in listed if at == label})
 
-    def count(self, names, changes):
+    def count(self, names, changes, without):
         for file, old in changes:
             text, owners = self.files.get(file, ('', []))
             at = text.find(old)
             owner = owners[text.count('\n', 0, at)] if at >= 0 else None
             names |= {owner.name} if owner else set()
-        for name in names & self.functions.keys():
+        for name in (names & self.functions.keys()) - without:
             self.functions[name].wrong += 1
 
     def below(self, function, seen):
@@ -99,27 +109,28 @@ class Crate:
                     self.below(it, seen)
         return seen
 
-    def few(self):
-        """The public functions with fewer than two wrong programs, and how many they have."""
+    def counts(self):
+        """The public functions, and how many wrong programs they have."""
         for it in self.functions.values():
             if it.is_public:
-                count = it.wrong + sum(each.wrong for each in self.below(it, []))
-                if count < 2:
-                    yield it.name, count
+                yield it.name, it.wrong + sum(each.wrong for each in self.below(it, []))
 
 
 def table():
-    rows = []
+    """The lines of those that have fewer than two, and how many public functions have two."""
+    rows, enough = [], 0
     for name in sorted(kit.read_crates()):
-        few = sorted(Crate(name).few()) if name not in PRINTING else []
+        counts = sorted(Crate(name).counts()) if name not in PRINTING else []
+        few = [(function, count) for function, count in counts if count < 2]
+        enough += len(counts) - len(few)
         if few:
             cells = [', '.join('`%s`' % function for function, count in few if count == wanted) for wanted in (1, 0)]
             rows.append('| %s | %s | %s |' % (name, *cells))
-    return rows
+    return rows, enough
 
 
 def main():
-    wanted = table()
+    wanted, enough = table()
     if '--table' in sys.argv[1:]:
         print('\n'.join(wanted))
         return 0
@@ -129,7 +140,7 @@ def main():
     apart = [line for line in wanted + found if (line in wanted) != (line in found)]
     for line in apart:
         print('docs/TESTING.md %s: %s' % ('lacks' if line in wanted else 'has', line))
-    print('%d passed, %d failed' % (len(wanted) - len([it for it in apart if it in wanted]), len(apart)))
+    print('%d passed, %d failed' % (enough, len(apart)))
     return 1 if apart else 0
 
 

@@ -1,4 +1,4 @@
 #!/usr/bin/env bash
-# The edits each_function*.edit change one line in each of several functions, and each_law*.edit several statements, so that few checks try all of
-# them. rt ci demands that each edit is refused; here each of these functions and laws must be refused by a fact of its own.
-cd "$(dirname "$0")/.." && exec python3 tests/edits.py "$@"
+# Counts the wrong programs under crates/*/must-fail that are refused by what the changed function ensures (tests/edits.py). rt ci demands that each edit is
+# refused; of those that change several functions or laws each must be refused by a fact of its own here. NEGBOSUN_SAID is what rt ci wrote.
+cd "$(dirname "$0")/.." && exec python3 tests/edits.py ${NEGBOSUN_SAID:+--said "$NEGBOSUN_SAID"} "$@"
