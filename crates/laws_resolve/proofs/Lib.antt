@@ -1,0 +1,9 @@
+pub mod Numbers
+pub mod Apart
+pub mod Scripts
+pub mod Pairs
+pub mod Elsewhere
+pub mod Clashes
+pub mod Bound
+pub mod Ignored
+pub mod Files
