@@ -1,0 +1,9 @@
+pub mod Numbers
+pub mod Rows
+pub mod Names
+pub mod Cores
+pub mod Loads
+pub mod Keys
+pub mod Written
+pub mod Contexts
+pub mod Ends

@@ -1,0 +1,4 @@
+pub mod Check
+pub mod Load
+pub mod Idents
+pub mod Resolve

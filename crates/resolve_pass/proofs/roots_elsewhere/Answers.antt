@@ -1,0 +1,6 @@
+-- A file resolved and passed, then the other passed. Assumes nothing.
+use Rattle.resolve_pass.proofs.Calls.{roots-elsewhere}
+use Rattle.resolve_pass.proofs.roots_elsewhere.Goals as goal
+
+pub returns-clause-elsewhere : goal.returns-clause-elsewhere
+returns-clause-elsewhere c s b E k = roots-elsewhere (λ i. (c.type_inv.file i).fits) c.resolve-answer.ensures.is c.resolved_file.ensures c.negbosun_roots-here.ensures c.negbosun_roots-there.ensures s b E k
