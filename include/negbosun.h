@@ -24,7 +24,8 @@
    each list around it, and a right side of && or || is walked twice. With functions in one another, `var v = function () { ... };`, each further one
    doubles the time: 18 take a tenth of a second, 22 take two seconds, and 31, the most that the limits let through, would at that rate take a quarter of
    an hour, in a file of 156 nodes; with hundreds of statements in the innermost, days. A call cannot be interrupted: whoever takes scripts from strangers makes it in a process
-   of its own and ends that after a time. docs/PERFORMANCE.md has figures. */
+   of its own and ends that after a time. negbosun_canon and negbosun_resolve run no pass: no file was found that takes them longer than some milliseconds.
+   docs/PERFORMANCE.md has figures. */
 #ifndef NEGBOSUN_H
 #define NEGBOSUN_H
 
@@ -51,8 +52,8 @@ extern "C" {
 /* A kind table has so many bytes, one for each parent kind and child kind from 1 to 48. */
 #define NEGBOSUN_TABLE_BYTES 2304
 
-/* The refusals, by their numbers. A function checks those that it has in this order, but 14 and 15 behind 1 and before 2. Later versions may have further
-   ones, with greater numbers: treat every `refused` but 0 as a refusal. */
+/* The refusals, by their numbers. A function checks those that it has in this order, but 14 and 15 behind 1 and before 2, and 13 behind 6 and before 7. Later
+   versions may have further ones: treat every `refused` but 0 as a refusal. */
 enum negbosun_refusal {
     /* runs outside 1 to 16, or under 16,384 words */
     NEGBOSUN_REFUSED_RUNS_OR_WORDS = 1,
@@ -75,6 +76,9 @@ enum negbosun_refusal {
     NEGBOSUN_REFUSED_SIZE = 9,
     /* the buffer for the answer is too short */
     NEGBOSUN_REFUSED_ROOM = 10,
+    /* of negbosun_resolve: a name is declared twice. A name that a let, a const, a block's function or a catch declares is declared twice in one scope, or by a
+       var that stands in it too, or is a parameter of the function at the top of whose body it is declared */
+    NEGBOSUN_REFUSED_TWICE = 13,
     /* the lent kind table is not NEGBOSUN_TABLE_BYTES long, or a byte of it is above 1 */
     NEGBOSUN_REFUSED_TABLE = 14,
     /* the lent kind table allows a node under a parent under which the kinds forbid it */
@@ -119,7 +123,7 @@ struct negbosun_binding {
     uint32_t count;
 };
 
-/* The answer of negbosun_canon. */
+/* The answer of negbosun_canon and of negbosun_resolve. */
 struct negbosun_written {
     /* a refusal's number, or 0 */
     uint32_t refused;
@@ -192,7 +196,7 @@ struct negbosun_binding negbosun_root_under(const uint8_t *file, size_t file_len
    Refusals 1 to 7, of which 1 asks for the words alone here, then 16. What is kept and what is 0 afterwards is as with negbosun_inline. No kind table is
    lent: a canonical file has the kinds of the given one at the same places.
 
-   Of this function it is proved, too:
+   Of canonical files as they are defined (crates/def_canon), which this function writes, it is proved, too:
 
    - Two files have canonical files of equal bytes exactly when they differ only in text numbering, in unused texts, and by a one-to-one change of contexts.
    - A canonical file is a readable file, no longer than the given one, and its own canonical file.
@@ -200,6 +204,29 @@ struct negbosun_binding negbosun_root_under(const uint8_t *file, size_t file_len
      unless one of the two is refused by 10. */
 struct negbosun_written negbosun_canon(const uint8_t *file, size_t file_length, uint8_t *result, size_t result_length, uint32_t *words,
                                        size_t word_count);
+
+/* Resolves a tree file's names: writes the file again from the beginning of `result`, with each name's context worked out from the script. It is the number
+   of the innermost scope around the name that declares it, as ECMA-262 lays down (Annex B left out), and 0 where none does; `arguments` that its function
+   does not declare is 0. Scopes are numbered from 1 in node order; docs/TREE.md says which nodes have one. The contexts of the file that is given are not
+   looked at. All else, texts that no node uses included, is as it was.
+
+   file, file_length      the tree file, in bytes
+   result, result_length  room for the resolved file, which is as long as the given one: file_length bytes always suffice
+   words, word_count      as above
+
+   Refusals 1 to 6, of which 1 asks for the words alone here, then 13, then 7 and 10, of which 7 counts the identifiers with the contexts that are written. What
+   is kept and what is 0 afterwards is as with negbosun_inline. No kind table is lent.
+
+   Of this function it is proved, too:
+
+   - Two names of a resolved file have one text and one context exactly when they mean the same variable, or are one name that nothing declares.
+   - The resolved file is a readable file, and resolving it changes nothing.
+   - The pass on it, and on the same script with any other contexts that tell variables apart as these do, gives the same refusal, or the same runs and mark
+     and results that differ, for each name, by a one-to-one change of contexts alone.
+   - Two files that none of 2 to 6 refuses, whose names pair one to one (`arguments` with itself alone), and which differ else in literals and in names of
+     properties at most, are refused alike but for 10, and resolved to files that the pass treats alike. */
+struct negbosun_written negbosun_resolve(const uint8_t *file, size_t file_length, uint8_t *result, size_t result_length, uint32_t *words,
+                                         size_t word_count);
 
 #ifdef __cplusplus
 }

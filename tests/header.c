@@ -72,7 +72,7 @@ static void layout(void) {
     check(offsetof(struct negbosun_binding, context) == 8, "its context is at 8");
     check(offsetof(struct negbosun_binding, prevented) == 20, "its mark is at 20");
     check(offsetof(struct negbosun_binding, count) == 24, "its count is at 24");
-    check(sizeof(struct negbosun_written) == 16, "the answer of the writer has 16");
+    check(sizeof(struct negbosun_written) == 16, "the answer of the writers has 16");
     check(offsetof(struct negbosun_written, length) == 8, "its length is at 8");
 }
 
@@ -152,6 +152,58 @@ static void canonical(void) {
     check(writes_refusal(canon_file(file, 0, 0, NEGBOSUN_WORDS), NEGBOSUN_REFUSED_HEADER), "no bytes are 2, before 16");
 }
 
+static struct negbosun_written resolve_file(const uint8_t *given, size_t length, size_t room, size_t count) {
+    fill();
+    return negbosun_resolve(given, length, result, room, words, count);
+}
+
+static void resolved(void) {
+    static uint8_t one[NEGBOSUN_MOST_BYTES];
+    struct negbosun_written done = resolve_file(file, file_length, file_length, NEGBOSUN_WORDS + BEHIND), again;
+    check(done.refused == 0 && done.length == file_length, "the file is resolved, and as long as before");
+    check(all_are(result + done.length, sizeof result - done.length, BYTE), "the bytes behind it are kept");
+    check(words_cleared(), "it leaves cleared words");
+    memcpy(one, result, done.length);
+    check(memcmp(one, file, 32) == 0, "its head is the given one");
+    again = resolve_file(one, done.length, sizeof result, NEGBOSUN_WORDS);
+    check(again.refused == 0 && again.length == done.length && memcmp(one, result, done.length) == 0, "resolving it changes nothing");
+    check(writes_refusal(resolve_file(file, file_length, file_length - 1, NEGBOSUN_WORDS + BEHIND), NEGBOSUN_REFUSED_ROOM), "one byte below is 10");
+    check(words_cleared(), "10 leaves cleared words");
+    check(writes_refusal(resolve_file(file, file_length, sizeof result, NEGBOSUN_WORDS - 1), NEGBOSUN_REFUSED_RUNS_OR_WORDS), "a word less is 1");
+    check(all_are(words, sizeof words, BYTE), "1 keeps the words");
+    check(writes_refusal(resolve_file(file, file_length - 1, 0, NEGBOSUN_WORDS), NEGBOSUN_REFUSED_LENGTHS), "a byte less is 4, before 10");
+    check(writes_refusal(resolve_file(file, 0, 0, NEGBOSUN_WORDS), NEGBOSUN_REFUSED_HEADER), "no bytes are 2, before 10");
+}
+
+/* bytes may stand anywhere */
+static void unaligned(void) {
+    static uint8_t given[NEGBOSUN_MOST_BYTES + 8], one[NEGBOSUN_MOST_BYTES], other[NEGBOSUN_MOST_BYTES + 8];
+    struct negbosun_written done = resolve_file(file, file_length, file_length, NEGBOSUN_WORDS);
+    memcpy(one, result, done.length);
+    for (size_t shift = 1; shift < 8; shift++) {
+        memcpy(given + shift, file, file_length);
+        fill();
+        done = negbosun_resolve(given + shift, file_length, other + 8 - shift, file_length, words, NEGBOSUN_WORDS);
+        check(done.refused == 0 && memcmp(one, other + 8 - shift, file_length) == 0, "wherever the buffers stand, it is the same file");
+    }
+}
+
+/* `let x; let x;`, and the same with `var`, which is no clash */
+static void declared_twice(void) {
+    static uint8_t two[32 + 16 * 7 + 4 + 1] = {1, 0, 0, 0, 149, 0, 0, 0, 7, 0, 0, 0, 32, 0, 0, 0, 1, 0, 0, 0, 144, 0, 0, 0, 148, 0, 0, 0, 1, 0, 0, 0};
+    static const uint8_t nodes[7][3] = {{1, 0, 2}, {5, 1, 1}, {6, 0, 1}, {20, 0, 0}, {5, 1, 1}, {6, 0, 1}, {20, 0, 0}};
+    for (size_t i = 0; i < 7; i++) {
+        memcpy(two + 32 + 16 * i, nodes[i], sizeof nodes[i]);
+    }
+    two[144] = 1;
+    two[148] = 'x';
+    check(writes_refusal(resolve_file(two, sizeof two, 0, NEGBOSUN_WORDS + BEHIND), NEGBOSUN_REFUSED_TWICE), "a name twice is 13, before 10");
+    check(words_cleared(), "13 leaves cleared words");
+    two[32 + 16 + 1] = two[32 + 4 * 16 + 1] = 0;
+    check(resolve_file(two, sizeof two, sizeof two, NEGBOSUN_WORDS).refused == 0, "by var it is none");
+    check(result[32 + 3 * 16 + 8] == 1 && result[32 + 6 * 16 + 8] == 1, "and its context is the script's scope, 1");
+}
+
 static void refusals(void) {
     check(is_refusal(inline_file(file_length, sizeof result, NEGBOSUN_WORDS, 0), NEGBOSUN_REFUSED_RUNS_OR_WORDS), "no run is 1");
     check(is_refusal(inline_file(file_length, sizeof result, NEGBOSUN_WORDS, NEGBOSUN_MOST_RUNS + 1), NEGBOSUN_REFUSED_RUNS_OR_WORDS), "17 runs are 1");
@@ -206,6 +258,9 @@ int main(int count, char **given) {
     lists();
     numbers();
     canonical();
+    resolved();
+    unaligned();
+    declared_twice();
     refusals();
     tables();
     printf("%d passed, %d failed\n", passed, failed);

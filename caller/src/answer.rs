@@ -85,7 +85,7 @@ pub struct RootBinding {
 }
 
 /// A binding of the root scope.
-#[derive(Clone, Copy, Debug, PartialEq, Eq)]
+#[derive(Clone, Copy, PartialEq, Eq)]
 pub struct Root<'a> {
     file: TreeFile<'a>,
     text: u32,
@@ -134,6 +134,18 @@ impl<'a> Root<'a> {
     #[must_use]
     pub fn count(self) -> u32 {
         self.count
+    }
+}
+
+/// What it is, without the whole file.
+impl fmt::Debug for Root<'_> {
+    fn fmt(&self, out: &mut fmt::Formatter) -> fmt::Result {
+        out.debug_struct("Root")
+            .field("name", &String::from_utf8_lossy(self.name()))
+            .field("context", &self.context)
+            .field("prevented", &self.prevented)
+            .field("count", &self.count)
+            .finish()
     }
 }
 

@@ -107,4 +107,13 @@ extern "C" {
         words: *mut u32,
         word_count: usize,
     ) -> Written;
+
+    pub(crate) fn negbosun_resolve(
+        file: *const u8,
+        file_length: usize,
+        result: *mut u8,
+        result_length: usize,
+        words: *mut u32,
+        word_count: usize,
+    ) -> Written;
 }

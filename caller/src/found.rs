@@ -74,7 +74,7 @@ fn identifiers(tree: TreeFile) -> String {
 }
 
 /// The first text that ends wrongly, or the first that was there before.
-fn texts(tree: TreeFile) -> Option<String> {
+pub(crate) fn texts(tree: TreeFile) -> Option<String> {
     let mut before = 0;
     for (number, end) in tree.ends().enumerate() {
         if end < before {
@@ -132,7 +132,7 @@ fn size_as_read(tree: TreeFile) -> String {
 
 impl Refusal {
     /// What the file that was so refused has where the limit is: "1,240 nodes, at most 1,024". Rows 8 and 9 are met while running; what the script has before
-    /// its first run is told of them. Rows 1, 10 and 16 are no matter of the file, and 14 and 15 are one of the kind table.
+    /// its first run is told of them. Row 7 is told of the contexts that the file has, which the resolver passes over. Rows 1, 10 and 16 are no matter of the file, and 14 and 15 are one of the kind table.
     #[must_use]
     pub fn found(self, file: &[u8]) -> Option<String> {
         let tree = || TreeFile::new(file).ok();
@@ -145,6 +145,7 @@ impl Refusal {
             Refusal::Identifiers => tree().map(identifiers),
             Refusal::Depth => tree().map(depth_as_read),
             Refusal::Size => tree().map(size_as_read),
+            Refusal::DeclaredTwice => tree()?.declared_twice().map(|twice| twice.to_string()),
             Refusal::RunsOrWords
             | Refusal::Room
             | Refusal::Table

@@ -1,11 +1,11 @@
 //! The variable inliner for gate scripts, called from Rust.
 //!
-//! The pass itself is written and proved in Rattle (crates/pass) and comes as a static library with seven C functions. This crate
+//! The pass itself is written and proved in Rattle (crates/pass) and comes as a static library with eight C functions. This crate
 //! declares them once and puts safe functions over them. A script goes in and comes out as a *tree file*; docs/TREE.md has its format.
 //!
-//! [`inline`] is all that most callers need; [`canon`] writes the one file of a script, by which an archive tells scripts apart;
-//! [`Inliner`] keeps its memory between files; [`inline_into`], [`roots_into`], [`root_of`] and [`canon_into`] are C functions over the
-//! caller's own buffers; each of the first three has a twin, `.._under`, which takes a mill's own [`KindTable`]; [`TreeFile`] shows a tree
+//! [`inline`] is all that most callers need; [`resolve`] works out which variable each name of a script means, so that a file can be made without
+//! contexts; [`canon`] writes the one file of a script, by which an archive tells scripts apart; [`Inliner`] keeps its memory between files;
+//! [`inline_into`], [`roots_into`], [`root_of`], [`canon_into`] and [`resolve_into`] are C functions over the caller's own buffers; each of the first three has a twin, `.._under`, which takes a mill's own [`KindTable`]; [`TreeFile`] shows a tree
 //! file's nodes and texts, [`Kind`] what each node is. Scripts may take values apart by patterns: `{today, before}` as a parameter stands
 //! in a file as [`Kind::ObjectPattern`], written out as `{today: today, before: before}`.
 //!
@@ -56,12 +56,14 @@ mod kind_table;
 mod places;
 mod refusal;
 mod tree;
+mod twice;
 
 pub use answer::{printed, Inlined, Root, RootBinding, Roots};
 pub use kind::Kind;
 pub use kind_table::{KindTable, KindTableError, TABLE_BYTES};
 pub use refusal::Refusal;
 pub use tree::{Node, Nodes, TreeFile};
+pub use twice::{Declaration, DeclaredBy, DeclaredTwice};
 
 /// A pass does at most so many runs.
 pub const MOST_RUNS: u32 = 16;
@@ -106,6 +108,15 @@ impl entries::Roots {
         match Refusal::from_number(self.refused) {
             Some(refusal) => Err(refusal),
             None => Ok(self.count),
+        }
+    }
+}
+
+impl entries::Written {
+    fn length(&self) -> Result<usize, Refusal> {
+        match Refusal::from_number(self.refused) {
+            Some(refusal) => Err(refusal),
+            None => Ok(self.length),
         }
     }
 }
@@ -324,10 +335,36 @@ pub fn canon_into(file: &[u8], result: &mut [u8], words: &mut [u32]) -> Result<u
             words.len(),
         )
     };
-    match Refusal::from_number(answer.refused) {
-        Some(refusal) => Err(refusal),
-        None => Ok(answer.length),
-    }
+    answer.length()
+}
+
+/// Writes a tree file again into `result`, with each name's context worked out from the script, and answers its length, which is the given file's. A context
+/// is the number of the innermost scope around the name that declares it, as ECMA-262 lays down (Annex B left out), scopes numbered from 1 in node order, and 0
+/// where none does; `arguments` that its function does not declare is 0. docs/TREE.md says which nodes have a scope. The contexts of the given file are not
+/// looked at; all else is as it was.
+///
+/// Two names have one text and one context then exactly when they mean the same variable, or are one name that nothing declares. Resolving a resolved file
+/// changes nothing.
+///
+/// The words are as with [`inline_into`]; [`Refusal::RunsOrWords`] asks here for the words alone.
+///
+/// # Errors
+///
+/// Refusals 1 to 6, then [`Refusal::DeclaredTwice`], then [`Refusal::Identifiers`], which counts the identifiers with their new contexts, and
+/// [`Refusal::Room`]. A refusal leaves `result` as it was.
+pub fn resolve_into(file: &[u8], result: &mut [u8], words: &mut [u32]) -> Result<usize, Refusal> {
+    // SAFETY: as in `inline_into`.
+    let answer = unsafe {
+        entries::negbosun_resolve(
+            file.as_ptr(),
+            file.len(),
+            result.as_mut_ptr(),
+            result.len(),
+            words.as_mut_ptr(),
+            words.len(),
+        )
+    };
+    answer.length()
 }
 
 /// The pass with memory of its own, for many files one after another.
@@ -406,6 +443,16 @@ impl Inliner {
         let length = canon_into(file, &mut self.result, &mut self.words)?;
         Ok(written(&self.result, length))
     }
+
+    /// The file with the contexts of its names worked out, as [`resolve_into`] writes it.
+    ///
+    /// # Errors
+    ///
+    /// Refusals 2 to 6, then [`Refusal::DeclaredTwice`] and [`Refusal::Identifiers`].
+    pub fn resolve(&mut self, file: &[u8]) -> Result<Vec<u8>, Refusal> {
+        let length = resolve_into(file, &mut self.result, &mut self.words)?;
+        Ok(written(&self.result, length))
+    }
 }
 
 /// [`Inliner::inline`] for a single file.
@@ -449,4 +496,44 @@ pub fn inline_under(file: &[u8], table: &KindTable, runs: u32) -> Result<Inlined
 /// As there.
 pub fn canon(file: &[u8]) -> Result<Vec<u8>, Refusal> {
     Inliner::new().canon(file)
+}
+
+/// [`Inliner::resolve`] for a single file.
+///
+/// ```
+/// use negbosun::{resolve, Node, Refusal, TreeFile};
+///
+/// // `var x; { let x; x; }`, or, with the form 0 of `var` in place of 1, `var x; { var x; x; }`; each name with the context 0.
+/// let script = |form| {
+///     let (name, text) = ([20, 0, 0, 0, 0, 0, 0, 0, 0, 0, 0, 0, 0, 0, 0, 0], [1, 0, 0, 0, b'x']);
+///     let node = |kind, form, children| [kind, form, children, 0, 0, 0, 0, 0, 0, 0, 0, 0, 0, 0, 0, 0];
+///     let nodes = [
+///         node(1, 0, 2), node(5, 0, 1), node(6, 0, 1), name,
+///         node(2, 0, 2), node(5, form, 1), node(6, 0, 1), name, node(4, 0, 1), node(21, 0, 0),
+///     ];
+///     let header: [u32; 8] = [1, 197, 10, 32, 1, 192, 196, 1];
+///     let header: Vec<u8> = header.iter().flat_map(|field| field.to_le_bytes()).collect();
+///     [&header[..], nodes.as_flattened(), &text].concat()
+/// };
+/// let contexts = |file: &[u8]| -> Result<Vec<u64>, Refusal> {
+///     Ok(TreeFile::new(file)?.nodes().filter_map(Node::context).collect())
+/// };
+///
+/// assert_eq!(contexts(&resolve(&script(1))?)?, [1, 2, 2]);
+/// assert_eq!(contexts(&resolve(&script(0))?)?, [1, 1, 1]);
+///
+/// // `let x; { var x; x; }`
+/// let mut clash = script(0);
+/// clash[32 + 16 + 1] = 1;
+/// assert_eq!(resolve(&clash), Err(Refusal::DeclaredTwice));
+/// let twice = TreeFile::new(&clash)?.declared_twice().expect("a name");
+/// assert_eq!(twice.to_string(), r#""x", declared by a let (node 4) and again by a var (node 8)"#);
+/// # Ok::<(), Refusal>(())
+/// ```
+///
+/// # Errors
+///
+/// As there.
+pub fn resolve(file: &[u8]) -> Result<Vec<u8>, Refusal> {
+    Inliner::new().resolve(file)
 }

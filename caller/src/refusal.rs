@@ -30,6 +30,9 @@ pub enum Refusal {
     Size,
     /// 10: The buffer is shorter than what is to be written.
     Room,
+    /// 13: A name is declared twice in a scope, in the resolver alone: what a `let`, a `const`, a block's function or a catch declares, once more, by a `var`
+    /// that stands in the scope, or as a parameter. [`TreeFile::declared_twice`](crate::TreeFile::declared_twice) says which.
+    DeclaredTwice,
     /// 14: The lent kind table is not 2,304 bytes, each 0 or 1. A [`KindTable`](crate::KindTable) always is.
     Table,
     /// 15: The lent kind table allows a pair that the kinds forbid.
@@ -41,8 +44,8 @@ pub enum Refusal {
 }
 
 impl Refusal {
-    /// The thirteen that have a name, by their numbers; those of one function are checked in this order, but 14 and 15 behind 1.
-    pub const ALL: [Refusal; 13] = [
+    /// The fourteen that have a name, by their numbers; those of one function are checked in this order, but 14 and 15 behind 1, and 13 behind 6.
+    pub const ALL: [Refusal; 14] = [
         Refusal::RunsOrWords,
         Refusal::Header,
         Refusal::Counts,
@@ -53,6 +56,7 @@ impl Refusal {
         Refusal::Depth,
         Refusal::Size,
         Refusal::Room,
+        Refusal::DeclaredTwice,
         Refusal::Table,
         Refusal::Pairs,
         Refusal::CanonRoom,
@@ -72,6 +76,7 @@ impl Refusal {
             Refusal::Depth => 8,
             Refusal::Size => 9,
             Refusal::Room => 10,
+            Refusal::DeclaredTwice => 13,
             Refusal::Table => 14,
             Refusal::Pairs => 15,
             Refusal::CanonRoom => 16,
@@ -112,6 +117,10 @@ impl Refusal {
                  or over 256 bindings and constants were live"
             }
             Refusal::Room => "the buffer for the result is shorter than the result",
+            Refusal::DeclaredTwice => {
+                "a name is declared twice in a scope: what a let, a const, a block's function or a catch declares, once more, \
+                 by a var that stands in the scope, or as a parameter"
+            }
             Refusal::Table => "the kind table is not 2,304 bytes, each of them 0 or 1",
             Refusal::Pairs => "the kind table allows a node under a parent that the kinds forbid",
             Refusal::CanonRoom => "the buffer for the canonical file is shorter than that file",
@@ -135,7 +144,7 @@ mod tests {
     #[test]
     fn numbers_are_in_order() {
         let numbers = Refusal::ALL.map(Refusal::number);
-        assert_eq!(numbers, [1, 2, 3, 4, 5, 6, 7, 8, 9, 10, 14, 15, 16]);
+        assert_eq!(numbers, [1, 2, 3, 4, 5, 6, 7, 8, 9, 10, 13, 14, 15, 16]);
         for refusal in Refusal::ALL {
             assert_eq!(Refusal::from_number(refusal.number()), Some(refusal));
         }
@@ -157,7 +166,7 @@ mod tests {
         said.push(Refusal::Unlisted(11).words());
         said.sort_unstable();
         said.dedup();
-        assert_eq!(said.len(), 14);
+        assert_eq!(said.len(), 15);
         assert!(Refusal::Room.to_string().starts_with("refusal 10: "));
         assert!(Refusal::CanonRoom.to_string().starts_with("refusal 16: "));
     }

@@ -65,6 +65,14 @@ fn agree(inliner: &mut Inliner, file: &[u8]) {
         assert_eq!(Refusal::Texts.found(file), None, "{file:?}");
         assert_eq!(Refusal::Nodes.found(file), None, "{file:?}");
     }
+    // Likewise which name is declared twice.
+    let resolved = inliner.resolve(file);
+    let found = Refusal::DeclaredTwice.found(file);
+    let refused = resolved == Err(Refusal::DeclaredTwice);
+    assert_eq!(found.is_some(), refused, "{file:?}");
+    if let Ok(resolved) = &resolved {
+        assert_eq!(resolved.len(), file.len());
+    }
     if let Ok(inlined) = &answer {
         assert!(ask_all(inlined.tree()) > 0);
         assert_eq!(inlined.roots().count(), inlined.roots().len());

@@ -178,9 +178,55 @@ fn names_that_are_no_text_and_outputs_that_are_full_are_told() {
     if let Ok(full) = full {
         let output = Command::new(tool).arg("--help").stdout(full).output();
         let output = output.expect("the tool");
-        assert_eq!(output.status.code(), Some(3));
-        assert!(text(&output.stderr).contains("standard output"));
+        assert_eq!(output.status.code(), Some(6));
+        assert!(text(&output.stderr).contains("standard output: there is no room left on the disk"));
     }
+}
+
+#[test]
+fn standard_output_that_is_closed_is_told() {
+    let sample = concat!(env!("CARGO_MANIFEST_DIR"), "/../samples/tide.tree");
+    for arguments in [
+        &["--help"][..],
+        &[sample],
+        &["canon", sample],
+        &["same", sample, sample],
+        &["--batch"],
+    ] {
+        for how in [
+            "exec \"$0\" \"$@\" >&- </dev/null",
+            "exec \"$0\" \"$@\" >&- <&-",
+        ] {
+            let output = Command::new("sh")
+                .args(["-c", how, env!("CARGO_BIN_EXE_negbosun-inline")])
+                .args(arguments)
+                .output()
+                .expect("its end");
+            assert_eq!(output.status.code(), Some(6), "{arguments:?}");
+            assert_eq!(
+                text(&output.stderr),
+                "negbosun-inline: standard output: it is closed\n"
+            );
+        }
+    }
+}
+
+#[test]
+fn what_would_steer_a_terminal_is_written_out() {
+    let name = OsStr::from_bytes(b"no/\x1b[31m\n\xff\xe2\x80\xae.tree");
+    for arguments in [&[name][..], &[OsStr::new("same"), name, name]] {
+        let output = Command::new(env!("CARGO_BIN_EXE_negbosun-inline"))
+            .args(arguments)
+            .output()
+            .expect("its end");
+        assert_eq!(output.status.code(), Some(3));
+        let said = text(&output.stderr);
+        assert!(said.contains("no/\\x1b[31m\\x0a\\xff<U+202E>.tree: "));
+        assert_eq!(said.matches(char::is_control).count(), 1, "{said}");
+    }
+    let usage = run(&["--\u{1b}[31m"], b"");
+    assert!(text(&usage.stderr).starts_with("negbosun-inline: "));
+    assert!(!text(&usage.stderr).contains('\u{1b}'));
 }
 
 #[test]
@@ -275,6 +321,37 @@ fn the_one_file_of_a_script_is_written() {
 }
 
 #[test]
+fn names_are_resolved() {
+    let file = names(&["x", "y"], [0, 1], [5, 7]);
+    let resolved = names(&["x", "y"], [0, 1], [0, 0]);
+    for output in [
+        run(&["resolve", &path("resolve", &file)], b""),
+        run(&["resolve"], &file),
+        run(&["resolve", "-"], &resolved),
+    ] {
+        assert_eq!((output.status.code(), &output.stdout), (Some(0), &resolved));
+        assert!(output.stderr.is_empty());
+    }
+    // let x; let x;
+    let declarations = [(5, 1, 1, 0, 0), (6, 0, 1, 0, 0), (20, 0, 0, 0, 0)];
+    let nodes = [&[(1, 0, 2, 0, 0)][..], &declarations, &declarations].concat();
+    let output = run(&["resolve"], &files::tree_file(&nodes, &["x"]));
+    assert_eq!((output.status.code(), text(&output.stdout)), (Some(1), ""));
+    let words = r#"; it has "x", declared by a let (node 4) and again by a let (node 7)"#;
+    assert!(text(&output.stderr).contains("standard input: refusal 13: a name is declared twice"));
+    assert!(text(&output.stderr).ends_with(&format!("{words}\n")));
+    // 257 arrows, each with a parameter of one name
+    let mut nodes = vec![(1, 0, 1, 0, 0), (4, 0, 1, 0, 0), (27, 0, 257, 0, 0)];
+    for _ in 0..257 {
+        nodes.extend([(40, 1, 2, 0, 0), (20, 0, 0, 0, 0), (26, 0, 0, 0, 0)]);
+    }
+    let output = run(&["resolve"], &files::tree_file(&nodes, &["x"]));
+    assert_eq!(output.status.code(), Some(1));
+    assert!(text(&output.stderr)
+        .ends_with("refusal 7: the script has over 256 different identifiers\n"));
+}
+
+#[test]
 fn two_files_of_one_script_and_of_two_are_told_apart() {
     let one = path("one", &names(&["a", "y", "x"], [2, 1], [5, 7]));
     let again = path("again", &names(&["x", "y"], [0, 1], [7, 5]));
@@ -315,6 +392,8 @@ fn subcommands_ask_for_their_files() {
     for arguments in [
         &["canon", "a", "b"][..],
         &["canon", "--runs", "1"],
+        &["resolve", "a", "b"],
+        &["resolve", "--kinds", "a"],
         &["same"],
         &["same", "a"],
         &["same", "a", "b", "c"],
@@ -325,7 +404,11 @@ fn subcommands_ask_for_their_files() {
         assert_eq!(output.status.code(), Some(2), "{arguments:?}");
         assert!(text(&output.stderr).contains("usage:"));
     }
-    for arguments in [&["canon", "--help"][..], &["same", "a", "-h"]] {
+    for arguments in [
+        &["canon", "--help"][..],
+        &["resolve", "-h"],
+        &["same", "a", "-h"],
+    ] {
         let output = run(arguments, b"");
         assert_eq!(output.status.code(), Some(0), "{arguments:?}");
         assert!(text(&output.stdout).contains("negbosun-inline same FILE FILE"));

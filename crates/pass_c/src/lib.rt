@@ -1,9 +1,10 @@
-// The whole pass over a tree file, and the one file of a script, for C callers: the functions of crates/pass and crates/file_canon, under their names
-// and with their promises, in an archive. What they answer are structs that C reads, so that a refusal and a flag are numbers in them. A static library
+// The whole pass over a tree file, the one file of a script, and a file resolved, for C callers: the functions of crates/pass, crates/file_canon and
+// crates/file_resolve, under their names and with their promises, in an archive. What they answer are structs that C reads, so that a refusal and a flag are numbers in them. A static library
 // exports what stands in its own crate, so that the functions stand here again.
 #![tactic(auto)]
 
 ghost use Rattle.file_canon.specs.Canon.{CanonIs};
+ghost use Rattle.file_resolve.specs.Resolve.{ResolveIs};
 ghost use Rattle.pass_answers.specs.Entry.{InlineIs};
 ghost use Rattle.pass_answers.specs.Roots.{RootsIs, RootIs};
 ghost use Rattle.pass_answers.specs.Under.{InlineUnderIs, RootsUnderIs, RootUnderIs};
@@ -94,4 +95,12 @@ pub extern "C" fn negbosun_canon(file: &[u8], res: &mut [u8], words: &mut [u32])
     ensures { CanonIs file.now res.old res.new words.old words.new result }
 {
     file_canon::negbosun_canon(file, res, words)
+}
+
+// Rows 1 to 6, a name declared twice (13), then rows 7 and 10. What is written is the file with the contexts that its scopes give.
+#[unsafe(no_mangle)]
+pub extern "C" fn negbosun_resolve(file: &[u8], res: &mut [u8], words: &mut [u32]) -> Copied
+    ensures { ResolveIs file.now res.old res.new words.old words.new result }
+{
+    file_resolve::negbosun_resolve(file, res, words)
 }

@@ -1,5 +1,6 @@
 //! Port and original on the same trees, in one process: `bench [REPEATS]`; `bench [REPEATS] SCRIPT`, that script alone; `bench doubling MOST`,
-//! functions in one another; or `bench only port|original SCRIPT TIMES`, for counting instructions from outside.
+//! functions in one another; `bench only port|original SCRIPT TIMES`, for counting instructions from outside; or `bench tree SCRIPT`, the
+//! script's tree file to standard output.
 //!
 //! SCRIPT is `gates:600` or `600` alone, `patterns:600`, `functions:10`, `right-functions:5`, or a part of the name of another row of the table, as
 //! `bindings` or "values that move".
@@ -18,6 +19,7 @@ mod scripts;
 use negbosun::{inline_into, Done, MOST_BYTES, MOST_RUNS, WORDS};
 use original::Built;
 use std::hint::black_box;
+use std::io::Write;
 use std::time::Instant;
 use tree_file::{on_deep_stack, read, write, Script};
 
@@ -217,8 +219,15 @@ fn only(side: &str, word: &str, times: usize) {
     }
 }
 
+/// The file of a script, to standard output.
+fn tree(word: &str) {
+    let (_, script) = scripts::by_name(word).unwrap_or_else(|| panic!("no script {word}"));
+    let written = std::io::stdout().write_all(&write(&script));
+    written.expect("standard output takes the file");
+}
+
 const USAGE: &str =
-    "usage: bench [REPEATS] [SCRIPT] | bench doubling MOST | bench only port|original SCRIPT TIMES";
+    "usage: bench [REPEATS] [SCRIPT] | bench doubling MOST | bench only port|original SCRIPT TIMES | bench tree SCRIPT";
 
 fn main() {
     let given: Vec<String> = std::env::args().skip(1).collect();
@@ -230,6 +239,7 @@ fn main() {
             Some(times) => only(side, script, times),
             None => eprintln!("{USAGE}"),
         },
+        ["tree", script] => tree(script),
         ["doubling"] => doubling(22),
         ["doubling", most] => match number(most) {
             Some(most) => doubling(most),

@@ -1,7 +1,7 @@
-//! Tree files for an archive: the one file of a script, and whether two files hold one script.
+//! Tree files written anew: the one file of a script, for an archive, and a file with its names resolved; and whether two files hold one script.
 
 use crate::options::Options;
-use crate::{named, print, put, Trouble, NOT_READ};
+use crate::{named, print, put, Trouble, NOT_READ, REFUSED};
 use negbosun::{Inliner, Node, Refusal, TreeFile};
 use std::ffi::OsStr;
 
@@ -15,6 +15,17 @@ pub fn canon(path: Option<&OsStr>) -> Result<(), Trouble> {
     let (name, file) = named(path)?;
     let one = negbosun::canon(&file);
     put(&one.map_err(|refusal| refused(&name, refusal, &file))?)
+}
+
+/// The file with each name's context worked out, to standard output.
+pub fn resolve(path: Option<&OsStr>) -> Result<(), Trouble> {
+    let (name, file) = named(path)?;
+    let resolved = negbosun::resolve(&file);
+    put(&resolved.map_err(|refusal| match refusal {
+        // How many identifiers there are would be said of the contexts that the file has.
+        Refusal::Identifiers => Trouble(REFUSED, format!("{name}: {refusal}")),
+        _ => refused(&name, refusal, &file),
+    })?)
 }
 
 /// A file's name and the one file of its script. A status of its own tells two scripts, so that a refused file has that of one that is not read.

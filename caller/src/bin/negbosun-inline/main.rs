@@ -2,15 +2,19 @@
 
 mod archive;
 mod options;
+mod output;
 mod timed;
+mod visible;
 
 use negbosun::{printed, KindTable, Refusal, MOST_BYTES, TABLE_BYTES};
 use options::{Options, Wish, USAGE};
+use output::put;
 use std::ffi::OsStr;
 use std::fs::File;
 use std::io::{self, BufRead, BufWriter, Read, Write};
 use std::process::ExitCode;
 use timed::Timed;
+use visible::{visible, visible_name};
 
 const REFUSED: u8 = 1;
 const USED_WRONGLY: u8 = 2;
@@ -68,13 +72,6 @@ fn say(line: &str) {
     let _ = writeln!(io::stderr(), "negbosun-inline: {line}");
 }
 
-fn put(bytes: &[u8]) -> Result<(), Trouble> {
-    let mut out = io::stdout().lock();
-    out.write_all(bytes)
-        .and_then(|()| out.flush())
-        .map_err(|error| Trouble::io("standard output", &error))
-}
-
 fn print(text: &str) -> Result<(), Trouble> {
     put(text.as_bytes())
 }
@@ -102,14 +99,14 @@ fn read(path: Option<&OsStr>) -> io::Result<Vec<u8>> {
 /// A file's name for people, and its bytes.
 fn named(path: Option<&OsStr>) -> Result<(String, Vec<u8>), Trouble> {
     let path = path.filter(|path| *path != "-");
-    let name = path.map_or("standard input".into(), OsStr::to_string_lossy);
+    let name = path.map_or("standard input".into(), visible_name);
     let file = read(path).map_err(|error| Trouble::io(&name, &error))?;
-    Ok((name.into_owned(), file))
+    Ok((name, file))
 }
 
 /// A kind table: the 2,304 bytes, or the lines that the program `kind_table` prints.
 fn kinds(path: &OsStr) -> Result<KindTable, Trouble> {
-    let name = path.to_string_lossy();
+    let name = visible_name(path);
     let bytes = std::fs::read(path).map_err(|error| Trouble::io(&name, &error))?;
     let is_text = bytes.iter().any(|byte| *byte > 1) || bytes.len() != TABLE_BYTES;
     let table = if is_text {
@@ -117,7 +114,10 @@ fn kinds(path: &OsStr) -> Result<KindTable, Trouble> {
     } else {
         KindTable::from_bytes(&bytes)
     };
-    table.map_err(|error| Trouble(NOT_READ, format!("{name}: no kind table: {error}")))
+    table.map_err(|error| {
+        let words = visible(&error.to_string());
+        Trouble(NOT_READ, format!("{name}: no kind table: {words}"))
+    })
 }
 
 fn lent(options: &Options) -> Result<Option<KindTable>, Trouble> {
@@ -170,8 +170,8 @@ fn request(line: &str, runs: u32) -> Result<(Vec<u8>, u32), &'static str> {
 
 fn batch(options: &Options) -> Result<u8, Trouble> {
     let input = |error: io::Error| Trouble::io("standard input", &error);
-    let output = |error: io::Error| Trouble::io("standard output", &error);
-    let mut out = BufWriter::new(io::stdout().lock());
+    let output = |error: io::Error| output::failed(&error);
+    let mut out = BufWriter::new(output::opened()?);
     let timed = timed(options, lent(options)?)?;
     for (number, line) in (1..).zip(io::stdin().lock().lines()) {
         let text = match request(&line.map_err(input)?, options.runs) {
@@ -188,13 +188,14 @@ fn batch(options: &Options) -> Result<u8, Trouble> {
 
 fn run() -> Result<u8, Trouble> {
     let wish = options::read(std::env::args_os().skip(1))
-        .map_err(|problem| Trouble(USED_WRONGLY, format!("{problem}\n{USAGE}")))?;
+        .map_err(|problem| Trouble(USED_WRONGLY, format!("{}\n{USAGE}", visible(&problem))))?;
     match wish {
         Wish::Help => print(&format!("{USAGE}\n")).map(|()| 0),
         Wish::Version => {
             print(concat!("negbosun-inline ", env!("CARGO_PKG_VERSION"), "\n")).map(|()| 0)
         }
         Wish::Canon(path) => archive::canon(path.as_deref()).map(|()| 0),
+        Wish::Resolve(path) => archive::resolve(path.as_deref()).map(|()| 0),
         Wish::Same(one, two) => archive::same(&one, &two).map(|same| u8::from(!same)),
         Wish::Run(options) if options.batch => batch(&options),
         Wish::Run(options) => single(&options),

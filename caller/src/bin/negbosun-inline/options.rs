@@ -7,6 +7,7 @@ use std::time::Duration;
 pub const USAGE: &str = "usage: negbosun-inline [OPTIONS] [FILE]
        negbosun-inline --batch [OPTIONS]
        negbosun-inline canon [FILE]
+       negbosun-inline resolve [FILE]
        negbosun-inline same FILE FILE
 
 Runs the pass on a tree file, or on standard input, and prints its result: a head line, a line for each node and one for each root
@@ -19,17 +20,20 @@ binding. A refusal is printed as `refused N`, and said in plain words on standar
   -h, --help            this text
   -V, --version         the version
 
-Exit status: 0 done, 1 refused, 2 bad usage, 3 a file could not be read or an answer not written, 4 stopped by the time limit.
+Exit status: 0 done, 1 refused, 2 bad usage, 3 a file could not be read, 4 stopped by the time limit, 6 standard output is closed or full.
 --batch counts no refusals. Time can double with each function inside another, so that a small file may take hours.
 
 canon writes the one file of the file's script to standard output: texts in the order of their first use, none without use, contexts
 numbered from 0 in the order of their first use. The exit status is as above.
 
-same says whether two files hold one script: whether they differ only in how texts and contexts are numbered and in texts without use.
-Exit status: 0 one script, 1 two scripts, 2 bad usage, 3 a file could not be read, is no readable tree file, or the answer could not be written.
+resolve writes the file to standard output with each name's context worked out: the number of the innermost scope that declares it, or 0. What
+contexts the file had does not matter. A script that declares a name twice where it may not is refused by 13. The exit status is as above.
 
-Neither takes an option, nor a kind table: both read a file by the kinds alone. A file called canon or same is ./canon or ./same here;
-- is standard input.";
+same says whether two files hold one script: whether they differ only in how texts and contexts are numbered and in texts without use.
+Exit status: 0 one script, 1 two scripts, 2 bad usage, 3 a file could not be read or is no readable tree file, 6 as above.
+
+None of the three takes an option, nor a kind table: they read a file by the kinds alone. A file called canon, resolve or same is ./canon,
+./resolve or ./same here; - is standard input.";
 
 const SECONDS: u64 = 30;
 
@@ -49,6 +53,8 @@ pub enum Wish {
     Run(Options),
     /// The one file of a script.
     Canon(Option<OsString>),
+    /// The file with its names resolved.
+    Resolve(Option<OsString>),
     /// Whether two files hold one.
     Same(OsString, OsString),
 }
@@ -145,10 +151,11 @@ fn files(words: &[OsString]) -> Result<&[OsString], Result<Wish, String>> {
     }
 }
 
-fn canon(words: &[OsString]) -> Result<Wish, String> {
+/// A subcommand's wish for its one file, or for standard input.
+fn of_one(words: &[OsString], wish: fn(Option<OsString>) -> Wish) -> Result<Wish, String> {
     match files(words) {
-        Ok([]) => Ok(Wish::Canon(None)),
-        Ok([file]) => Ok(Wish::Canon(Some(file.clone()))),
+        Ok([]) => Ok(wish(None)),
+        Ok([file]) => Ok(wish(Some(file.clone()))),
         Ok(_) => Err("one file at a time".into()),
         Err(other) => other,
     }
@@ -167,7 +174,8 @@ fn same(words: &[OsString]) -> Result<Wish, String> {
 pub fn read(given: impl Iterator<Item = OsString>) -> Result<Wish, String> {
     let words: Vec<OsString> = given.collect();
     match words.split_first() {
-        Some((first, rest)) if first == "canon" => canon(rest),
+        Some((first, rest)) if first == "canon" => of_one(rest, Wish::Canon),
+        Some((first, rest)) if first == "resolve" => of_one(rest, Wish::Resolve),
         Some((first, rest)) if first == "same" => same(rest),
         _ => run(words.into_iter()),
     }

@@ -1,9 +1,11 @@
 //! The inputs of docs/DECISIONS.md: `decisions list FILE` prints each as a line `HEX RUNS`, `decisions check FILE` holds the answers on standard
-//! input, as `negbosun-inline --batch` gives them, to what the document says, and counts.
+//! input, as `negbosun-inline --batch` gives them, to what the document says, and counts; `decisions resolver FILE` prints each input of the resolver
+//! as a line `HEX CONTEXTS` or `HEX refused N`, which tests/resolve.py checks.
 //!
 //! An input stands in the document as `` `SCRIPT` → OUTCOME ``. A script is JavaScript as `parse` takes it, with `«193 [»` for 193 times `[`; or
 //! it begins with `nodes` and has its nodes as `KIND.FORM/CHILDREN:TEXT`, each part but the kind left out where it is 0 or none. An outcome is `same` (the script,
-//! one run, no mark), `refused N`, or the result as a script; `in N runs` and `with roots` and a list of name and mark may follow. Each numbered
+//! one run, no mark), `refused N`, or the result as a script; `in N runs` and `with roots` and a list of name and mark may follow. An input of the resolver
+//! is `` `SCRIPT` ⇒ OUTCOME ``, the outcome `refused N`, or the contexts of the names in the order of the nodes, as in `` `x; var y;` ⇒ 0, 1 ``. Each numbered
 //! entry has an input, or says why none shows it: "No input" or "No script".
 
 use std::io::{self, BufRead};
@@ -190,11 +192,49 @@ fn inputs(document: &str) -> Result<Vec<Input>, Fault> {
             all.push(outcome(entry, source, after)?);
             piece = after;
         }
-        if all.len() == before && !text.contains("No input") && !text.contains("No script") {
+        let says_none = text.contains("No input") || text.contains("No script");
+        if all.len() == before && !text.contains('⇒') && !says_none {
             return Err(format!("entry {entry} has no input, and does not say why"));
         }
     }
     Ok(all)
+}
+
+/// The script before each double arrow of an entry, and what stands behind it.
+fn of_resolver(entry: u32, text: &str) -> Result<Vec<(String, String)>, Fault> {
+    let pieces: Vec<&str> = text.split(" ⇒ ").collect();
+    let pairs = pieces.iter().zip(pieces.iter().skip(1));
+    let inputs = pairs.map(|(before, after)| {
+        let source = before.strip_suffix('`').and_then(|it| it.rsplit_once('`'));
+        let (_, source) = source.ok_or("a double arrow without a script")?;
+        let outcome = match after.strip_prefix("refused ") {
+            Some(number) => format!("refused {}", number_at(number).ok_or("no number")?),
+            None => contexts(after).ok_or("no contexts")?,
+        };
+        Ok((source.to_string(), outcome))
+    });
+    let inputs: Result<_, &str> = inputs.collect();
+    inputs.map_err(|fault| format!("entry {entry}: {fault}"))
+}
+
+/// The numbers that a text begins with, a comma and a blank between them.
+fn contexts(text: &str) -> Option<String> {
+    let is_other = |sign: char| !sign.is_ascii_digit() && sign != ',' && sign != ' ';
+    let end = text.find(is_other).unwrap_or(text.len());
+    let numbers = text[..end].split(',').map(str::trim);
+    let numbers: Vec<&str> = numbers.take_while(|number| !number.is_empty()).collect();
+    (!numbers.is_empty()).then(|| numbers.join(" "))
+}
+
+fn resolver(document: &str) -> Result<(), Fault> {
+    for (entry, text) in entries(document) {
+        for (source, outcome) in of_resolver(entry, &text)? {
+            let file =
+                file_of(&source).map_err(|fault| format!("entry {entry}: `{source}`: {fault}"))?;
+            println!("{} {outcome}", to_hex(&file));
+        }
+    }
+    Ok(())
 }
 
 /// The tree that an answer's lines are, with the texts of the script that was given.
@@ -293,10 +333,16 @@ fn check(all: &[Input]) -> Result<(usize, usize), Fault> {
 fn run() -> Result<bool, Fault> {
     let words: Vec<String> = std::env::args().skip(1).collect();
     let [wish, path] = &words[..] else {
-        return Err("usage: decisions list FILE | decisions check FILE < ANSWERS".into());
+        return Err(
+            "usage: decisions list FILE | decisions check FILE < ANSWERS | decisions resolver FILE"
+                .into(),
+        );
     };
     let document = std::fs::read_to_string(path).map_err(|error| format!("{path}: {error}"))?;
     let all = inputs(&document)?;
+    if wish == "resolver" {
+        return resolver(&document).map(|()| true);
+    }
     if wish == "list" {
         for input in &all {
             let file = file_of(&input.source)
