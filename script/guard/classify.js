@@ -24,6 +24,8 @@ const TITLES = {
   17: 'a `let` of one case read in another',
   18: 'an error of the script is gone',
   19: 'a pattern on the left of `=`',
+  20: 'a name that is read-only on the global object',
+  21: 'an emptied `var` that repeats a parameter',
 };
 
 const TOP_CONTEXT = 1n;
@@ -192,7 +194,10 @@ function ofReplaced(node, after, sources, facts) {
   return ofSource(node, after, sources, facts);
 }
 
+const READ_ONLY = new Set(['NaN', 'Infinity', 'undefined']);
+
 function ofName(node, facts) {
+  if (READ_ONLY.has(node.text)) return 20;
   const after = facts.after.get(node.place);
   const sources = facts.of(node);
   const kept = !after || (after.kind === node.kind && identityOf({ ...after, text: after.was ?? after.text }) === identityOf(node));
@@ -210,8 +215,16 @@ function ofError(statement, facts) {
 
 const emptiedWithEffect = (node, facts) => facts.emptied.has(node) && !SIMPLE.has(node.children[1].kind);
 
+// An emptied declarator of a name that is a parameter of a function that names `arguments`, too: its value was an element of that.
+function repeatsParameter(node, facts) {
+  const within = facts.functionOf(node);
+  return facts.emptied.has(node) && within !== null && usesArguments(within) && facts.of(node.children[0]).some(({ how }) => how === 'parameter');
+}
+
 // No name with another value tells the cause: the statement itself is looked at, then what was moved from anywhere.
 function ofStatement(statement, shown, facts) {
+  const repeated = [...facts.emptied].find((node) => repeatsParameter(node, facts));
+  if (repeated) return { number: 21, node: repeated };
   if (/^throws ReferenceError/.test(shown.script)) {
     const found = ofError(statement, facts);
     if (found) return found;

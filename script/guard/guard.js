@@ -2,7 +2,7 @@
 'use strict';
 
 const vm = require('vm');
-const { K, ASSIGN, UNARY, boundNames, identityOf, preorder } = require('../src/kinds');
+const { K, ASSIGN, DECLARATION, UNARY, boundNames, identityOf, isFunction, preorder } = require('../src/kinds');
 const { changesOf, numberPlaces, putBack } = require('../src/changes');
 const { textOfTree } = require('../src/result_text');
 const { classify } = require('./classify');
@@ -12,6 +12,7 @@ const { shapesOf } = require('./shapes');
 const { runTrial, STANDARD, STEPS } = require('./trial');
 
 const HOST_CONTEXT = 0n;
+const TOP_CONTEXT = 1n;
 const MOST_ROUNDS = 4;
 const MOST_MORE = 40;
 const MOST_TIME = 20000;
@@ -36,20 +37,22 @@ function hostNames(root, shapes) {
 
 const declaredBy = (declarator) => boundNames(declarator.children[0]).map(({ text }) => ({ name: text, node: declarator }));
 
-// The declared names of the script's top.
-function topNames(root) {
+// The declared names of the script's top; a `var` and, in sloppy mode, a function of its blocks are names of the top, too, unless `blocks` says no.
+function topNames(root, blocks) {
   const names = [];
-  for (const node of root.children) {
-    if (node.kind === K.function) names.push({ name: node.children[0].text, node });
-    if (node.kind === K.declaration) names.push(...node.children.flatMap(declaredBy));
-  }
+  const visit = (node, isTop) => {
+    if (node.kind === K.function && (isTop || blocks)) names.push({ name: node.children[0].text, node });
+    if (node.kind === K.declaration && (isTop || DECLARATION[node.form] === 'var')) names.push(...node.children.flatMap(declaredBy).map((one) => ({ ...one, isVar: DECLARATION[node.form] === 'var' })));
+    if (!isFunction(node)) node.children.forEach((child) => visit(child, false));
+  };
+  root.children.forEach((node) => visit(node, true));
   return names;
 }
 
-function planOf(root, changes, { seed, trials, samples = {} }) {
+function planOf(root, changes, { seed, trials, samples = {}, blocks = true }) {
   const shapes = shapesOf(root);
   const emptied = new Set(changes.filter(({ how }) => how === 'emptied').map(({ node }) => node));
-  const tops = topNames(root);
+  const tops = topNames(root, blocks);
   const names = [...new Set(tops.map(({ name }) => name))];
   return {
     shapes,
@@ -57,6 +60,7 @@ function planOf(root, changes, { seed, trials, samples = {} }) {
     samples,
     usual: trials,
     globals: hostNames(root, shapes),
+    vars: [...new Set(tops.filter(({ isVar }) => isVar).map(({ name }) => name))].map((name) => ({ name, index: shapes.byIdentity[`${name}:${TOP_CONTEXT}`] })),
     entries: tops.filter(({ node }) => !emptied.has(node)).map(({ name }) => name),
     emptied: new Set(tops.filter(({ node }) => emptied.has(node)).map(({ name }) => name)),
     reach: new vm.Script(`$negbosun.reach([${names.map((name) => `[${JSON.stringify(name)}, () => ${name}]`)}])`),

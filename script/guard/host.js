@@ -4,7 +4,7 @@
 'use strict';
 
 /* global config, script */
-const { seed, shapes, globals, numbers, samples, steps: limit, moving, steady, throwing, eager, logging } = config;
+const { seed, shapes, globals, before, numbers, samples, steps: limit, moving, steady, throwing, eager, logging } = config;
 const LONGEST_TRACE = 2000;
 const LARGEST_VALUE = 20000;
 const MOST_FUNCTIONS = 200;
@@ -13,6 +13,8 @@ const stop = { stop: true };
 const trace = [];
 const values = [];
 const callbacks = [];
+const GLOBAL_OBJECTS = ['window', 'self', 'frames', 'global'];
+const STANDARD_PROTOTYPES = [script.Object.prototype, script.Array.prototype, Object.prototype, Array.prototype];
 const paths = new WeakMap();
 const parameters = new WeakMap();
 const counts = new Map();
@@ -84,6 +86,8 @@ function shownParts(value, around, size) {
     const text = tried(() => shown(value[key], around, size), 'fails');
     return isList ? text : `${key}: ${text}`;
   });
+  const prototype = tried(() => Object.getPrototypeOf(value), null);
+  if (!STANDARD_PROTOTYPES.includes(prototype)) parts.push(`from ${tried(() => shown(prototype, around, size), 'something')}`);
   return isList ? `[${parts.join(', ')}]` : `{${parts.join(', ')}}`;
 }
 
@@ -227,7 +231,7 @@ function keep(value) {
 }
 
 function enter(called, name, turn) {
-  const list = (parameters.get(called) || []).map(([param, index]) => make(shapes[index], `${param}`, steady ? 0 : turn));
+  const list = (parameters.get(called) || []).map(([param, index]) => make(shapes[index] || ANY, `${param}`, steady ? 0 : turn));
   record('enter', `the host calls ${name}(${list.map((value) => inFull(value)).join(', ')})`);
   const answer = called(...list);
   keep(answer);
@@ -288,8 +292,10 @@ function standStill() {
 }
 
 function provide() {
+  for (const { name, index } of before) Reflect.set(script, name, make(shapes[index] || ANY, `${name} before`, 0));
   for (const { name, index } of globals) {
-    Object.defineProperty(script, name, { configurable: true, enumerable: true, ...slot(shapes[index], name) });
+    if (GLOBAL_OBJECTS.includes(name)) Object.defineProperty(script, name, { configurable: true, writable: true, value: script });
+    else Object.defineProperty(script, name, { configurable: true, enumerable: true, ...slot(shapes[index], name) });
   }
 }
 

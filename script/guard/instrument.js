@@ -1,7 +1,7 @@
 // A script's tree as text that counts its steps, tells which statement runs, and, to find a cause, which values names have.
 'use strict';
 
-const { K, UNARY, isFunction, isStatement, partsOfFunction } = require('../src/kinds');
+const { K, UNARY, isFunction, isStatement, partsOfFunction, preorder } = require('../src/kinds');
 const { estreeOf } = require('../src/from_tree');
 const { print } = require('../src/print');
 const { targetKey } = require('./shapes');
@@ -29,10 +29,15 @@ function nameOf(param, index) {
   return target.kind === K.binding ? target.was ?? target.text : `argument ${index + 1}`;
 }
 
-// Parameters, by the names that the script has for them, with the shapes that the host makes its arguments by.
+const LEAST_ARGUMENTS = 2;
+
+// Parameters, by the names that the script has for them, with the shapes that the host makes its arguments by; some more where the function asks for `arguments`.
 function parameters(node, shapes) {
   const { params } = partsOfFunction(node);
-  return list(params.map((param, index) => list([literal(nameOf(param, index)), literal(shapes.byIdentity[targetKey(param)])])));
+  const named = params.map((param, index) => list([literal(nameOf(param, index)), literal(shapes.byIdentity[targetKey(param)])]));
+  const more = [...preorder(node)].some(({ kind, text, bits }) => kind === K.identifier && text === 'arguments' && bits === 0n) ? LEAST_ARGUMENTS : 0;
+  while (named.length < more) named.push(list([literal(`argument ${named.length + 1}`), literal(null)]));
+  return list(named);
 }
 
 // A list of statements with a step before each; its functions are announced first, since they are there from the start.

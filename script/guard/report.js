@@ -3,6 +3,7 @@
 
 const { K } = require('../src/kinds');
 const { estreeOf } = require('../src/from_tree');
+const { DOCS } = require('../src/name');
 const { print } = require('../src/print');
 
 const LONGEST = 90;
@@ -21,7 +22,7 @@ function valueLine({ read, node, inPlace }, text) {
   return [`    ${source(node, text)} is ${read.script} in the script; ${now} in its place is ${read.result} in the result`];
 }
 
-const classOf = ({ number, title }) => (number ? `${title} (class ${number} of docs/DIFFERENCES.md)` : 'no class of docs/DIFFERENCES.md fits');
+const classOf = ({ number, title }) => (number ? `${title} (class ${number} of ${DOCS}/DIFFERENCES.md)` : `no class of ${DOCS}/DIFFERENCES.md fits`);
 
 // `about` has the script's name and text.
 function findingLines(finding, { name, text }) {

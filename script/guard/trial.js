@@ -8,11 +8,14 @@ const vm = require('vm');
 const STEPS = 20000;
 const MOST_TURNS = 6;
 const LONG_TURNS = 40;
-// Only for what takes long within few steps; loops and calls end by their steps.
-const BACKSTOP = { timeout: 5000 };
+// For a whole trial, and only for what takes long within few steps; loops and calls end by their steps. Each limit starts and ends a thread, so that one
+// for each call would take longer than the calls.
+const BACKSTOP = { timeout: 10000 };
 
-// Without a prototype a context leads to no object, and so to no function, from outside; nor does code come from text.
-const realm = () => vm.createContext(Object.create(null), { codeGeneration: { strings: false, wasm: false } });
+// A context of its own with an ordinary global object, where node has it (20.18, 22.8): nothing stands between a script's names and that. Else an object without a prototype, so that
+// no object, and so no function, leads outside. Nor does code come from text.
+const GLOBAL_OBJECT = (vm.constants && vm.constants.DONT_CONTEXTIFY) || null;
+const realm = () => vm.createContext(GLOBAL_OBJECT || Object.create(null), { codeGeneration: { strings: false, wasm: false } });
 
 // Every built-in of a realm that can be reached from its global object.
 const FREEZE = `(function freeze(value, seen) {
@@ -61,19 +64,20 @@ function hostConfig(plan, number, logging) {
   const { moving, steady, throwing, eager, absent } = modes(number, plan);
   const globals = plan.globals.filter(({ mayBeAbsent }) => !(absent && mayBeAbsent));
   const { list: shapes, numbers } = plan.shapes;
-  const { entries, samples } = plan;
-  return { seed: plan.seed * 1000003 + number, shapes, numbers, globals, entries, samples, steps: STEPS, moving, steady, throwing, eager, logging };
+  const { entries, samples, vars } = plan;
+  // What a `var` of the top may have before; in some trials only, since most cabinets give it nothing.
+  const before = number % 12 === 5 ? vars : [];
+  return { seed: plan.seed * 1000003 + number, shapes, numbers, globals, before, entries, samples, steps: STEPS, moving, steady, throwing, eager, logging };
 }
 
-// How a piece of code ends: well, with an error of its own, or out of time.
-function ending(host, act) {
+// How a piece of code ends: well, or with an error of its own. What runs out of time ends the trial, and no code of it is asked.
+function isWell(host, act) {
   try {
     act();
-    return 'well';
+    return true;
   } catch (error) {
-    if (error && error.code === 'ERR_SCRIPT_EXECUTION_TIMEOUT') return 'late';
     host.throws(error);
-    return 'error';
+    return false;
   }
 }
 
@@ -87,20 +91,23 @@ const unlessLate = (act) => {
   }
 };
 
+// The script, and the host's calls of what it has of it; what the host saw.
+function wholeTrial(script, plan, number, context, host) {
+  const isRun = isWell(host, () => script.runInContext(context));
+  isWell(host, () => plan.reach.runInContext(context));
+  // No cabinet goes on with a script that has failed.
+  const { turns } = modes(number, plan);
+  for (let turn = 0; turn < turns && isRun; turn++) isWell(host, () => host.turn(turn));
+  return host.outcome();
+}
+
 // What the host saw; null where time ran out.
 function runTrial(script, plan, number, logging = false) {
   startHost ||= hostRealm();
   const context = realm();
   vm.runInContext('delete globalThis.console', context);
   const host = startHost(hostConfig(plan, number, logging), vm.runInContext('globalThis', context));
-  const run = (act) => ending(host, act);
-  const first = run(() => script.runInContext(context, BACKSTOP));
-  run(() => plan.reach.runInContext(context, BACKSTOP));
-  // No cabinet goes on with a script that has failed.
-  const { turns } = modes(number, plan);
-  let last = first;
-  for (let turn = 0; turn < turns && first === 'well' && last !== 'late'; turn++) last = run(() => limited(() => host.turn(turn)));
-  const outcome = last === 'late' ? null : unlessLate(() => limited(() => host.outcome()));
+  const outcome = unlessLate(() => limited(() => wholeTrial(script, plan, number, context, host)));
   return outcome && JSON.parse(outcome);
 }
 

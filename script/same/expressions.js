@@ -1,286 +1,214 @@
-// The value of an expression on one side, with the events that its evaluation makes, in ECMA-262's order.
+// The value of an expression on one side, with the events that its evaluation makes, in the order of ECMA-262, clause 13.
 'use strict';
 
-const { K, UNARY, BINARY, ASSIGN, identityOf, isPattern } = require('../src/kinds');
-const { COMPARISONS, LOGICAL } = require('./operators');
-const { closure } = require('./closures');
-const { give, takeApart } = require('./patterns');
-const { strip } = require('./variables');
+const { K, UNARY, BINARY, ASSIGN, NAMED, identityOf, isFunction, isPattern, preorder } = require('../src/kinds');
+const { CONSTANTS, LITERALS } = require('./plain');
+const { LOGICAL, answersPlain, isPure } = require('./values');
 
-const CONSTANT_NAMES = new Set(['undefined', 'NaN', 'Infinity']);
+const MEMBERS = new Set([K.member, K.computed]);
 
-// A name's value is compared with what stands in its place in the result.
-function valueOf(run, node, position = 'value') {
+// A name's value is compared with what stands in its place in the result. Where they differ, the check goes on with the script's.
+function valueOf(run, node, isBase = false) {
   const source = run.at.owner ? null : run.check.sourceOf(node);
-  if (!source || source.kind !== K.identifier) return plainValue(run, node, position);
-  if (run.side === 'p') {
-    const value = plainValue(run, node, position);
-    run.reads.set(node, value);
-    return value;
-  }
-  return comparedRead(run, node, source, position);
-}
-
-function comparedRead(run, node, source, position) {
+  if (!source || !NAMED.has(source.kind)) return VALUES[node.kind](run, node, isBase);
   const before = run.reading;
-  run.reading = run.check.isReplaced(source) ? source : before;
-  const value = plainValue(run, node, position);
+  if (run.check.isReplaced(source)) run.reading = source;
+  const value = VALUES[node.kind](run, node, isBase);
   run.reading = before;
-  return compared(run, source, value);
-}
-
-// Where they differ, the check goes on with the script's value.
-function compared(run, source, value) {
+  if (run.at.side === 'p') run.reads.set(source, value);
   const script = run.reads.get(source);
-  if (script === value || !run.keeps('read')) return value;
+  if (script === value) return value;
   run.check.otherValue(source);
   return script ?? value;
 }
 
-function plainValue(run, node, position) { return VALUES[node.kind](run, node, position); }
-
-const literal = (run, node) => run.check.literal(node);
 const all = (run, nodes) => nodes.map((node) => valueOf(run, node));
+const literal = (run, { kind, form, text, bits }) => (kind === K.null ? run.values.null : run.values.make(true, 'literal', kind, form, kind === K.string ? text : String(bits)));
 
-function identifier(run, node, position) {
+// A name of the host's may be absent, a getter, and another value each time (9.1.1.4); at `plain` one that is called, or asked for a property, stays what it is, if the script changes it nowhere.
+function name(run, node, isBase) {
+  const { values, variables } = run;
+  if (run.at.side === 'r' && (run.reading || !run.check.sourceOf(node))) caught(run, node);
   if (node.bits !== 0n) return run.read(node);
-  if (node.text === 'undefined') return run.values.undefined();
-  if (CONSTANT_NAMES.has(node.text)) return run.values.make('number', 'constant', node.text);
-  if (node.text === 'arguments' && isArgumentsObject(run)) return run.values.make(null, 'arguments');
-  const steady = position !== 'value' && isSteady(run, node.text) && !run.variables.hostWritten.has(node.text);
-  if (steady || !run.keeps('host-read')) return run.values.make(null, 'host', node.text);
-  return run.emit(node, ['host', node.text]);
+  if (node.text === 'undefined') return values.undefined;
+  if (CONSTANTS.has(node.text)) return values.make(true, 'constant', node.text);
+  const owner = variables.ownerOf(run.fn);
+  if (node.text === 'arguments' && owner.kind !== K.script && !variables.hostWritten.has('arguments')) return values.make(false, 'arguments', run.check.numberOf(owner));
+  return isBase && isSteady(run, node.text) ? values.make(false, 'host', node.text) : run.emit(node, ['host', node.text], { isPlain: run.plain.of(node) });
 }
 
-// Whether a name of the host is there and stays what it is; the script itself may set it by way of the global object.
-const isSteady = (run, name) => run.assumes.steady && !run.variables.isReachable(name);
+const isSteady = (run, text) => Boolean(run.assumes.plain) && run.variables.keys.keeps(text);
 
-// At the script's top `arguments` is a name like others, and a script may set it.
-function isArgumentsObject(run) {
-  if (!run.keeps('own-arguments')) return true;
-  let { fn } = run;
-  while (fn.kind === K.arrow) fn = run.variables.functions.get(fn);
-  return fn.kind !== K.script && !run.variables.hostWritten.has('arguments');
+// Where a nearer variable has a moved name, the printer calls that one otherwise, which may be a function's name.
+function caught({ check, variables, reading, fn }, node) {
+  const [place, v] = [reading || fn, variables.of(node)];
+  const isNearer = (w) => w.name === node.text && w !== v && variables.isInside(place, w.scope) && (!v || variables.isInside(w.scope, v.scope));
+  if (check.namesCount && [...variables.all()].some(isNearer)) check.find(place, { reason: `a nearer \`${node.text}\` would be called otherwise` });
 }
 
-function objectLiteral(run, node) {
-  return run.emit(node, ['object', ...node.children.map((child) => [child.text, valueOf(run, child.children[0])])], { alloc: true, code: false });
+// An event of operands' values that makes an object: it runs no code and cannot fail, and until it is handed on nobody else has it.
+const object = (run, node, ...parts) => run.emit(node, parts, { isObject: true });
+const textOf = (node) => [node.kind, node.form, node.text, String(node.bits), node.children.map(textOf)];
+
+// In its own place a function is compared by itself; a moved one must be the script's to the letter.
+function closure(run, node) {
+  const source = run.at.owner ? null : run.check.sourceOf(node);
+  if (source && isFunction(source)) return object(run, node, 'function', run.check.numberOf(source));
+  if (run.at.side === 'r') checkMoved(run, node);
+  return object(run, node, 'function', textOf(node));
 }
 
-function arrayLiteral(run, node) {
-  return run.emit(node, ['array', ...all(run, node.children)], { alloc: true, code: false });
+// A moved function's free names mean what they meant, none of them was emptied, and its own name is the same (8.4.5 NamedEvaluation).
+function checkMoved(run, node) {
+  const { variables, check } = run;
+  for (const inner of preorder(node)) {
+    if (!NAMED.has(inner.kind)) continue;
+    caught(run, inner);
+    const v = variables.of(inner);
+    if (!v || !(v.fn === run.fn || variables.isInside(run.fn, v.scope))) continue;
+    if (!run.env.vals.has(v.id)) run.nowhere(inner);
+    if (v.emptied) check.find(run.reading || run.fn, { reason: `the moved function uses \`${v.name}\`, whose declaration was emptied` });
+  }
+  const isWhole = run.reading && check.afters.get(run.reading) === node && !(node.kind === K.functionExpression && node.form);
+  if (check.namesCount && isWhole) check.find(run.reading, { reason: 'the moved function would have another name' });
 }
 
-const isUnknownHostName = (node) => node.kind === K.identifier && node.bits === 0n && !CONSTANT_NAMES.has(node.text);
+function operate(run, node, op, ...operands) {
+  const { values } = run;
+  if (op === 'void') return values.undefined;
+  const isPlain = answersPlain(op, operands.map((operand) => values.isPlain(operand)));
+  const parts = ['operator', op, ...operands];
+  return isPure(op, operands, values) ? values.make(isPlain, ...parts) : run.emit(node, parts, { isPlain });
+}
 
 function unary(run, node) {
   const op = UNARY[node.form];
-  const child = strip(node.children[0]);
-  if (op === 'delete') return remove(run, node, child);
-  if (op === 'typeof' && isUnknownHostName(child)) return run.emit(node, ['typeof', child.text], { type: 'string' });
-  const a = valueOf(run, node.children[0]);
-  return run.check.operators.unary(op, a, run.check.isOwn(node.children[0])) ?? run.emit(node, ['unary', op, a]);
-}
-
-function remove(run, node, child) {
-  if (child.kind === K.identifier) return run.emit(node, ['delete name', identityOf(child)]);
-  if (child.kind === K.member || child.kind === K.computed) return run.emit(node, ['delete', ...reference(run, child)]);
-  valueOf(run, node.children[0]);
-  return run.values.make('boolean', 'literal', K.boolean, 1, '0');
-}
-
-// Object and key of a member, evaluated in this order.
-function reference(run, node) {
-  const object = valueOf(run, node.children[0], 'base');
-  return [node.kind, object, node.kind === K.computed ? valueOf(run, node.children[1]) : node.text];
-}
-
-function operate(run, node, op, a, b) {
-  const isOwn = node.children.some((child) => run.check.isOwn(child));
-  return run.check.operators.binary(op, a, b, isOwn) ?? run.emit(node, ['binary', op, a, b], { type: COMPARISONS.has(op) ? 'boolean' : null });
+  const [child] = node.children;
+  if (op === 'delete' && MEMBERS.has(child.kind)) return run.emit(node, [op, ...reference(run, child)], { isPlain: true });
+  // These two fail on no name (13.5.1.2, 13.5.3.1).
+  const isHosts = child.kind === K.identifier && child.bits === 0n && !CONSTANTS.has(child.text);
+  if ((op === 'delete' || op === 'typeof') && isHosts) return run.emit(node, [`${op} name`, child.text], { isPlain: true });
+  return operate(run, node, op, valueOf(run, child));
 }
 
 function binary(run, node) {
   const op = BINARY[node.form];
   const left = valueOf(run, node.children[0]);
-  if (LOGICAL.has(op)) return branching(run, node, left, op);
-  return operate(run, node, op, left, valueOf(run, node.children[1]));
+  return LOGICAL.has(op) ? branching(run, node, left, op) : operate(run, node, op, left, valueOf(run, node.children[1]));
 }
 
-// The old value as a number, and the new one: a number or big integer, so no code runs and nothing fails.
-function stepped(run, node, old) {
-  const isNumber = run.values.typeOf(old) === 'number';
-  const number = isNumber ? old : run.check.operators.unary('+', old, run.check.isOwn(node.children[0])) ?? run.emit(node, ['numeric', old]);
-  const type = run.values.typeOf(number) === 'number' ? 'number' : null;
-  return [number, run.values.make(type, 'step', node.form & 1, number)];
-}
-
-function update(run, node) {
-  const [child] = node.children;
-  if (child.kind === K.identifier) {
-    const old = child.bits === 0n ? run.emit(child, ['host', child.text]) : valueOf(run, child);
-    const [number, now] = stepped(run, node, old);
-    run.write(child, now, node);
-    return node.form < 2 ? now : number;
+// A part that may not be evaluated (13.13, 13.14, 13.15.2, defaults): without events a number made of both ways, else one event that holds both ways' events.
+function branching(run, node, test, op, then = (value) => value) {
+  const { values, env } = run;
+  const parts = op === '?' ? node.children.slice(1) : [node.children[1]];
+  const [one, two = { value: test, events: [], env }] = parts.map((part, index) => run.partly(index, () => then(valueOf(run, part))));
+  const results = [...env.vals].map(([id, before]) => [id, before, one.env.vals.get(id), two.env.vals.get(id)]).filter(([, before, ...after]) => after.some((value) => value !== before));
+  const isPlain = values.isPlain(one.value) && values.isPlain(two.value);
+  if (!one.events.length && !two.events.length) {
+    for (const [id, , ...both] of results) env.vals.set(id, values.make(both.every((value) => values.isPlain(value)), 'chosen', op, test, ...both));
+    return values.make(isPlain, 'chosen', op, test, one.value, two.value);
   }
-  const place = reference(run, child);
-  const [number, now] = stepped(run, node, run.emit(child, ['get to set', ...place]));
-  run.emit(node, ['set', ...place, now]);
+  const own = results.filter(([id]) => !run.variables.byId.get(id).foreign);
+  const event = run.emit(node, ['either', op, test, one.events, one.value, two.events, two.value, own.map(([id, , ...both]) => [id, ...both])], { isPlain });
+  for (const [id] of own) env.vals.set(id, values.make(false, 'after either', event, id));
+  return event;
+}
+
+// Object and key of a member, evaluated in this order (13.3.2, 13.3.3).
+function reference(run, node) {
+  const base = valueOf(run, node.children[0], true);
+  return [node.kind, base, node.kind === K.computed ? valueOf(run, node.children[1]) : node.text];
+}
+
+// What is assigned to: evaluated before the value, then read or written (13.15.2, 13.4). A key that may be an object becomes a text before the value is computed in some editions, after it in others.
+function placeOf(run, target) {
+  if (!MEMBERS.has(target.kind)) {
+    if (target.bits === 0n) run.emit(target, ['resolve', target.text]);
+    return { get: () => valueOf(run, target), set: (value) => run.write(target, value) };
+  }
+  const place = reference(run, target);
+  if (target.kind === K.computed && !run.values.isPlain(place[2])) run.emit(target, ['key', place[2]]);
+  return { get: () => run.emit(target, ['get to set', ...place]), set: (value) => run.emit(target, ['set', ...place, value]) };
+}
+
+// The new value is a number or a big integer, so its step runs no code.
+function update(run, node) {
+  const { values } = run;
+  const place = placeOf(run, node.children[0]);
+  const old = place.get();
+  const number = values.isPlain(old) ? values.make(true, 'operator', '+', old) : run.emit(node, ['numeric', old]);
+  const now = values.make(values.isPlain(number), 'step', node.form & 1, number);
+  place.set(now);
   return node.form < 2 ? now : number;
 }
 
 function assign(run, node) {
   const op = ASSIGN[node.form].slice(0, -1);
-  if (isPattern(node.children[0])) return assignPattern(run, node);
-  return node.children[0].kind === K.binding ? assignName(run, node, op) : assignMember(run, node, op);
-}
-
-// Whether the host's name exists is asked before the value is computed.
-function resolve(run, target) {
-  if (target.bits === 0n && !isSteady(run, target.text)) run.emit(target, ['resolve', target.text]);
-}
-
-// A default comes in where its part is undefined, and may not be evaluated.
-const orDefault = (run, node, part) => branching(run, node, part, 'default');
-
-// What a pattern does with its names: assigns them, or gives variables their first value.
-const ASSIGNED = { resolve, orDefault, set: (run, name, value) => run.write(name, value, name) };
-const BOUND = { resolve: () => {}, orDefault, set: (run, name, value) => run.give(run.variables.of(name), value, name) };
-
-// The value first, then its parts; the whole is the value.
-function assignPattern(run, node) {
-  const value = valueOf(run, node.children[1]);
-  takeApart(run, node.children[0], value, ASSIGNED);
-  return value;
-}
-
-// A parameter, or what a catch caught: a name, pattern or either with a default, gets its value.
-const bind = (run, target, value) => give(run, target, () => value, BOUND);
-
-function assignName(run, node, op) {
   const [target, right] = node.children;
-  resolve(run, target);
+  if (isPattern(target)) {
+    const value = valueOf(run, right);
+    takeApart(run, target, value, ASSIGNED);
+    return value;
+  }
+  const place = placeOf(run, target);
   const set = (value) => {
-    run.write(target, value, node);
+    place.set(value);
     return value;
   };
   if (!op) return set(valueOf(run, right));
-  const old = target.bits === 0n ? run.emit(target, ['host', target.text]) : readTarget(run, target);
-  if (LOGICAL.has(op)) return branching(run, node, old, op, set);
-  return set(operate(run, node, op, old, valueOf(run, right)));
+  const old = place.get();
+  return LOGICAL.has(op) ? branching(run, node, old, op, set) : set(operate(run, node, op, old, valueOf(run, right)));
 }
 
-// The read of `a += 1`.
-function readTarget(run, target) {
-  const value = run.read(target);
-  const source = run.at.owner ? null : run.check.sourceOf(target);
-  if (!source) return value;
-  if (run.side === 'r') return compared(run, source, value);
-  run.reads.set(target, value);
-  return value;
-}
-
-// A key that may be an object becomes a text before the value is computed in some editions of ECMA-262, after it in others.
-function keyed(run, target, [, , key]) {
-  const plain = target.kind === K.member || run.values.isPrimitive(key) || (run.assumes.plain && !run.check.isOwn(target.children[1]));
-  if (!plain && run.keeps('key')) run.emit(target, ['key', key]);
-}
-
-function assignMember(run, node, op) {
-  const [target, right] = node.children;
+// A member is called on its object, which is `this` there (13.3.6.2 EvaluateCall).
+function callee(run, target) {
+  if (!MEMBERS.has(target.kind)) return ['none', valueOf(run, target, true)];
   const place = reference(run, target);
-  keyed(run, target, place);
-  const set = (value) => {
-    run.emit(node, ['set', ...place, value]);
-    return value;
-  };
-  if (!op) return set(valueOf(run, right));
-  const old = run.emit(target, ['get to set', ...place]);
-  if (LOGICAL.has(op)) return branching(run, node, old, op, set);
-  return set(operate(run, node, op, old, valueOf(run, right)));
+  const [base] = target.children;
+  const isFixed = target.kind === K.member && base.kind === K.identifier && base.bits === 0n && isSteady(run, base.text) && isSteady(run, target.text);
+  return [place[1], isFixed ? run.values.make(false, 'method', ...place) : run.emit(target, ['method', ...place])];
 }
 
-function call(run, node) {
-  const [first, ...rest] = node.children;
-  const callee = strip(first);
-  const isMember = callee.kind === K.member || callee.kind === K.computed;
-  const [self, target] = isMember && run.keeps('method') ? method(run, callee) : ['none', valueOf(run, first, 'callee')];
-  return run.emit(node, ['call', self, target, ...all(run, rest)]);
+// What a pattern (8.6.2, 13.15.5) does with a name: assigns it, or gives a variable its first value.
+const ASSIGNED = (run, target) => placeOf(run, target).set;
+const BOUND = (run, target) => (value) => run.give(run.variables.of(target), value, target);
+
+// null and undefined have no properties, then each is read in its turn; of a list its iterator is asked for, each item, and it is closed.
+function takeApart(run, pattern, value, how) {
+  if (pattern.kind === K.objectPattern) {
+    run.emit(pattern, ['take apart', value], { runsCode: false });
+    for (const property of pattern.children) bind(run, property.children[0], () => run.emit(property, ['get', K.member, value, property.text]), how);
+    return;
+  }
+  const iterator = run.emit(pattern, ['iterate', value]);
+  pattern.children.forEach((target, index) => bind(run, target, () => run.emit(target, ['next', iterator, index]), how));
+  run.emit(pattern, ['close', iterator]);
 }
 
-// A member is called on its object, which is `this` there.
-function method(run, callee) {
-  const place = reference(run, callee);
-  const [kind, object] = place;
-  const steady = run.assumes.steady && kind === K.member && run.values.heads.get(object) === 'host' && run.check.keepsMethod(callee.text);
-  return [object, steady ? run.values.make(null, 'method', ...place) : run.emit(callee, ['method', ...place])];
+// A name, a pattern or either with a default gets what `fetch` gives.
+function bind(run, target, fetch, how) {
+  const inner = target.kind === K.default ? target.children[0] : target;
+  const set = isPattern(inner) ? (value) => takeApart(run, inner, value, how) : how(run, inner);
+  const part = fetch();
+  set(target.kind === K.default ? branching(run, target, part, 'default') : part);
 }
 
-function construct(run, node) {
-  const [callee, ...rest] = node.children;
-  const target = valueOf(run, callee, 'callee');
-  return run.emit(node, ['new', target, ...all(run, rest)]);
-}
-
-// One part that may or may not be evaluated, beside the state before it.
-function partOf(run, node, index, then) {
-  const { at, side } = run;
-  const before = run.st[side];
-  const prefix = at.part ? `${at.part.prefix}.${at.part.events.length}` : 'b';
-  const part = { events: [], prefix: `${prefix}/${index}` };
-  run.at = { ...at, part };
-  run.st[side] = before.clone();
-  const value = then(valueOf(run, node));
-  const outcome = { value, events: part.events, env: run.st[side] };
-  run.at = at;
-  run.st[side] = before;
-  return outcome;
-}
-
-// `a && b`, `?:`, `a &&= b`, a default: without events a value, else one event that holds both parts' events.
-function branching(run, node, test, op, then = (value) => value) {
-  const parts = op === '?' ? node.children.slice(1) : [node.children[1]];
-  const outcomes = parts.map((part, index) => partOf(run, part, index, then));
-  if (op !== '?') outcomes.push({ value: test, events: [], env: run.env });
-  const [one, two] = outcomes;
-  const changed = [...run.env.vals.keys()].filter((id) => outcomes.some(({ env }) => env.vals.get(id) !== run.env.vals.get(id)));
-  if (!one.events.length && !two.events.length) return chosen(run, { test, op, one, two, changed });
-  if (!run.keeps('branch-events')) return chosen(run, { test, op, one, two, changed: [] });
-  const own = changed.filter((id) => !run.variables.byId.get(id).foreign);
-  const results = own.map((id) => [id, one.env.vals.get(id), two.env.vals.get(id)]);
-  const event = run.emit(node, ['either', op, test, one.events, one.value, two.events, two.value, results]);
-  for (const id of own) run.env.vals.set(id, run.values.make(null, 'after either', event, id));
-  return event;
-}
-
-function chosen(run, { test, op, one, two, changed }) {
-  const { values, env } = run;
-  for (const id of changed) env.vals.set(id, values.make(null, 'chosen', op, test, one.env.vals.get(id), two.env.vals.get(id)));
-  return values.make(values.sharedType(one.value, two.value), 'chosen', op, test, one.value, two.value);
-}
+const get = (run, node) => run.emit(node, ['get', ...reference(run, node)], { isPlain: run.plain.of(node) });
 
 const VALUES = {
-  [K.null]: literal,
-  [K.boolean]: literal,
-  [K.number]: literal,
-  [K.string]: literal,
-  [K.this]: (run) => run.values.make(null, 'this'),
-  [K.parenthesis]: (run, node, position) => valueOf(run, node.children[0], position),
+  [K.this]: (run) => run.values.make(false, 'this', run.check.numberOf(run.variables.ownerOf(run.fn))),
   [K.sequence]: (run, node) => all(run, node.children).at(-1),
-  [K.identifier]: identifier,
-  [K.array]: arrayLiteral,
-  [K.object]: objectLiteral,
-  [K.functionExpression]: closure,
-  [K.arrow]: closure,
+  [K.array]: (run, node) => object(run, node, 'array', ...all(run, node.children)),
+  [K.object]: (run, node) => object(run, node, 'object', ...node.children.map((child) => [child.text, valueOf(run, child.children[0])])),
   [K.unary]: unary,
   [K.update]: update,
   [K.binary]: binary,
   [K.conditional]: (run, node) => branching(run, node, valueOf(run, node.children[0]), '?'),
   [K.assign]: assign,
-  [K.call]: call,
-  [K.new]: construct,
-  [K.member]: (run, node) => run.emit(node, ['get', ...reference(run, node)]),
-  [K.computed]: (run, node) => run.emit(node, ['get', ...reference(run, node)]),
+  [K.call]: (run, node) => run.emit(node, ['call', ...callee(run, node.children[0]), ...all(run, node.children.slice(1))], { isPlain: run.plain.of(node) }),
+  [K.new]: (run, node) => run.emit(node, ['new', valueOf(run, node.children[0], true), ...all(run, node.children.slice(1))]),
 };
+const SHARED = [[LITERALS, literal], [NAMED, name], [MEMBERS, get], [[K.functionExpression, K.arrow], closure]];
+for (const [kinds, value] of SHARED) for (const kind of kinds) VALUES[kind] = value;
 
-module.exports = { valueOf, bind, ASSIGNED, BOUND, VALUES };
+module.exports = { valueOf, bind, takeApart, ASSIGNED, BOUND, VALUES, MEMBERS };

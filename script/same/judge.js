@@ -2,8 +2,8 @@
 'use strict';
 
 const { putBack } = require('../src/changes');
+const { guardKept } = require('../src/guard_kept');
 const { textOfTree } = require('../src/result_text');
-const { guardApart } = require('../guard/apart');
 const { readSamples } = require('../guard/samples');
 const { checkResult, leastLevel } = require('./check');
 const { keepShown } = require('./keep');
@@ -31,7 +31,7 @@ function judge(root, result, about, options) {
   const check = checkResult(root, tree, options.level);
   const least = check.shown ? null : leastLevel(root, tree);
   const printed = textOfTree(tree).root;
-  const outcome = options.guard && check.changes.length ? guardApart(tree, about, { ...options, samples: readSamples(options.samples, about.name) }) : null;
+  const outcome = options.guard && check.changes.length ? guardKept(tree, about, { ...options, samples: readSamples(options.samples, about.name) }) : null;
   const judged = { root, tree, check, least, kept, outcome, remarks: remarksOf(root, tree, printed, check.changes) };
   return { ...judged, sort: sortOf(judged, options) };
 }

@@ -1,9 +1,8 @@
-// What is taken for granted of the host, from nothing to much; each level adds to the one before.
+// What is promised of the host, from nothing to much; each level adds to the one before. docs/SAME_MEANING.md has the promises as a site manager can check them.
 'use strict';
 
-// calm: top functions are called after the script's end only, its top variables are never set from outside.
-// unread: nor read. plain: operators on the host's values run no code; steady: a host's function or object stays what its name says;
-// nameless: nobody asks for a function's name.
+// calm: only the script's own code sets the top's variables, and no function of the top is called before the script has ended well, but for those handed over; unread: and only that reads them.
+// plain: what the script operates on is plain where it comes from the host, the host's names and their methods stay what they are, and it asks no function for its name.
 const CALMLY = 'calls its functions only after the script\'s end, but for those handed to it';
 
 const LEVELS = [
@@ -12,7 +11,7 @@ const LEVELS = [
   { name: 'apart', assumes: { calm: true, unread: true }, words: `a host that neither sets nor reads the script's variables and ${CALMLY}` },
   {
     name: 'plain',
-    assumes: { calm: true, unread: true, plain: true, steady: true, nameless: true },
+    assumes: { calm: true, unread: true, plain: true },
     words: `a host that gives plain values, keeps its functions and objects under their names, neither sets nor reads the script's variables and ${CALMLY}`,
   },
 ];

@@ -22,9 +22,10 @@ const WORDS = {
   'write constant': ([, id]) => `the write of the constant \`${nameOf(id)}\``,
   begun: ([, id]) => `the read of \`${nameOf(id)}\`, which may not have begun,`,
   begin: ([, id]) => `the beginning of \`${nameOf(id)}\``,
-  declared: ([, id]) => `the declaration of the function \`${nameOf(id)}\``,
-  unary: ([, op]) => `\`${op}\` on what may be an object`,
-  binary: ([, op]) => `\`${op}\` on what may be an object`,
+  read: ([, id]) => `the read of \`${nameOf(id)}\``,
+  operator: ([, op]) => `\`${op}\` on what may be an object`,
+  'typeof name': ([, name]) => `the read of the host's \`${name}\``,
+  'delete name': ([, name]) => `the \`delete\` of \`${name}\``,
   key: () => 'a key that may be an object',
   'take apart': () => 'taking a value apart',
   iterate: () => 'taking a list apart',
@@ -109,7 +110,8 @@ function otherValueWords(check, source) {
 function aroundWords(check, v, source) {
   const inner = check.variables.functions.get(source);
   if (v.fn === inner) return null;
-  if (v.open && v.kind !== 'const') return 'a host may set this variable of the script\'s top before this use';
+  if (v.open) return 'a host may set this variable of the script\'s top before this use';
+  if (v.loose) return 'the script may reach this variable of its top by another way, as a property of the global object';
   const [write] = v.writes;
   if (v.writes.length > 1) return `it is written on lines ${v.writes.map(({ node }) => lineOf(node)).join(' and ')}, and this function may run after either`;
   return write && !check.order.hasValueIn(v, inner) ? `this function may be called before line ${lineOf(write.node)} gives it its value` : null;

@@ -4,7 +4,7 @@
 
 const { K, DECLARATION, NAMED, boundNames, identityOf, isFunction, preorder } = require('../src/kinds');
 const { walk } = require('../src/changes');
-const { makesCode } = require('./exposure');
+const { makesCode } = require('./keys');
 const { Variables } = require('./variables');
 
 const TOP_CONTEXT = 1n;

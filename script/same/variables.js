@@ -1,146 +1,82 @@
-// What a script's text says of its variables: where each is declared, by which functions it is written and read, and what can reach it.
+// What a script's text says of its variables: where each is declared (8.5, 9.1), by which functions it is written and read, and what can reach it.
 'use strict';
 
-const { K, ASSIGN, DECLARATION, boundNames, identityOf, isFunction, isPattern, partsOfFunction, preorder } = require('../src/kinds');
-const { exposureOf } = require('./exposure');
+const { K, ASSIGN, DECLARATION, NAMED, boundNames, identityOf, isFunction, isPattern, partsOfFunction } = require('../src/kinds');
+const { Keys } = require('./keys');
 
-const LOOP_OVER = new Set([K.forIn, K.forOf]);
-const OWN_SCOPE = new Set([K.block, K.for, K.forIn, K.forOf]);
-
+const LOOPS_OVER = new Set([K.forIn, K.forOf]);
+const OWN_SCOPE = new Set([K.block, K.for, K.forIn, K.forOf, K.switch, K.catch, K.function, K.functionExpression, K.arrow]);
 const IN_PATTERN = new Set([K.objectPattern, K.arrayPattern, K.patternProperty, K.default]);
-
-const strip = (node) => (node.kind === K.parenthesis ? strip(node.children[0]) : node);
-const isLiteral = (node) => [K.null, K.boolean, K.number, K.string].includes(node.kind);
 const isLexical = (v) => v.kind === 'let' || v.kind === 'const';
-
-// First and last number of each node's nodes, in the tree file's order.
-function spanOf(root, spans) {
-  let last = 0;
-  const visit = (node) => {
-    const span = [++last, 0];
-    spans.set(node, span);
-    node.children.forEach(visit);
-    span[1] = last;
-  };
-  visit(root);
-}
 
 class Variables {
   // `emptied` has the declarators that the pass emptied, `assumes` what the level takes for granted.
-  constructor(root, emptied, assumes, keeps) {
-    Object.assign(this, { root, emptied, assumes, keeps });
-    this.byId = new Map();
-    this.parents = new Map();
-    this.spans = new Map();
-    this.functions = new Map();
-    this.withTry = new Set();
-    this.withArguments = new Set();
-    this.hostWritten = new Set();
-    spanOf(root, this.spans);
+  constructor(root, emptied, assumes) {
+    Object.assign(this, { root, emptied, assumes, byId: new Map(), parents: new Map(), functions: new Map(), spans: new Map(), withTry: new Set(), withArguments: new Set(), hostWritten: new Set() });
     this.enter(root, null, root, root);
-    this.exposed = exposureOf(root, this.parents);
-    for (const node of preorder(root)) this.note(node);
-    for (const v of this.byId.values()) this.finish(v);
+    for (const node of this.parents.keys()) this.note(node);
+    this.keys = new Keys(this);
+    for (const v of this.all()) this.finish(v);
   }
 
   of(node) { return this.byId.get(identityOf(node)) || null; }
-
   all() { return this.byId.values(); }
 
-  // All names of a name or pattern.
-  addAll(target, kind, scope, fn, node) { boundNames(target).forEach((binding) => this.add(binding, kind, scope, fn, node)); }
-
-  add(binding, kind, scope, fn, node) {
-    const id = identityOf(binding);
-    if (!this.byId.has(id)) this.byId.set(id, { id, name: binding.text, kind, scope, fn, defs: [], writes: [], reads: [], emptied: false, captured: false });
-    const v = this.byId.get(id);
-    v.defs.push({ kind, node });
-    if (kind === 'param') v.kind = kind;
-    v.top = v.scope === this.root;
-  }
-
-  // Notes parent and function of each node, and declares what it declares; `fn` and `scope` are those around.
+  // Notes parent, function and first and last number of each node, and declares what it declares; `fn` and `scope` are those around.
   enter(node, parent, fn, scope) {
+    const span = [this.spans.size, 0];
+    this.spans.set(node, span);
     this.parents.set(node, parent);
     this.functions.set(node, fn);
-    if (node.kind === K.try) this.withTry.add(fn);
-    if (isFunction(node)) this.enterFunction(node, fn, scope);
-    else if (node.kind === K.catch) this.enterCatch(node, fn);
-    else if (node.kind === K.switch) this.enterSwitch(node, fn, scope);
-    else {
-      if (node.kind === K.declaration) this.declare(node, fn, scope);
-      this.enterAll(node.children, node, fn, OWN_SCOPE.has(node.kind) ? node : scope);
-    }
+    this.declare(node, fn, scope);
+    // The block of a function or catch has no scope of its own; a declared function's name is of the scope around.
+    const isBody = node.kind === K.block && (isFunction(parent) || parent.kind === K.catch);
+    const own = OWN_SCOPE.has(node.kind) && !isBody ? node : scope;
+    node.children.forEach((child, index) => this.enter(child, node, isFunction(node) && !(node.kind === K.function && index === 0) ? node : fn, own));
+    span[1] = this.spans.size - 1;
   }
-
-  enterAll(children, parent, fn, scope) { children.forEach((child) => this.enter(child, parent, fn, scope)); }
 
   declare(node, fn, scope) {
     const kind = DECLARATION[node.form];
-    for (const declarator of node.children) this.addAll(declarator.children[0], kind, kind === 'var' ? fn : scope, fn, declarator);
+    if (node.kind === K.declaration) for (const child of node.children) this.add(child.children[0], kind, kind === 'var' ? fn : scope, fn, child);
+    if (node.kind === K.catch && node.children.length === 2) this.add(node.children[0], 'catch', node, fn, node);
+    if (!isFunction(node)) return;
+    const { name, params } = partsOfFunction(node);
+    if (name && node.kind === K.function) this.add(name, 'function', scope, fn, node);
+    else if (name) this.add(name, 'own name', node, node, node);
+    params.forEach((param) => this.add(param, 'param', node, node, node));
   }
 
-  // A declared function's name is of the scope around, a function expression's of its own.
-  enterFunction(node, fn, scope) {
-    const { name, params, body } = partsOfFunction(node);
-    if (node.kind === K.function) {
-      this.add(name, 'function', scope, fn, node);
-      this.enter(name, node, fn, scope);
-    } else if (name) {
-      this.add(name, 'own name', node, node, node);
-      this.enter(name, node, node, node);
+  // All names of a name or pattern.
+  add(target, kind, scope, fn, node) {
+    for (const binding of boundNames(target)) {
+      const id = identityOf(binding);
+      if (!this.byId.has(id)) this.byId.set(id, { id, name: binding.text, kind, scope, fn, top: scope === this.root, defs: [], writes: [], reads: [], emptied: false, captured: false });
+      const v = this.byId.get(id);
+      v.defs.push({ kind, node });
+      if (kind === 'param') v.kind = kind;
     }
-    for (const param of params) this.addAll(param, 'param', node, node, node);
-    this.enterAll(params, node, node, node);
-    this.enterBody(body, node, node, node);
   }
 
-  // A function's or catch's block has no scope of its own.
-  enterBody(body, parent, fn, scope) {
-    if (body.kind !== K.block) return this.enter(body, parent, fn, scope);
-    this.parents.set(body, parent);
-    this.functions.set(body, fn);
-    return this.enterAll(body.children, body, fn, scope);
-  }
-
-  enterCatch(node, fn) {
-    if (node.children.length === 2) {
-      this.addAll(node.children[0], 'catch', node, fn, node);
-      this.enter(node.children[0], node, fn, node);
-    }
-    this.enterBody(node.children.at(-1), node, fn, node);
-  }
-
-  enterSwitch(node, fn, scope) {
-    this.enter(node.children[0], node, fn, scope);
-    this.enterAll(node.children.slice(1), node, fn, node);
-  }
-
-  // The nearest function around that has an `arguments` of its own; the script where there is none.
-  argumentsOf(node) {
-    let fn = this.functions.get(node);
-    while (fn.kind === K.arrow) fn = this.functions.get(fn);
-    return fn;
-  }
+  // The nearest function around that has `this` and `arguments` of its own; the script where there is none.
+  ownerOf(fn) { return fn.kind === K.arrow ? this.ownerOf(this.functions.get(fn)) : fn; }
 
   note(node) {
-    if (node.kind === K.identifier || node.kind === K.binding) this.noteName(node);
+    if (node.kind === K.try) this.withTry.add(this.functions.get(node));
+    if (NAMED.has(node.kind)) this.noteName(node);
     if (node.kind === K.declarator) this.noteDeclarator(node);
-    if (node.kind === K.function) this.noteWrite(this.of(node.children[0]), node, 'function');
+    if (node.kind === K.function) this.noteWrite(node.children[0], node, 'function');
   }
 
-  noteWrite(v, node, how) { v.writes.push({ node, how, fn: this.functions.get(node) }); }
-
-  isHead(declaration) {
-    const parent = this.parents.get(declaration);
-    return LOOP_OVER.has(parent.kind) && parent.children[0] === declaration;
-  }
+  noteWrite(name, node, how) { this.of(name).writes.push({ node, how, fn: this.functions.get(node) }); }
 
   noteDeclarator(node) {
     const [name] = node.children;
-    const head = this.isHead(this.parents.get(node));
-    const how = isPattern(name) ? 'part' : 'value';
-    for (const binding of boundNames(name)) if (node.children.length > 1 || head) this.noteWrite(this.of(binding), node, head ? 'head' : how);
+    const declaration = this.parents.get(node);
+    const loop = this.parents.get(declaration);
+    const isHead = LOOPS_OVER.has(loop.kind) && loop.children[0] === declaration;
+    const how = isHead ? 'head' : isPattern(name) ? 'part' : 'value';
+    if (node.children.length > 1 || isHead) boundNames(name).forEach((binding) => this.noteWrite(binding, node, how));
     if (this.emptied.has(node)) this.of(name).emptied = true;
   }
 
@@ -150,48 +86,36 @@ class Variables {
     if (node.kind === K.identifier) return parent.kind === K.update ? 'update' : null;
     while (IN_PATTERN.has(parent.kind)) [at, parent] = [parent, parents.get(parent)];
     if (parent.kind === K.assign && parent.children[0] === at) return ASSIGN[parent.form] === '=' ? 'assign' : 'update';
-    return LOOP_OVER.has(parent.kind) ? 'head' : null;
+    return LOOPS_OVER.has(parent.kind) ? 'head' : null;
   }
 
   noteName(node) {
-    if (node.text === 'arguments') this.withArguments.add(this.argumentsOf(node));
+    if (node.text === 'arguments') this.withArguments.add(this.ownerOf(this.functions.get(node)));
     const how = Variables.writeOf(node, this.parents);
     const v = this.of(node);
-    if (!v) {
-      if (how) this.hostWritten.add(node.text);
-      return;
-    }
+    if (!v && how) this.hostWritten.add(node.text);
+    if (!v) return;
     if (node.kind === K.identifier || how === 'update') v.reads.push(node);
     if (this.functions.get(node) !== v.fn) v.captured = true;
-    if (how) this.noteWrite(v, node, how);
+    if (how) this.noteWrite(node, node, how);
   }
 
-  // Whether the script can reach a name of its top through the global object.
-  isReachable(name) { return this.keeps('global-object') && (this.exposed.all || this.exposed.names.has(name)); }
-
-  // foreign: may be written while this function's code waits; open: the host can reach it; visible: its writes can be seen.
+  // loose: the script may reach it by another way than its name; open: the host may write it; seen: it may be read elsewhere (whoever calls a function of the top reads its variable);
+  // foreign: it may be written while this function's code waits; visible: its writes keep their place.
   finish(v) {
-    const { keeps, assumes } = this;
-    v.open = v.top && ((!assumes.calm && keeps('open')) || this.isReachable(v.name));
-    v.foreign = v.kind !== 'own name' && v.writes.some(({ fn }) => fn !== v.fn);
-    if (v.kind === 'param' && this.withArguments.has(v.fn) && keeps('arguments')) v.foreign = true;
-    if (v.open && v.kind !== 'const') v.foreign = true;
-    v.foreign &&= keeps('foreign');
-    const isRead = v.top && !assumes.unread && keeps('read-by-host');
-    v.visible = isRead || (keeps('captured-write') && (v.captured || v.foreign || v.open)) || (keeps('try-write') && this.withTry.has(v.fn));
+    const { assumes, keys } = this;
+    v.loose = v.top && (isLexical(v) ? keys.hasCode : keys.mayRead(v.name));
+    v.open = v.top && !assumes.calm && v.kind !== 'const';
+    v.seen = v.top && (!assumes.unread || v.loose || v.defs.some(({ kind }) => kind === 'function'));
+    const isElement = v.kind === 'param' && this.withArguments.has(v.fn);
+    v.foreign = v.kind !== 'own name' && (v.open || v.loose || isElement || v.writes.some(({ fn }) => fn !== v.fn));
+    v.visible = v.seen || v.captured || v.foreign || this.withTry.has(v.fn);
   }
 
   isInside(node, outer) {
     const [[first], [start, end]] = [this.spans.get(node), this.spans.get(outer)];
     return start <= first && first <= end;
   }
-
-  // Variables whose scope lies inside a node.
-  scopedIn(node) {
-    this.scoped ||= new Map();
-    if (!this.scoped.has(node)) this.scoped.set(node, [...this.all()].filter((v) => this.isInside(v.scope, node)));
-    return this.scoped.get(node);
-  }
 }
 
-module.exports = { Variables, strip, isLiteral, isLexical };
+module.exports = { Variables, isLexical };

@@ -31,4 +31,14 @@ function inFolder(files, act) {
   }
 }
 
-module.exports = { ROOT, RESULTS, inFolder, read, samples, sampleFile, sampleText, listed };
+// A line that says how far many scripts are comes where they take long.
+const withoutProgress = (said) => said.replace(/^\d+ of \d+ scripts done, at .*\n/gm, '');
+
+// The command keeps what its guard finds; the tests have a folder of their own for that, which goes with them.
+function ownCache() {
+  const folder = fs.mkdtempSync(path.join(os.tmpdir(), 'inline-cache-'));
+  process.env.XDG_CACHE_HOME = folder;
+  process.on('exit', () => fs.rmSync(folder, { recursive: true, force: true }));
+}
+
+module.exports = { ownCache, withoutProgress, ROOT, RESULTS, inFolder, read, samples, sampleFile, sampleText, listed };

@@ -13,7 +13,7 @@ const { takesLimit } = require('../src/port');
 const { treeOfText } = require('../src/to_tree');
 const { UsageTrouble } = require('../src/trouble');
 const { anyScript } = require('./any_scripts');
-const { ROOT, read, sampleFile, sampleText, samples } = require('./files');
+const { ROOT, read, sampleFile, sampleText, samples, withoutProgress } = require('./files');
 const { each } = require('./harness');
 
 const SAMPLE = path.join('samples', 'without_for_and_new.kinds');
@@ -117,7 +117,7 @@ function testKindTables() {
 function inline(list, input = '') {
   const { NEGBOSUN_PORT, ...env } = process.env;
   const { status, stdout, stderr } = spawnSync(path.join(ROOT, 'script', 'inline'), ['--no-guard', '--accept', ...list], { cwd: ROOT, input, env, encoding: 'utf8' });
-  return { status, text: stdout, said: stderr };
+  return { status, text: stdout, said: withoutProgress(stderr) };
 }
 
 const has = (text, kinds) => [...preorder(treeOfText(text))].some(({ kind }) => kinds.includes(kind));
@@ -150,7 +150,7 @@ const COMMANDS = {
   }),
   'many scripts': () => {
     const { status, text } = inline(['--check', '--kinds', SAMPLE, 'samples/scripts']);
-    assert.match(text, /\n10 files: /);
+    assert.match(text, /\n10 scripts: /);
     assert.ok(status === 0 || status === 1);
   },
 };

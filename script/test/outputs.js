@@ -11,7 +11,7 @@ const { amiss } = require('../src/ready');
 const { scopesIn } = require('../src/running');
 const { treeOfText } = require('../src/to_tree');
 const { VERSION } = require('../src/version');
-const { ROOT, inFolder, read } = require('./files');
+const { ROOT, inFolder, read, withoutProgress } = require('./files');
 const { each } = require('./harness');
 
 const COMMAND = path.join(ROOT, 'script', 'inline');
@@ -19,7 +19,7 @@ const COMMAND = path.join(ROOT, 'script', 'inline');
 // Whatever the verdict is, it is written.
 function inline(cwd, list, input = '', env = process.env) {
   const { status, stdout, stderr } = spawnSync(COMMAND, ['--no-guard', '--accept', ...list], { cwd, input, env, encoding: 'utf8' });
-  return { status, text: stdout, said: stderr };
+  return { status, text: stdout, said: withoutProgress(stderr) };
 }
 
 const GATES = { 'gates/a.js': 'const a = 1; f(a);', 'gates/below/b.js': '// kept\nvar b = 2; g(b);', 'gates/readme.txt': 'no script' };
@@ -28,10 +28,17 @@ const BROKEN = { ...GATES, 'gates/c.js': 'class C {}' };
 const filesIn = (folder, inside = '') => fs.readdirSync(path.join(folder, inside), { withFileTypes: true }).flatMap((entry) => {
   const name = path.join(inside, entry.name);
   return entry.isDirectory() ? filesIn(folder, name) : [name];
-}).sort();
+}).filter((name) => !name.startsWith('.negbosun-')).sort();
 
 const times = (count, text) => text.repeat(count);
 const SLOW = `${times(31, 'var v = function () {')}${times(31, '};')}`;
+
+// The verdicts on BROKEN in one line each, as JSON, index and --check have them. With --accept and without the guard.
+const SHORT = [
+  'shown at --host=anything; guard not asked',
+  'accepted; not shown at --host=anything; shown at --host=apart; guard not asked',
+  'refused, line 1, column 1: a class cannot be built; write functions and plain objects',
+];
 
 const OUTPUTS = {
   'a folder of results': () => inFolder(GATES, (folder) => {
@@ -59,7 +66,12 @@ const OUTPUTS = {
   'pages with an index': () => inFolder(BROKEN, (folder) => {
     assert.strictEqual(inline(folder, ['--page', 'pages', 'gates']).status, 1);
     assert.deepStrictEqual(filesIn(path.join(folder, 'pages')), ['a.js.html', 'below/b.js.html', 'c.js.html', 'index.html']);
-    assert.match(read(path.join(folder, 'pages/index.html')), /<a href="below\/b\.js\.html">gates\/below\/b\.js<\/a>/);
+    const index = read(path.join(folder, 'pages/index.html'));
+    assert.match(index, /<a href="below\/b\.js\.html">gates\/below\/b\.js<\/a>/);
+    assert.match(index, /<p>3 scripts: 1 refused, 1 accepted, 1 shown\.<\/p>/);
+    const places = [SHORT[2], SHORT[1], SHORT[0], '<code>--host=anything</code>: any host', '<code>--host=apart</code>: a host that '].map((words) => index.indexOf(words));
+    assert.deepStrictEqual([...places].sort((one, other) => one - other), places, 'the worst first, then what the levels mean');
+    assert.ok(places[0] > 0);
     assert.match(read(path.join(folder, 'pages/below/b.js.html')), /<a href="\.\.\/index\.html">/);
     assert.match(read(path.join(folder, 'pages/c.js.html')), /line 1, column 1: a class cannot be built/);
   }),
@@ -71,6 +83,7 @@ const OUTPUTS = {
     const { text, status } = inline(folder, ['--json', 'gates']);
     const [a, b, c] = JSON.parse(text).scripts;
     assert.strictEqual(status, 1);
+    assert.deepStrictEqual([a, b, c].map(({ verdict }) => verdict.summary), SHORT);
     assert.deepStrictEqual([a.result, b.result, c.result], ['const a = 1; f(1);', '// kept\nvar b; g(2);', null]);
     assert.deepStrictEqual(c.refusals.map(({ line, column }) => [line, column]), [[1, 1]]);
     assert.deepStrictEqual(b.changes.map(({ how, name, now, line }) => [how, name, now, line]), [['emptied', 'b', '', 2], ['replaced', 'b', '2', 2]]);
@@ -83,13 +96,15 @@ const OUTPUTS = {
   },
   'JSON whatever is read': () => {
     const [only] = JSON.parse(inline(ROOT, ['--json', 'nowhere.js']).text).scripts;
-    assert.deepStrictEqual([only.verdict.status, only.refusals[0].message, only.script], ['refused', 'no such file', null]);
+    assert.deepStrictEqual([only.verdict.status, only.refusals[0].message, only.script], ['not read', 'no such file', null]);
+    assert.strictEqual(only.verdict.summary, 'not read: no such file');
   },
   'standard input and output by name': () => assert.strictEqual(inline(ROOT, ['--out', '-', '-'], 'const a = 1; f(a);').text, 'const a = 1; f(1);'),
   'check of a folder': () => inFolder(BROKEN, (folder) => {
     const { text, status } = inline(folder, ['--check', 'gates']);
     assert.strictEqual(status, 1);
-    assert.match(text, /^gates\/a\.js: [^]*^gates\/below\/b\.js: [^]*^gates\/c\.js:1:1: a class[^]*^3 files: .*1 refused/m);
+    assert.match(text, /^gates\/a\.js: [^]*^gates\/below\/b\.js: [^]*^gates\/c\.js:1:1: a class[^]*^3 scripts: 1 refused, 1 accepted, 1 shown$/m);
+    for (const [name, short] of [['a', SHORT[0]], ['below/b', SHORT[1]]]) assert.ok(text.includes(`gates/${name}.js: ${short}\n`));
   }),
   'version and help': () => {
     assert.strictEqual(inline(ROOT, ['--version']).text, `negbosun ${VERSION}\n`);
@@ -106,7 +121,15 @@ const SAID = [
   [['nowhere.js'], '', 2, /^nowhere\.js: no such file\n {2}look at the name/],
   [['samples'], '', 2, /^samples: this is a folder\n {2}name a script in it/],
   [['-'], times(1000001, ' '), 1, /^standard input: 1,000,001 bytes, at most 1,000,000\n/],
-  [[], 'f(\n  1;\n', 1, /^standard input:2:4: syntax error: Unexpected token\n {4}2 \| {3}1;\n {6}\| {4}\^\n {2}the \( of line 1, column 2 is not closed/],
+  [[], 'f(\n  1;\n', 1, /^standard input:2:4: syntax error: Unexpected token `;`\n {4}2 \| {3}1;\n {6}\| {4}\^\n {2}the \( of line 1, column 2 is not closed/],
+  [[], 'f("abc);\ng();\n', 1, /^standard input:1:3: syntax error: Unterminated string constant\n {4}1 \| f\("abc\);\n {6}\| {3}\^\n {2}a text ends on the line on which it begins, with the quote that it begins with\n$/],
+  [[], 'f(\u201cabc\u201d);', 1, /Unexpected character '\u201c'\n[^]*\n {2}texts stand in straight quotes: "open" or 'open'\n$/],
+  [[], 'f(@);', 1, /Unexpected character '@'\n.*\n.*\^\n$/],
+  [[], 'x = () => {a: 1, b: 2};', 1, /Unexpected token `:`\n[^]*\n {2}an object that an arrow gives stands in parentheses: `=> \(\{level: 1, open: true\}\)`\n$/],
+  [[], 'import a from "b";\nf`x`;\nimport c from "d";\nclass A {}\nexport default 1;', 1,
+    /^standard input:1:1: a module [^]*\nstandard input:2:1: a tagged [^]*\nstandard input:3:1: a module [^]*\nstandard input:4:1: a class [^]*\nstandard input:5:1: a module /],
+  [[], `f([${times(65536, '1,')}1]);`, 1, /refusal 3: 65,542 nodes, at most 1,024\n/],
+  [['--tree'], `f([${times(65536, '1,')}1]);`, 1, /refusal 3: 65,542 nodes, at most 1,024\n/],
   [[], 'if (a) {\n', 1, /^standard input:2:1: syntax error: the script ends too early\n[^]*the \{ of line 1, column 8 is not closed/],
   [[], times(20000, '['), 1, /^standard input:1:201: refusal 6: 20,000 brackets in one another, at most 200 nodes\n/],
   [[], `x = ${times(250, '[')}${times(250, ']')};`, 1, /refusal 6: 253 nodes in one another, at most 200\n {4}1 \| \.\.\.\[/],
@@ -154,7 +177,7 @@ function beforeSetUp() {
   assert.match(amiss('16.20.2', () => ''), /^node 16\.20\.2 is too old: node 18\.3 or newer is needed/);
   assert.match(amiss('18.2.0', () => ''), /too old/);
   assert.strictEqual(amiss('18.3.0', () => ''), '');
-  assert.strictEqual(amiss('20.1.0', absent), 'node does not find acorn, eslint-scope, escodegen, magic-string');
+  assert.strictEqual(amiss('20.1.0', absent), 'node does not find acorn, escodegen, magic-string');
   inFolder({}, (folder) => {
     for (const name of ['bash', 'dirname', 'readlink', 'env']) fs.symlinkSync(spawnSync('which', [name], { encoding: 'utf8' }).stdout.trim(), path.join(folder, name));
     for (const list of [['--help'], [], ['--check', 'x.js']]) {

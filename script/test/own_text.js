@@ -48,6 +48,11 @@ const TEXTS = [
   ['let v = p ? 1 : 2; function f(a = /* why */ v) {}', 'let v; function f(a = /* why */ p ? 1 : 2) {}'],
   ['const n = 5; for (const {a = n, b: [c = n]} of l) { f(a, c, n); }', 'const n = 5; for (const {a = 5, b: [c = 5]} of l) { f(a, c, 5); }'],
   ['const n = 5; try { f(); } catch ({message, code = n}) { g(message, code); }', 'const n = 5; try { f(); } catch ({message, code = 5}) { g(message, code); }'],
+  ['const n = 010; function f() { "use strict"; g(n); } g(n);', 'const n = 010; function f() { "use strict"; g(8); } g(010);'],
+  ['const s = "a\\07\\0"; function f() { "x"; \'use strict\'; g(() => s); } g(s);', 'const s = "a\\07\\0"; function f() { "x"; \'use strict\'; g(() => "a\\x07\\0"); } g("a\\07\\0");'],
+  ['const s = "\\0 \\\\1"; function f() { "use strict"; g(s); }', 'const s = "\\0 \\\\1"; function f() { "use strict"; g("\\0 \\\\1"); }'],
+  ['let a = [p, {"\\2": 08}]; g(function () { "use strict"; return a; });', 'let a; g(function () { "use strict"; return [\n  p,\n  { "\\x02": 8 }\n]; });'],
+  ['let a = {"\\2": p}; g(function () { "use strict"; return a; });', 'let a; g(function () { "use strict"; return { "\\x02": p }; });'],
   ['#!/usr/bin/env node\nconst a = 1; f(a)', '#!/usr/bin/env node\nconst a = 1; f(1)'],
 ];
 

@@ -1,6 +1,7 @@
 // The tests of script/inline. What needs the port is passed over where there is none. The last line counts.
 'use strict';
 
+const { ownCache } = require('./files');
 const { counts } = require('./harness');
 const { testInBrowser } = require('./browser');
 const { testContexts, testErrors, testPrinting, testRoundTrips, testTreeOfSample } = require('./without_port');
@@ -9,10 +10,15 @@ const { testLimitsMet, testSteps } = require('./limits_met');
 const { testKindTables, testKindsCommand } = require('./kinds');
 const { testOwnText } = require('./own_text');
 const { testPages } = require('./pages');
+const { testRound } = require('./round');
+const { testStrangeNames } = require('./strange_names');
+const { testExplain } = require('./explain');
 const { testStreams } = require('./streams');
+const { testWritten } = require('./written');
 const { testHunt, testKeeping, testRules, testTime, testUnknownKinds, testVerdicts } = require('./same_meaning');
 const { testCommand, testGuard, testGuardReaches, testRefusals, testResults, testSamples } = require('./with_port');
 
+ownCache();
 testTreeOfSample();
 testRoundTrips();
 testPrinting();
@@ -39,6 +45,10 @@ if (process.env.NEGBOSUN_PORT) {
   testOwnText();
   testOutputs();
   testStreams();
+  testRound();
+  testStrangeNames();
+  testWritten();
+  testExplain();
   testPages();
   testInBrowser();
 } else {

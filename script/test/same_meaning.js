@@ -8,14 +8,15 @@ const { NAMED, preorder } = require('../src/kinds');
 const { changesOf } = require('../src/changes');
 const { textOfTree } = require('../src/result_text');
 const { treeOfText } = require('../src/to_tree');
+const { guard } = require('../guard/guard');
 const { checkResult, leastLevel } = require('../same/check');
 const { keepShown } = require('../same/keep');
 const { LEVELS } = require('../same/levels');
-const { RULES } = require('../same/rules');
 const { ROOT, listed, read } = require('./files');
 const { gateScript } = require('./gate_scripts');
 const { each } = require('./harness');
 const { hunt } = require('./hunt');
+const { Page } = require('./page');
 
 // A result by hand, with the script's contexts where its text could not have them.
 function resultTree(text, root) {
@@ -29,17 +30,23 @@ function resultTree(text, root) {
   return tree;
 }
 
-function pairOf(line) {
-  const [, rule, level, script, result] = /^(\S+) (\S+) \| (.*?) ==> (.*)$/.exec(line);
+// A line of verdicts.txt.
+function verdictOf(line) {
+  const [, rule, least, differs, script, result] = /^(\S+) (\S+)\/(\S+) \| (.*?) ==> (.*)$/.exec(line);
   const root = treeOfText(script);
-  return { rule, level, root, result: resultTree(result, root), line };
+  return { rule, least, differs, root, result: resultTree(result, root), line };
 }
 
-// Not shown, and shown without the rule.
-function needed({ rule, level, root, result, line }) {
-  assert.strictEqual(checkResult(root, result, level).shown, false, `shown: ${line}`);
-  const { shown, findings } = checkResult(root, result, level, { without: [rule] });
-  assert.ok(shown, `not needed: ${line}: ${findings.map(({ reason }) => reason)}`);
+// Shown from a level on and at none below it, and no run at one of these tells the two apart; where a run is known that does, it still does.
+function hasVerdict({ least, differs, root, result, line }) {
+  const page = new Page(root, result);
+  const from = least === 'none' ? LEVELS.length : LEVELS.findIndex(({ name }) => name === least);
+  LEVELS.forEach(({ name }, index) => {
+    const { shown, findings } = checkResult(root, result, name);
+    assert.strictEqual(shown, index >= from, `${name}: ${line}: ${findings.map(({ reason }) => reason)}`);
+    if (shown) assert.strictEqual(page.difference(name, 20, 3), null, `differs at ${name}: ${line}`);
+  });
+  if (differs !== '-') assert.ok(page.difference(differs, 150, 3) || page.difference(differs, 150, 7), `no run differs at ${differs}: ${line}`);
 }
 
 function notShown(line) {
@@ -48,15 +55,32 @@ function notShown(line) {
   for (const { name } of LEVELS) assert.strictEqual(checkResult(root, resultTree(result, root), name).shown, false, `shown at ${name}: ${line}`);
 }
 
-// Each rule has a counterexample here and a paragraph in the document.
+// Where script and result part at the global object alone.
+function guardSees(line) {
+  const [script, result] = line.split(' ==> ');
+  const root = treeOfText(script);
+  assert.ok(guard(root, treeOfText(result), { seed: 1, trials: 60 }).differing > 0, line);
+}
+
+// What decides whether a result is shown; the rest words it.
+const KERNEL = 'allowed check expressions keys levels order plain run statements values variables'.split(' ');
+const MOST_LINES = 1200;
+
+// Each rule has its paragraph in the document and a counterexample here; all of them can be read in one sitting.
 function testRules() {
-  const pairs = listed('rules.txt').map(pairOf);
+  const verdicts = listed('verdicts.txt').map(verdictOf);
   const document = read(path.join(ROOT, 'docs', 'SAME_MEANING.md'));
-  each('each rule of the static check is needed', pairs, needed);
+  each('scripts and results with their verdicts', verdicts, hasVerdict);
   each('wrong results with patterns are not shown', listed('wrong_patterns.txt'), notShown);
-  each('each rule has its counterexample and its argument', RULES, (rule) => {
-    assert.ok(pairs.some((pair) => pair.rule === rule), `no counterexample: ${rule}`);
-    assert.ok(document.includes(`**${rule}**`), `not in docs/SAME_MEANING.md: ${rule}`);
+  const named = [...document.matchAll(/^- \*\*([a-z-]+)\*\*/gm)].map(([, rule]) => rule);
+  each('each rule has its paragraph and a result that it does not let pass', [...new Set([...named, ...verdicts.map(({ rule }) => rule)])], (rule) => {
+    assert.ok(named.includes(rule), `not in docs/SAME_MEANING.md: ${rule}`);
+    assert.ok(verdicts.some((verdict) => verdict.rule === rule && verdict.least !== 'anything'), `no counterexample: ${rule}`);
+  });
+  each('the guard sees differences in the global scope', listed('global_scope.txt'), guardSees);
+  each('the kernel is small', [0], () => {
+    const lines = KERNEL.map((name) => read(path.join(ROOT, 'script', 'same', `${name}.js`)).split('\n').length - 1);
+    assert.ok(lines.reduce((sum, count) => sum + count) < MOST_LINES);
   });
 }
 
@@ -155,10 +179,10 @@ function testKeeping() {
   });
 }
 
-// A smaller round of the hunt whose figures stand in docs/SCRIPT.md.
+// A sample of the hunts whose figures stand in docs/SCRIPT.md.
 function testHunt() {
-  each('no shown result differs in any run', [[300, { seed: 1, runs: 8 }], [300, { seed: 1, runs: 8, patterns: true }]], ([count, options]) => {
-    const all = hunt(count, options);
+  each('no shown result differs in any run', [{ seed: 1, runs: 4 }], (options) => {
+    const all = hunt(500, options);
     console.log(all.summary());
     assert.deepStrictEqual(all.wrong, []);
   });

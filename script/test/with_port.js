@@ -14,12 +14,12 @@ const { writeTreeFile } = require('../src/tree_file');
 const { treeOfText } = require('../src/to_tree');
 const { ScriptTrouble } = require('../src/trouble');
 const { anyScript } = require('./any_scripts');
-const { ROOT, RESULTS, read, sampleFile, sampleText, samples } = require('./files');
+const { ROOT, RESULTS, read, sampleFile, sampleText, samples, withoutProgress } = require('./files');
 const { each } = require('./harness');
 
 function inline(list, input = '', env = process.env) {
   const { status, stdout, stderr } = spawnSync(path.join(ROOT, 'script', 'inline'), list, { cwd: ROOT, input, env });
-  return { status, out: stdout, text: stdout.toString(), said: stderr.toString() };
+  return { status, out: stdout, text: stdout.toString(), said: withoutProgress(stderr.toString()) };
 }
 
 const lines = (count, make) => Array.from({ length: count }, (_, index) => make(index)).join('\n');
@@ -80,7 +80,7 @@ function sampleSize(name) {
 function testSamples() {
   each('samples have 100 to 600 nodes', samples(), sampleSize);
   each('results of samples and what the guard says', samples(), sampleResult);
-  each('comparison of a sample', [['midnight_sum', 0], ['tide', 4], ['wheel_speed', 3]], ([name, ended]) => {
+  each('comparison of a sample', [['midnight_sum', 0], ['tide', 0], ['wheel_speed', 3]], ([name, ended]) => {
     const { text, status } = inline(['--compare', sampleFile(name)]);
     assert.strictEqual(status, ended);
     assert.strictEqual(text, read(path.join(RESULTS, `${name}.compare`)));
@@ -220,7 +220,7 @@ function heldFolder() {
     fs.writeFileSync(core, CORE);
     const { status, said } = inline(['--no-guard', '--out-dir', built, well, core]);
     assert.strictEqual(status, 4);
-    assert.match(said, /2 scripts: 1 shown, 1 not shown\nnothing was written to .*: 1 of 2 scripts has no result/);
+    assert.match(said, /2 scripts: 1 not shown, 1 shown\nnothing was written to .*: 1 of 2 scripts has no result/);
     assert.strictEqual(fs.existsSync(built), false);
     assert.strictEqual(inline(['--no-guard', '--keep-shown', '--out-dir', built, well, core]).status, 0);
     assert.deepStrictEqual([read(path.join(built, 'well.js')), read(path.join(built, 'core.js'))], ['const a = 7; log(7);', CORE]);
@@ -247,7 +247,7 @@ function toolFails() {
   assert.match(said, /^script\/inline: an error of the tool itself, not of the script: .*\n$/);
   const many = inline(['--check', sampleFile('levels')], '', env);
   assert.strictEqual(many.status, 5);
-  assert.match(many.text, /levels.js: an error of the tool itself.*\n1 files: .* 1 on which the tool failed\n$/);
+  assert.match(many.text, /levels.js: an error of the tool itself.*\n1 script: 1 failed\n$/);
   const told = inline(['--json', sampleFile('levels'), sampleFile('tide')], '', env);
   assert.strictEqual(told.status, 5);
   assert.deepStrictEqual(JSON.parse(told.text).scripts.map(({ verdict }) => verdict.status), ['failed', 'failed']);
@@ -276,6 +276,45 @@ function samplesOfHost() {
   }
 }
 
+// A checkout without programs: the command's own files, and the folder that makes it one.
+function withoutTool() {
+  const folder = fs.mkdtempSync(path.join(os.tmpdir(), 'inline-'));
+  try {
+    fs.cpSync(path.join(ROOT, 'script'), path.join(folder, 'script'), { recursive: true, filter: (name) => path.basename(name) !== 'test' });
+    const { NEGBOSUN_PORT, NEGBOSUN_RESOLVER, ...unnamed } = process.env;
+    const resolver = { ...unnamed, NEGBOSUN_RESOLVER: path.join(ROOT, 'caller', 'target', 'release', 'negbosun-inline') };
+    const there = (list, env = resolver) => spawnSync(path.join(folder, 'script', 'inline'), list, { cwd: ROOT, env, encoding: 'utf8', input: 'f();' });
+    const tool = ' needs the Rust tool negbosun-inline, which is not there; ';
+    const again = 'install the package again: apt install --reinstall negbosun\n';
+    const made = 'build it: tools/build pass && (cd caller && cargo build --release)\n';
+    const told = { kinds: ['--kinds', 'samples/without_for_and_new.kinds'], runs: ['--runs', '3'] };
+    const expect = (list, said) => {
+      const outcome = there(list);
+      assert.deepStrictEqual([outcome.status, outcome.stdout, outcome.stderr], [2, '', said]);
+    };
+    for (const [name, list] of Object.entries(told)) {
+      expect([...list, '--check', 'samples/scripts'], `script/inline: --${name}${tool}${again}`);
+      expect([...list, '-'], `script/inline: --${name}${tool}${again}`);
+    }
+    fs.mkdirSync(path.join(folder, 'docs'));
+    expect(['--runs', '3', '--json', 'samples/scripts'], `script/inline: --runs${tool}${made}`);
+    expect(['--check', 'samples/scripts'], 'script/inline: the program that does the pass is not there; build it: tools/build negbosun, or name one: --port PROGRAM\n');
+    expect(['-'], 'script/inline: the program that does the pass is not there; build it: tools/build negbosun, or name one: --port PROGRAM\n');
+    assert.strictEqual(there(['--tree', '-']).status, 0);
+    for (const list of [['--check', 'samples/scripts'], ['-'], ['--tree', '-']]) {
+      const { status, stdout, stderr } = there(list, unnamed);
+      assert.deepStrictEqual([status, stdout, stderr], [2, '', `script/inline: the Rust tool negbosun-inline, which says which variable each name means, is not there; ${made}`]);
+    }
+    // The program that a look without proof leaves is taken, and it is said.
+    fs.mkdirSync(path.join(folder, 'target', 'unproved'), { recursive: true });
+    fs.symlinkSync(path.resolve(ROOT, NEGBOSUN_PORT || 'target/bin/negbosun'), path.join(folder, 'target', 'unproved', 'negbosun'));
+    const unproved = 'script/inline: the program that does the pass is target/unproved/negbosun, of which nothing is proved; tools/build negbosun proves and builds it\n';
+    assert.deepStrictEqual([there(['--no-guard', '-']).stderr, there(['--no-guard', '--check', '-']).status], [`${unproved}standard input: unchanged\n`, 0]);
+  } finally {
+    fs.rmSync(folder, { recursive: true });
+  }
+}
+
 const COMMANDS = {
   'result on standard output': () => assert.strictEqual(inline([], 'const a = 7; a;').text, 'const a = 7; 7;'),
   'lines': () => assert.match(inline(['--no-guard', '--lines'], 'const a = 7; a;').text, /^ok runs 2 changed 0 nodes 7\n1 0 2 0 0000000000000000\n/),
@@ -284,20 +323,20 @@ const COMMANDS = {
     const { text, status, said } = inline([], DIFFERING);
     assert.deepStrictEqual([text, status], ['', 3]);
     assert.match(said, /class 5 of docs\/DIFFERENCES.md/);
-    assert.match(said, /trials differ \(a test, no proof\)/);
+    assert.match(said, /\nstandard input: different; \d+ of 60 trials differ\n/);
   },
   'accepted': () => assert.strictEqual(inline(['--accept'], DIFFERING).status, 0),
   'accepted by class': () => {
     assert.deepStrictEqual([inline(['--accept=5'], DIFFERING).status, inline(['--accept=7'], DIFFERING).status], [0, 3]);
     const accepted = inline(['--host=apart', '--accept=19'], SWAPPED);
     assert.strictEqual(accepted.status, 0);
-    assert.match(accepted.said, / trials differ \(a test, no proof\); accepted all the same, as an option asked for\n$/);
-    assert.match(inline(['--accept=20'], SWAPPED).said, /--accept takes a number from 1 to 19\n$/);
+    assert.match(accepted.said, /\nstandard input: accepted; .*; \d+ of 60 trials differ\n/);
+    assert.match(inline(['--accept=22'], SWAPPED).said, /--accept takes a number from 1 to 21\n$/);
   },
   'without the guard the static check alone decides': () => {
     const { text, status, said } = inline(['--no-guard'], DIFFERING);
     assert.deepStrictEqual([text, status], ['', 4]);
-    assert.match(said, /not shown: `t`: .*\n.*the guard was not asked/);
+    assert.match(said, /not shown: `t`: .*\n.*: not shown at any --host; guard not asked\n/);
     assert.strictEqual(inline(['--no-guard', '--accept'], DIFFERING).status, 0);
     assert.strictEqual(inline(['--no-guard'], 'const a = 7; log(a);').status, 0);
   },
@@ -310,8 +349,13 @@ const COMMANDS = {
     assert.deepStrictEqual([inline(['--accept=5'], rest).status, inline(['--accept'], rest).status], [4, 0]);
   },
   'the level is printed, and the least that would do': () => {
-    assert.match(inline(['--no-guard'], 'const a = 7; log(a);').said, /shown for any host \(--host=anything\)/);
-    assert.match(inline(['--no-guard'], 'var x = 1; x;').said, /not shown for any host \(--host=anything\); it is shown for .* \(--host=apart\)/);
+    assert.match(inline(['--no-guard'], 'const a = 7; log(a);').said, /^standard input: shown at --host=anything; guard not asked\n {2}--host=anything: any host\n$/);
+    const words = {
+      apart: 'not shown at --host=anything; shown at --host=apart; guard not asked\n  --host=anything: any host\n  --host=apart: a host that neither ',
+      differs: 'different; 19 of 60 trials differ\n  trials: script and result run beside each other, a test and no proof\n  results that are not shown or different are not written: --keep-shown ',
+    };
+    assert.ok(inline(['--no-guard'], 'var x = 1; x;').said.includes(`\nstandard input: ${words.apart}`));
+    assert.ok(inline([sampleFile('wheel_speed')]).said.includes(`\n${sampleFile('wheel_speed')}: ${words.differs}`));
     assert.strictEqual(inline(['--host=nobody'], '').status, 2);
   },
   'remarks': remarks,
@@ -327,22 +371,31 @@ const COMMANDS = {
   'run limit out of range': () => assert.match(inline(['--runs', '17'], '').said, /refusal 1: /),
   'unknown option': () => assert.strictEqual(inline(['--what'], '').status, 2),
   'no port': () => assert.strictEqual(inline(['--port', 'nowhere'], '').status, 2),
+  'no port is told once for many scripts, before the first': () => {
+    for (const list of [['--check'], ['--json'], ['--page', 'nowhere/pages']]) {
+      const { status, text, said } = inline(['--port', 'nowhere', ...list, 'samples/scripts', 'nowhere.js']);
+      assert.deepStrictEqual([status, text], [2, '']);
+      assert.match(said, /^script\/inline: the program that does the pass is not there: nowhere; .*\n$/);
+    }
+  },
+  'what the Rust tool alone takes is told once where it is absent': withoutTool,
   'an empty script': () => assert.deepStrictEqual([inline([], '').text, inline([], '').status], ['', 0]),
   'check of well and differing files': () => {
     const { text, status } = inline(['--check', sampleFile('levels'), sampleFile('wheel_speed')]);
     assert.strictEqual(status, 3);
-    assert.match(text, /2 files: 1 shown, 0 unchanged, 0 accepted, 0 not shown, 1 whose result does something else, 0 refused, 0 that cannot be read, 0 on which the tool failed\n$/);
+    assert.match(text, /\n2 scripts: 1 different, 1 shown\n$/);
+    assert.strictEqual(text.split('  --host=anything: ').length, 2);
   },
   'check goes on whatever a script does': () => {
     const { text, status } = inline(['--check', WILD_FILE, sampleFile('levels')]);
     assert.strictEqual(status, 0);
     assert.match(text, /wild.js: shown .*; the guard could not judge: /);
-    assert.match(text, /levels.js: shown .*\n2 files: 2 shown, /);
+    assert.match(text, /levels.js: shown [^]*\n2 scripts: 2 shown\n$/);
   },
   'check with a file that is not there': () => {
     const { text, status } = inline(['--check', 'nowhere.js', sampleFile('levels')]);
     assert.strictEqual(status, 2);
-    assert.match(text, /^nowhere.js: no such file\n[^]*\n2 files: 1 shown, .* 1 that cannot be read, /);
+    assert.match(text, /^nowhere.js: no such file\n[^]*\n2 scripts: 1 not read, 1 shown\n$/);
   },
   'output whole or absent': outputIsWholeOrAbsent,
 };
