@@ -5,9 +5,9 @@ const { noteOf } = require('./compare');
 const { preorder } = require('./kinds');
 const { limitsOf } = require('./limits');
 const { countedVariables, whyChanged } = require('./reasons');
-const { treeOfText, withinDepth } = require('./to_tree');
+const { bareTreeOfText, treeOfText, withinDepth } = require('./to_tree');
 const { ScriptTrouble } = require('./trouble');
-const { FAILED, REFUSED, verdictOf } = require('./verdict');
+const { verdictOf, withoutVerdict } = require('./verdict');
 
 const count = (edits, how) => edits.filter((edit) => edit.how === how).length;
 
@@ -56,23 +56,25 @@ function accountOf({ name, text, root, answer, own, outcome, verdict, isHeld }) 
   };
 }
 
-// The room that a script takes, as far as it can be read at all.
-function limitsOfText(text) {
-  if (text === null) return [];
+function orNull(act) {
   try {
-    return withinDepth(text, () => limitsOf(treeOfText(text)));
+    return act();
   } catch (error) {
-    if (error instanceof ScriptTrouble) return [];
+    if (error instanceof ScriptTrouble) return null;
     throw error;
   }
 }
 
+// The room that a script takes, as far as it can be read at all; how many variables it has is known of one alone whose names are resolved.
+function limitsOfText(text) {
+  const [bare, root] = text === null ? [null, null] : [bareTreeOfText, treeOfText].map((read) => orNull(() => withinDepth(text, () => limitsOf(read(text)))));
+  return root || (bare || []).filter(({ name }) => name !== 'variables');
+}
+
 // A script that has no result: `refusals` have line, column (both null where there is no place), message and what to do.
-function refusedAccount(name, text, refusals, isToolsFault = false) {
-  const verdict = isToolsFault ? FAILED : REFUSED;
-  return {
-    file: name, verdict, isWritten: false, counts: null, limits: isToolsFault ? [] : limitsOfText(text), variables: [], changes: [], trials: null, refusals, script: text, result: null,
-  };
+function refusedAccount(name, text, refusals, verdict = withoutVerdict('refused')) {
+  const limits = verdict.status === 'failed' ? [] : limitsOfText(text);
+  return { file: name, verdict, isWritten: false, counts: null, limits, variables: [], changes: [], trials: null, refusals, script: text, result: null };
 }
 
 module.exports = { accountOf, refusedAccount };

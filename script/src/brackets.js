@@ -28,6 +28,39 @@ function unclosed(text, options) {
   return open.at(-1) || null;
 }
 
+// The tokens of a text up to where it cannot be read on.
+function tokensOf(text, options) {
+  const tokens = [];
+  try {
+    for (const token of acorn.tokenizer(text, options)) tokens.push(token);
+  } catch (error) {
+    if (!(error instanceof SyntaxError)) throw error;
+  }
+  return tokens;
+}
+
+// The token at a place, as the script has it, and the one before it; null where none begins there.
+function tokenAt(text, options, place) {
+  const tokens = tokensOf(text, options);
+  const index = tokens.findIndex(({ start }) => start === place);
+  if (index < 0) return null;
+  const written = ({ start, end }) => text.slice(start, end);
+  return { token: written(tokens[index]), before: index ? { text: written(tokens[index - 1]), at: tokens[index - 1].loc.start } : null };
+}
+
+// Whether a place stands in braces that an arrow's body begins with and that have a name and a colon first: an object, most likely.
+function isObjectBody(text, options, place) {
+  const tokens = tokensOf(text, options).filter(({ start }) => start < place);
+  const open = [];
+  tokens.forEach(({ type: { label } }, index) => {
+    if (CLOSING[label]) open.push(index);
+    else if (CLOSERS.has(label)) open.pop();
+  });
+  const at = open.at(-1);
+  const labels = [-1, 0, 1, 2].map((more) => (tokens[at + more] ? tokens[at + more].type.label : null));
+  return labels[0] === '=>' && labels[1] === '{' && ['name', 'string', 'num'].includes(labels[2]) && labels[3] === ':';
+}
+
 // How deep brackets stand in one another, and the place of the first one past `most`.
 function deepest(text, options, most) {
   let [depth, deep, place] = [0, 0, null];
@@ -39,4 +72,4 @@ function deepest(text, options, most) {
   return { deep, place };
 }
 
-module.exports = { deepest, unclosed };
+module.exports = { deepest, isObjectBody, tokenAt, unclosed };

@@ -4,9 +4,12 @@
 const { checkKinds, runPort } = require('./port');
 const { refusalTrouble, tableTrouble } = require('./refusals');
 const { treeOfText, withinDepth } = require('./to_tree');
-const { writeTreeFile, meaningOf } = require('./tree_file');
+const { hasFile, writeTreeFile, meaningOf } = require('./tree_file');
 
-const answerTo = (root, options) => runPort(writeTreeFile(root), meaningOf(root), options);
+const TOO_LONG = 3;
+
+// A list of more parts than a tree file can count is refused as the script that is too long which it makes.
+const answerTo = (root, options) => (hasFile(root) ? runPort(writeTreeFile(root), meaningOf(root), options) : { refused: TOO_LONG });
 
 function refusalOf(number, root, options) {
   return tableTrouble(number, root, options.kinds) || refusalTrouble(number, root, (other) => answerTo(other, options).refused, { runs: options.runs });
@@ -23,4 +26,11 @@ function build(text, options) {
   });
 }
 
-module.exports = { build };
+// The script's tree file alone.
+function treeFileOf(text) {
+  const root = treeOfText(text);
+  if (!hasFile(root)) throw refusalTrouble(TOO_LONG, root, () => TOO_LONG, {});
+  return writeTreeFile(root);
+}
+
+module.exports = { build, treeFileOf };

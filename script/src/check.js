@@ -1,49 +1,30 @@
-// Many files: a line for each, a summary, and an exit status for a build.
+// Many files: lines for each, a summary, and an exit status for a build.
 'use strict';
 
-const { nameOf, readScript } = require('./input');
-const { runOne } = require('./run_one');
-const { findingsOf, sortOfError, worstOf } = require('./status');
-const { ScriptTrouble } = require('./trouble');
-const { progress, write } = require('./output');
+const { scriptsOf } = require('./input');
+const { write } = require('./output');
+const { round } = require('./round');
+const { legendLines } = require('./short');
+const { worstOf } = require('./status');
+const { summaryOf } = require('./verdict');
 
-// One file's outcome; no error on a file ends the round.
-function outcomeOf(file, options) {
-  const name = nameOf(file);
-  try {
-    const { lines, sort } = runOne(readScript(file), name, { ...options, output: 'result' });
-    return { sort, lines };
-  } catch (error) {
-    return { sort: sortOfError(error), lines: new ScriptTrouble(findingsOf(error)).lines(name) };
-  }
+// What the verdicts mean, and the summary, the worst first.
+function endLines(entries) {
+  const legend = legendLines(entries.map(({ short }) => short), entries.map(({ sort }) => sort));
+  return [...legend, `${entries.length} ${entries.length === 1 ? 'script' : 'scripts'}: ${summaryOf(entries.map(({ status }) => status))}`];
 }
 
-const SORTS = {
-  shown: 'shown',
-  unchanged: 'unchanged',
-  accepted: 'accepted',
-  unshown: 'not shown',
-  differs: 'whose result does something else',
-  refused: 'refused',
-  wrong: 'that cannot be read',
-  tool: 'on which the tool failed',
-};
+const textOf = (lines) => lines.map((line) => `${line}\n`).join('');
 
 // The worst outcome decides.
-function check(options) {
-  const counts = Object.fromEntries(Object.keys(SORTS).map((sort) => [sort, 0]));
-  const lines = [];
-  options.files.forEach((file, index) => {
-    progress(index, options.files.length, file);
-    const outcome = outcomeOf(file, options);
-    counts[outcome.sort] += 1;
-    lines.push(...outcome.lines);
-  });
-  progress(options.files.length, options.files.length, '');
-  const sums = Object.entries(SORTS).map(([sort, words]) => `${counts[sort]} ${words}`);
-  lines.push(`${options.files.length} files: ${sums.join(', ')}`);
-  write(`${lines.join('\n')}\n`, options.out, options.files);
-  return worstOf(Object.keys(SORTS).filter((sort) => counts[sort]));
+async function check(options) {
+  const kept = [];
+  // A file is there whole or not at all; who looks on sees each script as soon as it is done.
+  const put = (lines) => (options.out ? kept.push(...lines) : write(textOf(lines)));
+  const entries = await round(scriptsOf(options.files), options, ({ lines }) => put(lines));
+  put(endLines(entries));
+  if (options.out) write(textOf(kept), options.out, options.files);
+  return worstOf(entries.map(({ sort }) => sort));
 }
 
-module.exports = { check };
+module.exports = { check, endLines };

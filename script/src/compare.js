@@ -2,6 +2,7 @@
 'use strict';
 
 const { rowsOf, textOf } = require('./rows');
+const { visible } = require('./visible');
 
 const oneLine = (text) => text.replace(/\s+/g, ' ').trim();
 
@@ -34,7 +35,7 @@ function countedLines(roots) {
 
 // `text` is the script's own text, `own` its edits, `roots` the variables of its top.
 function compare(text, own, roots = []) {
-  return `${[...rowsOf(text, own.edits).flatMap(rowText), ...countedLines(roots)].join('\n')}\n`;
+  return `${[...rowsOf(text, own.edits).flatMap(rowText), ...countedLines(roots)].map(visible).join('\n')}\n`;
 }
 
 module.exports = { compare, noteOf };

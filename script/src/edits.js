@@ -2,7 +2,7 @@
 'use strict';
 
 const acorn = require('acorn');
-const { K, identityOf, isStatement, preorder } = require('./kinds');
+const { K, identityOf, isFunction, isStatement, preorder } = require('./kinds');
 const { walk } = require('./changes');
 const { PARSER } = require('./parse');
 const { needsParentheses } = require('./precedence');
@@ -33,6 +33,17 @@ function runsOn(statement, place, text) {
   return last !== ';' && (last !== '}' || [K.declaration, K.expression, K.return, K.throw].includes(before.kind));
 }
 
+// Whether statements begin with the directive that makes what they stand in strict.
+function beginsStrict(statements) {
+  for (const { kind, children: [text], at } of statements) {
+    if (kind !== K.expression || text.kind !== K.string) return false;
+    if (at.directive === 'use strict') return true;
+  }
+  return false;
+}
+
+const isStrictList = ({ kind, children }) => (kind === K.script || kind === K.block) && beginsStrict(children);
+
 class Editor {
   constructor(root, text, cautious) {
     this.text = text;
@@ -56,6 +67,12 @@ class Editor {
     return this.edit('emptied', node, after, { start, end }, written);
   }
 
+  // A function's directive holds for its parameters, too.
+  isStrict(node) {
+    for (let at = node; at; at = (this.parents.get(at) || {}).parent) if (isStrictList(at) || (isFunction(at) && isStrictList(at.children.at(-1)))) return true;
+    return false;
+  }
+
   // The statement that begins with this very node, if any.
   begun(node) {
     let [at, place] = [node, this.parents.get(node)];
@@ -69,9 +86,9 @@ class Editor {
   }
 
   replaced(how, node, after) {
-    if (isStatement(node)) return this.edit(how, node, after, node.at, this.source.printed(after));
+    if (isStatement(node)) return this.edit(how, node, after, node.at, this.source.printed(after, this.isStrict(node)));
     const { parent, index } = this.parents.get(node);
-    const plain = this.source.valueText(after, node.text === null ? null : identityOf(node));
+    const plain = this.source.valueText(after, node.text === null ? null : identityOf(node), this.isStrict(node));
     const closed = (this.cautious && plain.length > 1 && after.kind !== K.parenthesis) || needsParentheses(parent, index, after);
     const written = this.separated(node, closed ? `(${plain})` : plain);
     return this.edit(how, node, after, node.at, this.isShort(parent) ? `${parent.text}: ${written}` : written);

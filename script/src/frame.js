@@ -2,6 +2,7 @@
 'use strict';
 
 const { LINE_END } = require('./rows');
+const { visible } = require('./visible');
 
 const WIDEST = 100;
 
@@ -19,7 +20,9 @@ function frame(text, { line, column }) {
   if (own === undefined) return [];
   const { shown, column: at } = cut(own.replace(/\t/g, ' '), Math.min(column, own.length));
   const number = String(line);
-  return [`    ${number} | ${shown}`.trimEnd(), `    ${' '.repeat(number.length)} | ${' '.repeat(at)}^`];
+  // What is written out is longer than it was.
+  const before = visible(shown.slice(0, at)).length;
+  return [`    ${number} | ${visible(shown)}`.trimEnd(), `    ${' '.repeat(number.length)} | ${' '.repeat(before)}^`];
 }
 
 // All lines of a script's trouble; `text` is null where the script could not be read.
@@ -28,7 +31,7 @@ function troubleLines(error, file, text) {
   return error.findings.flatMap(({ at, hint }, index) => [
     heads[index],
     ...(at && text !== null ? frame(text, at) : []),
-    ...(hint ? [`  ${hint}`] : []),
+    ...(hint ? [visible(`  ${hint}`)] : []),
   ]);
 }
 

@@ -1,9 +1,11 @@
-// HTML from texts: what is not made by these functions is escaped.
+// HTML from texts: what is not made by these functions is escaped, and what would turn the order of what is read is written out.
 'use strict';
+
+const { visible } = require('./visible');
 
 const ENTITIES = { '&': '&amp;', '<': '&lt;', '>': '&gt;', '"': '&quot;', "'": '&#39;' };
 
-const escaped = (text) => String(text).replace(/[&<>"']/g, (sign) => ENTITIES[sign]);
+const escaped = (text) => visible(text).replace(/[&<>"']/g, (sign) => ENTITIES[sign]);
 
 // Finished HTML, which is not escaped again.
 class Html {

@@ -2,87 +2,66 @@
 'use strict';
 
 const path = require('path');
-const { refusedAccount } = require('./account');
+const { endLines } = require('./check');
+const { onPage } = require('./entry');
 const { writeFolder } = require('./folder');
-const { troubleLines } = require('./frame');
-const { isFolder, nameOf, readScript, scriptsOf } = require('./input');
-const { progress, write } = require('./output');
-const { pageOf } = require('./page');
-const { indexOf, summary } = require('./page_index');
-const { runOne } = require('./run_one');
-const { findingsOf, sortOfError, worstOf } = require('./status');
-const { ScriptTrouble, UsageTrouble } = require('./trouble');
-const { VERSION } = require('./version');
+const { FORMATS } = require('./formats');
+const { isFolder, scriptsOf } = require('./input');
+const { write } = require('./output');
+const { indexOf } = require('./page_index');
+const { round } = require('./round');
+const { worstOf } = require('./status');
+const { UsageTrouble } = require('./trouble');
+const { visible } = require('./visible');
 
-const refusalOf = ({ at, message, hint = null }) => ({ line: at ? at.line : null, column: at ? at.column + 1 : null, message, hint });
-
-// A script that has no result, with what is said of it.
-function withoutResult(script, error, text) {
-  const [name, sort, findings] = [nameOf(script.file), sortOfError(error), findingsOf(error)];
-  const account = refusedAccount(name, text, findings.map(refusalOf), sort === 'tool');
-  return { ...script, account, edits: null, content: null, sort, told: troubleLines(new ScriptTrouble(findings), name, text) };
-}
-
-function entryOf(script, options) {
-  let text = null;
-  try {
-    text = readScript(script.file);
-    const { content, report, sort, account, edits } = runOne(text, nameOf(script.file), { ...options, output: 'result' });
-    return { ...script, account: account(), edits: edits(), content, sort, told: report ? [report] : [] };
-  } catch (error) {
-    return withoutResult(script, error, text);
-  }
-}
-
-function entriesOf(options) {
-  const scripts = scriptsOf(options.files.length ? options.files : ['-']);
-  const entries = scripts.map((script, index) => {
-    progress(index, scripts.length, script.file);
-    return entryOf(script, options);
-  });
-  progress(scripts.length, scripts.length, '');
-  return entries;
+// One script's page is a file; of more there is a folder with an index, to which each page leads back.
+function withHomes(scripts, { page, files }) {
+  const isOneFile = page !== undefined && scripts.length === 1 && !page.endsWith('/') && !isFolder(page) && !files.some(isFolder);
+  if (page === '-' && !isOneFile) throw new UsageTrouble('--page - is for one script; name a folder for many');
+  const homeOf = ({ inside }) => `${'../'.repeat(inside.split(path.sep).length - 1)}index.html`;
+  return { isOneFile, scripts: scripts.map((script) => ({ ...script, home: isOneFile ? null : homeOf(script) })) };
 }
 
 const linkOf = (name) => name.split(path.sep).map(encodeURIComponent).join('/');
 
 // The page of each script, and the index.
 function pageFiles(entries) {
-  const pages = entries.map((entry) => {
-    const home = `${'../'.repeat(entry.inside.split(path.sep).length - 1)}index.html`;
-    return { inside: `${entry.inside}.html`, content: pageOf(entry.account, entry.edits, home), account: entry.account };
-  });
-  const index = indexOf(pages.map(({ inside, account }) => ({ account, link: linkOf(inside) })));
+  const pages = entries.map(({ inside, page }) => ({ inside: `${inside}.html`, content: page }));
+  const index = indexOf(entries.map((entry) => ({ account: onPage(entry), link: linkOf(`${entry.inside}.html`) })));
   return [...pages, { inside: 'index.html', content: index }];
 }
 
-function writePages(entries, { page, files }) {
-  const isOneFile = entries.length === 1 && !page.endsWith('/') && !isFolder(page) && !files.some(isFolder);
-  if (isOneFile) write(pageOf(entries[0].account, entries[0].edits), page === '-' ? undefined : page, files, '--page');
-  else if (page === '-') throw new UsageTrouble('--page - is for one script; name a folder for many');
-  else writeFolder(page, pageFiles(entries), entries.map(({ file }) => file), '--page');
+// What is left of scripts that are gone.
+function sayLeft(folder, left, { clean }, say) {
+  for (const name of left) say(visible(`${path.join(folder, name)}: ${clean ? 'removed, its script is gone' : 'its script is gone; --clean removes it'}`));
+}
+
+function writePages(entries, options, isOneFile, say) {
+  const { page, files, clean } = options;
+  if (isOneFile) write(entries[0].page, page === '-' ? undefined : page, files, '--page');
+  else sayLeft(page, writeFolder(page, pageFiles(entries), entries.map(({ file }) => file), '--page', clean), options, say);
 }
 
 // All results or none.
-function writeResults(entries, { outDir }, say) {
+function writeResults(entries, options, say) {
+  const { outDir, clean } = options;
   const without = entries.filter(({ content }) => content === null).length;
   if (without) {
-    say(`nothing was written to ${outDir}: ${without} of ${entries.length} scripts ${without === 1 ? 'has' : 'have'} no result that may be written`);
+    say(visible(`nothing was written to ${outDir}: ${without} of ${entries.length} scripts ${without === 1 ? 'has' : 'have'} no result that may be written`));
     return;
   }
-  writeFolder(outDir, entries, entries.map(({ file }) => file), '--out-dir');
+  sayLeft(outDir, writeFolder(outDir, entries, entries.map(({ file }) => file), '--out-dir', clean), options, say);
 }
 
-const jsonOf = (entries) => `${JSON.stringify({ version: VERSION, scripts: entries.map(({ account }) => account) }, null, 2)}\n`;
-
 // The worst of all decides.
-function many(options, say) {
-  const entries = entriesOf(options);
-  entries.forEach(({ told }) => told.forEach(say));
-  if (entries.length > 1) say(`${entries.length} scripts: ${summary(entries.map(({ account }) => account))}`);
+async function many(options, say) {
+  const { isOneFile, scripts } = withHomes(scriptsOf(options.files.length ? options.files : ['-']), options);
+  const entries = await round(scripts, options, ({ told }) => told.forEach((line) => say(line)));
+  const end = endLines(entries);
+  (entries.length > 1 ? end : end.slice(0, -1)).forEach((line) => say(line));
   if (options.outDir !== undefined) writeResults(entries, options, say);
-  if (options.page !== undefined) writePages(entries, options);
-  if (options.json) write(jsonOf(entries), options.out, options.files);
+  if (options.page !== undefined) writePages(entries, options, isOneFile, say);
+  if (options.format) write(FORMATS[options.format](entries.map(({ account }) => account)), options.out, options.files);
   return worstOf(entries.map(({ sort }) => sort));
 }
 

@@ -6,7 +6,7 @@ const { TITLES } = require('../guard/classify');
 const { DEFAULT_LEVEL, LEVELS, levelOf } = require('../same/levels');
 const many = require('./many_options');
 const { readKindTable } = require('./kind_table');
-const { DOCS, NAME } = require('./name');
+const { DOCS, NAME, PROGRAM, SAMPLES } = require('./name');
 const { MOST_RUNS } = require('./port');
 const { UsageTrouble } = require('./trouble');
 const { VERSION } = require('./version');
@@ -26,6 +26,8 @@ written. As a second opinion both are run beside each other against made-up host
 
 What is written:
   --compare         script and result line by line, with each replaced name and each emptied declaration
+  --explain FILE:LINE  a line that is not shown: script and result beside each other, what is in the way, what would have to hold,
+                    and the smallest rewrite that is shown
   --check           go through many files: a line for each, a summary, an exit status
   --out FILE        write there instead of to standard output (-), whole or not at all
 ${many.WRITTEN}  --tree            the script's one tree file alone
@@ -47,22 +49,23 @@ The guard, the second opinion:
   --trials N        how many made-up hosts (60)
   --seed N          other made-up hosts (1)
   --no-guard        do not run script and result beside each other; the verdict is by what is shown alone
-
+${many.CACHE}
 The pass:
-  --kinds FILE      the mill's own kind table, 48 lines of 48 digits (samples/without_for_and_new.kinds): what it forbids is refused
+  --kinds FILE      the mill's own kind table, 48 lines of 48 digits: what it forbids is refused
+                    (${SAMPLES}/without_for_and_new.kinds)
   --runs N          at most N runs, 1 to ${MOST_RUNS} (${MOST_RUNS})
-${many.LIMITS}  --port PROGRAM    the program that does it (NEGBOSUN_PORT, or target/bin/negbosun)
+${many.LIMITS}${many.ROUND}  --port PROGRAM    the program that does it (NEGBOSUN_PORT, or ${PROGRAM})
 
   --version         the version
   -h, --help        this text
 
 Exit status: 0 shown, unchanged or accepted; 1 refused (with many scripts: at least one); 2 called wrongly, no such file, or
 the program that does the pass is not there; 3 the result does something else; 4 not shown, and no difference found; 5 an error
-of the tool itself. Classes are those of ${DOCS}/DIFFERENCES.md. ${DOCS}/MILLERS.md says what may be written in a script.
+of the tool itself; 6 standard output is closed or full. Classes are those of ${DOCS}/DIFFERENCES.md. ${DOCS}/MILLERS.md says what may be written in a script.
 `;
 
 const FLAGS = ['tree', 'lines', 'compare', 'check', 'no-guard', 'keep-shown', 'unshown', 'help', ...many.FLAGS];
-const VALUES = ['out', 'runs', 'trials', 'seed', 'port', 'accept', 'host', 'samples', 'kinds', ...many.VALUES];
+const VALUES = ['explain', 'out', 'runs', 'trials', 'seed', 'port', 'accept', 'host', 'samples', 'kinds', ...many.VALUES];
 const SHORT = { help: { type: 'boolean', short: 'h' } };
 const MOST_TRIALS = 100000;
 const LAST_CLASS = Math.max(...Object.keys(TITLES));
@@ -103,6 +106,16 @@ function parsed(list) {
   }
 }
 
+// FILE:LINE, as verdicts name a place; a column behind it does no harm. The file takes its place among the files.
+function explainedPlace(text, files) {
+  if (text === undefined) return { line: null };
+  const place = /^(.+?):(\d+)(?::\d+)?$/.exec(text);
+  if (!place || Number(place[2]) < 1) throw new UsageTrouble('--explain takes FILE:LINE, as gate.js:16');
+  if (files.length) throw new UsageTrouble('--explain takes the file with its line, and no other file');
+  files.push(place[1]);
+  return { line: Number(place[2]) };
+}
+
 // Numbers behind `--accept` stand for classes only with the sign between.
 function checkAccept(text, files) {
   const numbers = text === '' ? files.find((name) => /^\d+(,\d+)*$/.test(name)) : undefined;
@@ -114,14 +127,17 @@ function readOptions(list) {
   if (values.help) return { help: HELP };
   if (values.version) return { help: `negbosun ${VERSION}\n` };
   checkAccept(values.accept, files);
-  const kinds = ['tree', 'lines', 'compare', 'check'].filter((name) => values[name]);
+  const kinds = ['tree', 'lines', 'compare', 'explain', 'check'].filter((name) => values[name] !== undefined && values[name] !== false);
+  const { line } = explainedPlace(values.explain, files);
   if (kinds.length > 1) throw new UsageTrouble(`--${kinds[0]} and --${kinds[1]} do not go together`);
   const more = many.readMany(values, files, kinds);
   if (!values.check && !more.isMany && files.length > 1) throw new UsageTrouble('one file at a time; --check, --out-dir, --page and --json take many');
   if (values.check && !files.length) throw new UsageTrouble('--check takes the files to go through');
   return {
     ...more,
+    list,
     files,
+    line,
     output: kinds[0] || 'result',
     out: values.out === '-' ? undefined : values.out,
     runs: values.runs === undefined ? undefined : runLimit(values.runs),

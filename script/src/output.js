@@ -3,15 +3,37 @@
 
 const fs = require('fs');
 const path = require('path');
-const tty = require('tty');
 const { writeAll } = require('./descriptor');
-const { UsageTrouble } = require('./trouble');
+const { OutputTrouble, UsageTrouble } = require('./trouble');
+
+// A file that nobody may write is not replaced either, whatever its folder allows and whoever asks.
+function checkWritable(place, name) {
+  const isOpen = (fs.statSync(place).mode & 0o222) !== 0;
+  try {
+    if (isOpen) fs.accessSync(place, fs.constants.W_OK);
+  } catch {
+    throw new UsageTrouble(`${name}: this file may not be written by whoever calls the command`);
+  }
+  if (!isOpen) throw new UsageTrouble(`${name}: this file is read-only; name another one, or allow it: chmod u+w`);
+}
+
+// What is put in a file's place may be read, written and run by those who might before, and is its owner's, where the system lets it be given away.
+function likeBefore(made, place) {
+  const { mode, uid, gid } = fs.statSync(place);
+  try {
+    fs.chownSync(made, uid, gid);
+  } catch (error) {
+    if (error.code !== 'EPERM') throw error;
+  }
+  fs.chmodSync(made, mode & 0o7777);
+}
 
 // Where a name leads in the end; a device or folder is never replaced, nor a script by its result.
 function placeOf(file, scripts, option) {
   if (!fs.existsSync(file)) return file;
   const real = fs.realpathSync(file);
   if (!fs.statSync(real).isFile()) throw new UsageTrouble(`${option} ${file}: not a plain file`);
+  checkWritable(real, `${option} ${file}`);
   if (scripts.some((script) => fs.existsSync(script) && fs.realpathSync(script) === real)) throw new UsageTrouble(`${option} ${file}: that is the script`);
   return real;
 }
@@ -48,6 +70,7 @@ function writeFile(file, bytes, scripts, option) {
   const beside = path.join(path.dirname(place), `.${path.basename(place)}.${process.pid}`);
   try {
     fs.writeFileSync(beside, bytes, { flag: 'wx' });
+    if (fs.existsSync(place)) likeBefore(beside, place);
     fs.renameSync(beside, place);
   } catch (error) {
     remove(beside);
@@ -63,11 +86,14 @@ function refuseOwnOutput(files) {
   if (own !== undefined) throw new UsageTrouble(`standard output is ${own} itself, of which \`>\` leaves nothing; name another file, by --out or behind \`>\``);
 }
 
+// node puts /dev/null in the place of a standard output that is closed; whoever calls it has looked before.
 function writeOut(bytes) {
+  if (process.env.NEGBOSUN_STDOUT === 'closed') throw new OutputTrouble('standard output is closed');
   try {
     writeAll(1, bytes);
   } catch (error) {
-    throw plainly(error, 'standard output');
+    if (!error.syscall) throw error;
+    throw new OutputTrouble(plainly(error, 'standard output').message);
   }
 }
 
@@ -89,9 +115,4 @@ function tell(text) {
 
 const say = (text) => tell(`${text}\n`);
 
-// A line that is written over, where a person looks on.
-function progress(done, count, file) {
-  if (tty.isatty(2)) tell(done < count ? `\r\x1b[K${done + 1} of ${count}: ${file}` : '\r\x1b[K');
-}
-
-module.exports = { plainly, progress, refuseOwnOutput, remove, say, write };
+module.exports = { checkWritable, likeBefore, plainly, refuseOwnOutput, remove, say, tell, write };

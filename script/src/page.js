@@ -20,6 +20,7 @@ function verdictPart({ verdict, isWritten, counts }) {
   const changed = counts ? html`<p>${countWords(counts)}</p>` : '';
   return html`<section class="verdict" aria-label="Verdict">
 <p><strong><span class="sign" aria-hidden="true">${verdict.sign}</span> ${verdict.title}</strong></p>
+<p class="short"><code>${verdict.summary}</code></p>
 <p>${verdict.words}</p>${level}${least}${verdict.tests ? html`<p>${verdict.tests}</p>` : ''}${written}${changed}
 </section>`;
 }

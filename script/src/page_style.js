@@ -27,7 +27,7 @@ code, .code { font-family: ui-monospace, "DejaVu Sans Mono", monospace; font-siz
 table { border-collapse: collapse; width: 100%; }
 th { text-align: left; font-weight: 600; }
 .plain th, .plain td { padding: .2rem .6rem .2rem 0; border-bottom: 1px solid var(--line); vertical-align: top; }
-.plain td.number, .plain th.number { text-align: right; }
+.plain td.number, .plain th.number { text-align: right; width: 7.5rem; }
 `;
 
 const SIDES = `.sides { table-layout: fixed; border: 1px solid var(--line); }
@@ -61,6 +61,7 @@ const NARROW = `@media (max-width: 45rem) {
   .plain, .plain tbody { display: block; }
   .plain tr { display: flex; flex-wrap: wrap; gap: 0 .8rem; padding: .3rem 0; border-bottom: 1px solid var(--line); }
   .plain td { border: 0; padding: 0; overflow-wrap: anywhere; }
+  .plain td.number { width: auto; }
   .plain td.number::before { content: attr(data-head) " "; color: var(--soft); }
 }
 `;

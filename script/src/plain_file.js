@@ -14,6 +14,8 @@ const WORDS = {
   ENOTDIR: ['no such file', 'a part of the name before it is a file and no folder'],
   ELOOP: ['no such file', 'this link leads to itself'],
   FOLDER: ['this folder may not be read', 'let its owner allow it: chmod +rx'],
+  ODD: ['this name is not UTF-8', 'give the file another name'],
+  UNREAD: ['no such file', `a name that is not UTF-8 cannot be given; name the file otherwise, or give it on standard input: ${NAME} - < FILE`],
   PLAIN: ['this is no plain file', `what a program writes is taken from standard input: PROGRAM | ${NAME} -`],
 };
 
@@ -22,12 +24,15 @@ function fileTrouble(code, message) {
   return new FileTrouble([{ at: null, message: words, hint }]);
 }
 
-// Errors of the system in plain words.
-function inWords(act) {
+const oddName = () => fileTrouble('ODD');
+
+// Errors of the system in plain words. In an argument that is not UTF-8 the sign U+FFFD stands for what was strange.
+function inWords(file, act) {
   try {
     return act();
   } catch (error) {
     if (!error.syscall) throw error;
+    if (error.code === 'ENOENT' && file && file.includes('\ufffd')) throw fileTrouble('UNREAD');
     throw fileTrouble(error.code === 'EACCES' && error.syscall === 'scandir' ? 'FOLDER' : error.code, error.message);
   }
 }
@@ -53,7 +58,7 @@ function opened(file, act) {
 
 // Standard input where no file is named.
 function bytesOf(file, most) {
-  return inWords(() => {
+  return inWords(file, () => {
     if (file === null) return readAll(0, most);
     checkKind(file);
     return opened(file, (descriptor) => readAll(descriptor, most));
@@ -62,4 +67,4 @@ function bytesOf(file, most) {
 
 const sizeText = (size) => (size > MOST_COUNTED ? `over ${figure(MOST_COUNTED)} bytes` : `${figure(size)} bytes`);
 
-module.exports = { bytesOf, sizeText };
+module.exports = { bytesOf, oddName, sizeText };

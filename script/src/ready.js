@@ -2,7 +2,7 @@
 'use strict';
 
 var LEAST = [18, 3];
-var LIBRARIES = ['acorn', 'eslint-scope', 'escodegen', 'magic-string'];
+var LIBRARIES = ['acorn', 'escodegen', 'magic-string'];
 
 function isOld(version) {
   var parts = version.split('.').map(Number);

@@ -1,9 +1,10 @@
 // The refusals in plain words, with the place in the text where one can be told.
 'use strict';
 
-const { K, NAMED, TEXTED, identityOf, isStatement, preorder } = require('./kinds');
+const { K, NAMED, TEXTED, isStatement, preorder } = require('./kinds');
 const { forbiddenWords } = require('./kind_table');
 const { LIMITS, limitText, limitsOf } = require('./limits');
+const { DOCS } = require('./name');
 const { countsOf, metLimit } = require('./running');
 const { ScriptTrouble, UsageTrouble, trouble } = require('./trouble');
 
@@ -13,7 +14,7 @@ const WORDS = {
   3: 'the script is too long: over 1,024 nodes, 256 different names and texts, or 4,096 bytes of them',
   4: 'a length or offset in the tree file is not the sum of its parts',
   5: 'the texts of the tree file are out of order, or two are the same',
-  6: 'the script is nested over 200 deep, or its tree file has a node where the format (docs/TREE.md) allows none of its kind',
+  6: `the script is nested over 200 deep, or its tree file has a node where the format (${DOCS}/TREE.md) allows none of its kind`,
   7: 'the script has over 256 different variables',
   8: 'while running, the script or what was put in its place came to be over 200 deep (a constant may name itself), '
     + 'over 32 scopes were open in one another, or over 12 right sides of && and ||',
@@ -48,15 +49,6 @@ function tooDeep(node, depth = 1) {
   return null;
 }
 
-function overNamed(root) {
-  const seen = new Set();
-  for (const node of preorder(root)) {
-    if (NAMED.has(node.kind)) seen.add(identityOf(node));
-    if (seen.size > LIMITS.variables) return node;
-  }
-  return null;
-}
-
 const LISTS = new Set([K.script, K.block, K.case]);
 
 // The statements that stand in lists, in the tree file's order.
@@ -80,7 +72,14 @@ function firstRefused(root, refusal, refusalOf) {
   return statements[low] || null;
 }
 
-const PLACES = { 3: overLong, 6: (root) => tooDeep(root), 7: overNamed, 8: firstRefused, 9: firstRefused };
+// Of a statement with one name that name.
+function firstOverNamed(root, refusal, refusalOf) {
+  const found = firstRefused(root, refusal, refusalOf);
+  const names = found ? [...preorder(found)].filter(({ kind }) => NAMED.has(kind)) : [];
+  return names.length === 1 ? names[0] : found;
+}
+
+const PLACES = { 3: overLong, 6: (root) => tooDeep(root), 7: firstOverNamed, 8: firstRefused, 9: firstRefused };
 
 // Which of the script's counts pass a limit, in words.
 const passed = (root, names) => limitsOf(root).filter(({ name, count, most }) => names.includes(name) && count > most).map(limitText).join('; ');
@@ -88,7 +87,6 @@ const passed = (root, names) => limitsOf(root).filter(({ name, count, most }) =>
 const DETAILS = {
   3: (root) => passed(root, ['nodes', 'texts', 'textBytes']),
   6: (root) => passed(root, ['depth']),
-  7: (root) => passed(root, ['variables']),
   8: (root) => countsOf(8, root),
   9: (root) => countsOf(9, root),
 };
@@ -114,13 +112,17 @@ function placeOf(number, root, refusalOf) {
 
 const startOf = (at) => (at ? at.loc.start : null);
 
-// `options` are those of the counted steps: the run limit, and how many steps are counted.
-function refusalTrouble(number, root, refusalOf, options) {
-  const met = metLimit(number, root, options);
-  if (met) return trouble(startOf(met.at), `refusal ${number}: ${met.words}`, met.hint);
+// What is known of a refusal without counting steps.
+function placedTrouble(number, root, refusalOf) {
   const node = placeOf(number, root, refusalOf);
   const detail = (DETAILS[number] && DETAILS[number](root)) || WORDS[number];
   return trouble(node ? startOf(node.at) : null, `refusal ${number}: ${detail}`, HINTS[number] || null);
+}
+
+// `options` are those of the counted steps: the run limit, and how many steps are counted.
+function refusalTrouble(number, root, refusalOf, options) {
+  const met = metLimit(number, root, options);
+  return met ? trouble(startOf(met.at), `refusal ${number}: ${met.words}`, met.hint) : placedTrouble(number, root, refusalOf);
 }
 
 const NOT_AT_THIS_MILL = 'the mill\'s kind table forbids it; write it in another way';
@@ -133,4 +135,4 @@ function tableTrouble(number, root, kinds) {
   return found && trouble(found.node.at.loc.start, `refusal 6: ${forbiddenWords(kinds, found)}`, NOT_AT_THIS_MILL);
 }
 
-module.exports = { HINTS, refusalTrouble, tableTrouble, WORDS };
+module.exports = { HINTS, placedTrouble, refusalTrouble, tableTrouble, WORDS };

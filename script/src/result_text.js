@@ -4,7 +4,8 @@
 const { K, NAMED, identityOf, preorder } = require('./kinds');
 const { estreeOf } = require('./from_tree');
 const { print } = require('./print');
-const { treeOfText } = require('./to_tree');
+const { addContexts } = require('./contexts');
+const { bareTreeOfText } = require('./to_tree');
 const { ScriptTrouble, trouble } = require('./trouble');
 
 // Pairs of nodes of a tree and of its printed text's tree, in which the printer may have added parentheses; null where they part.
@@ -20,11 +21,28 @@ function* readAgain(node, again) {
 
 const sameText = ([node, again]) => node.text === again.text && (NAMED.has(node.kind) || node.bits === again.bits);
 
+// A copy of a tree in which each node has its place in the printed text.
+function placed(root, pairs) {
+  const places = new Map(pairs.map(([node, again]) => [node, again.at]));
+  const copy = (node) => ({ ...node, at: places.get(node), children: node.children.map(copy) });
+  return copy(root);
+}
+
+// The same pairs, each name with the context that it has in the printed text. That is the tree but for parentheses, which have no part in what names mean and
+// may be too many to be resolved.
+function meant(root, pairs) {
+  const again = placed(root, pairs);
+  addContexts(again);
+  const nodes = [...preorder(again)];
+  return pairs.map(([node, read], index) => [node, { ...read, bits: nodes[index].bits }]);
+}
+
 // The pairs of a tree and its printed text, null where the text reads otherwise or not at all.
 function pairsOf(root, printed) {
   try {
-    const pairs = [...readAgain(root, treeOfText(printed))];
-    return pairs.every((pair) => pair && sameText(pair)) ? pairs : null;
+    const pairs = [...readAgain(root, bareTreeOfText(printed))];
+    if (!pairs.every((pair) => pair && sameText(pair))) return null;
+    return meant(root, pairs);
   } catch (error) {
     if (error instanceof ScriptTrouble) return null;
     throw error;
@@ -62,13 +80,6 @@ function printedPairs(root) {
     if (pairs) return { text, pairs };
   }
   throw trouble(null, 'the result cannot be printed as text that reads as the result; --lines shows it');
-}
-
-// A copy of a tree in which each node has its place in the printed text.
-function placed(root, pairs) {
-  const places = new Map(pairs.map(([node, again]) => [node, again.at]));
-  const copy = (node) => ({ ...node, at: places.get(node), children: node.children.map(copy) });
-  return copy(root);
 }
 
 // The tree with another name for a variable that would catch one of the same name; null where none would.

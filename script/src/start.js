@@ -3,8 +3,18 @@
 
 var ready = require('./ready');
 
-if (ready.amiss(process.versions.node, require.resolve)) {
-  require('fs').writeSync(2, 'run script/setup\n');
+var fs = require('fs');
+var path = require('path');
+
+// In a checkout the set-up is a script; a package's is the package manager's.
+function advice(found) {
+  if (fs.existsSync(path.join(__dirname, '..', 'setup'))) return 'run script/setup';
+  return (process.env.NEGBOSUN_COMMAND || 'negbosun-script') + ': ' + found + '; apt install --reinstall negbosun brings what is needed';
+}
+
+var found = ready.amiss(process.versions.node, require.resolve);
+if (found) {
+  fs.writeSync(2, advice(found) + '\n');
   process.exitCode = 2;
 } else {
   require('./main');

@@ -3,7 +3,7 @@
 
 const { FileTrouble, PortTrouble, ScriptTrouble, UsageTrouble, toolError } = require('./trouble');
 
-const STATUS = { well: 0, refused: 1, wrong: 2, differs: 3, unshown: 4, tool: 5 };
+const STATUS = { well: 0, refused: 1, wrong: 2, differs: 3, unshown: 4, tool: 5, unheard: 6 };
 const WORST_FIRST = ['tool', 'wrong', 'refused', 'differs', 'unshown'];
 
 // shown, unchanged and accepted are well.

@@ -131,14 +131,16 @@ function withinDepth(text, act) {
   }
 }
 
+// A script's text as a tree in which no name has a context yet.
+const bareTreeOfText = (text) => withinDepth(text, () => treeNode(parse(text)));
+
 // A script's text as a tree with contexts.
 function treeOfText(text) {
   return withinDepth(text, () => {
-    const program = parse(text);
-    const root = treeNode(program);
-    addContexts(root, program);
+    const root = treeNode(parse(text));
+    addContexts(root);
     return root;
   });
 }
 
-module.exports = { treeOfText, withinDepth };
+module.exports = { bareTreeOfText, treeOfText, withinDepth };

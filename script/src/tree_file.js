@@ -2,7 +2,6 @@
 'use strict';
 
 const { NAMED, TEXTED, identityOf, preorder } = require('./kinds');
-const { trouble } = require('./trouble');
 
 const HEADER = 32;
 const NODE = 16;
@@ -27,15 +26,15 @@ function meaningOf(root) {
 }
 
 function writeNode(bytes, offset, node, { texts, contexts }) {
-  if (node.children.length > MOST_CHILDREN) {
-    throw trouble(node.at.loc.start, `a list of over ${MOST_CHILDREN} parts cannot be built; write shorter lists`);
-  }
   bytes.writeUInt8(node.kind, offset);
   bytes.writeUInt8(node.form, offset + 1);
   bytes.writeUInt16LE(node.children.length, offset + 2);
   bytes.writeUInt32LE(TEXTED.has(node.kind) ? texts.get(node.text) : 0, offset + 4);
   bytes.writeBigUInt64LE(NAMED.has(node.kind) ? BigInt(contexts.get(node.bits)) : node.bits, offset + 8);
 }
+
+// Whether a tree has a file at all; where it has none, it has far more nodes than the pass takes.
+const hasFile = (root) => [...preorder(root)].every(({ children }) => children.length <= MOST_CHILDREN);
 
 // A tree as the bytes of a tree file.
 function writeTreeFile(root) {
@@ -105,4 +104,9 @@ function readTreeFile(bytes) {
   return treeOfList(list);
 }
 
-module.exports = { writeTreeFile, readTreeFile, treeOfLines, rootsOfLines, meaningOf };
+// The last field of each node of a readable tree file, of a name its context.
+function contextsOfFile(bytes) {
+  return Array.from({ length: bytes.readUInt32LE(8) }, (_, index) => bytes.readBigUInt64LE(HEADER + NODE * index + 8));
+}
+
+module.exports = { hasFile, writeTreeFile, readTreeFile, contextsOfFile, treeOfLines, rootsOfLines, meaningOf };

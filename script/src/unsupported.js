@@ -1,28 +1,31 @@
 // Constructs that the kinds of the tree file do not hold: their names and what to write instead.
 'use strict';
 
+const { ofChain, ofLabel: ofLabelled, ofRestParameter, ofSpread } = require('./advice');
+
 const CLASS = ['a class', 'functions and plain objects'];
 const TEMPLATE = ['a template', 'strings joined by `+`'];
-const SPREAD = ['spread', 'each value by itself, or a loop'];
+const MODULE = ['a module', 'a script by itself; the host\'s names are global'];
 const HALF = /\p{Cs}/u;
 
 // By the parser's node type; where only some nodes of a type are unsupported, by a function in PARTLY.
 const NEVER = {
   ClassDeclaration: CLASS,
   ClassExpression: CLASS,
-  SpreadElement: SPREAD,
   TemplateLiteral: TEMPLATE,
   TaggedTemplateExpression: ['a tagged template', 'a call with strings'],
   YieldExpression: ['yield', 'a function that returns its values in an array'],
   AwaitExpression: ['await', 'a function that is called when the value is there'],
-  LabeledStatement: ['a label', 'a function that is left by `return`, or a variable that the outer loop tests'],
   WithStatement: ['with', 'the object\'s name before each property'],
   DebuggerStatement: ['debugger', 'nothing in its place'],
-  ChainExpression: ['optional chaining', 'a test: `a && a.b`'],
   MetaProperty: ['new.target or import.meta', 'a parameter'],
   ImportExpression: ['import', 'a script by itself; the host\'s names are global'],
   Super: ['super', 'the function\'s own name'],
   PrivateIdentifier: ['a private name', 'a variable'],
+  ImportDeclaration: MODULE,
+  ExportNamedDeclaration: MODULE,
+  ExportDefaultDeclaration: MODULE,
+  ExportAllDeclaration: MODULE,
 };
 
 function ofFunction(node) {
@@ -54,10 +57,10 @@ function ofArrayPattern(node) {
   return null;
 }
 
-function ofRest(node, parent) {
+function ofRest(node, parent, text) {
   if (parent.type === 'ArrayPattern') return ['the rest of a list in a pattern', 'the list by a name, and `slice`: `let rest = list.slice(1);`'];
   if (parent.type === 'ObjectPattern') return ['the rest of an object in a pattern', 'each property by itself'];
-  return ['a rest parameter', '`arguments`'];
+  return ofRestParameter(node, parent, text);
 }
 
 function ofPatternProperty(node) {
@@ -116,6 +119,9 @@ const PARTLY = {
   ArrayPattern: ofArrayPattern,
   AssignmentPattern: (node) => ofPatternPart(node.left),
   RestElement: ofRest,
+  SpreadElement: ofSpread,
+  ChainExpression: ofChain,
+  LabeledStatement: ofLabelled,
 };
 
 const isNode = (value) => value !== null && typeof value === 'object' && typeof value.type === 'string';
@@ -126,19 +132,24 @@ function parts(node) {
   return found.sort((a, b) => a.start - b.start);
 }
 
-function unsupportedAt(node, parent) {
+// `before` is the parent's parent.
+function unsupportedAt(node, parent, text, before) {
   if (NEVER[node.type]) return NEVER[node.type];
   const isElement = parent && parent.type === 'ArrayPattern' && node.type !== 'RestElement';
-  return (isElement && ofPatternPart(node)) || (PARTLY[node.type] ? PARTLY[node.type](node, parent) : null);
+  return (isElement && ofPatternPart(node)) || (PARTLY[node.type] ? PARTLY[node.type](node, parent, text, before) : null);
 }
 
 const message = ([construct, instead]) => `${construct} cannot be built; write ${instead}`;
 
-// Every unsupported construct, the outermost of each nest, in the text's order.
-function findUnsupported(node, parent = null) {
-  const here = unsupportedAt(node, parent);
+function found(node, parent, text, before) {
+  const here = unsupportedAt(node, parent, text, before);
   if (here) return [{ at: node.loc.start, message: message(here) }];
-  return parts(node).flatMap((part) => findUnsupported(part, node));
+  return parts(node).flatMap((part) => found(part, node, text, parent));
 }
 
-module.exports = { findUnsupported, message };
+const inOrder = ({ at: one }, { at: other }) => one.line - other.line || one.column - other.column;
+
+// Every unsupported construct, the outermost of each nest, in the text's order.
+const findUnsupported = (program, text) => found(program, null, text, null).sort(inOrder);
+
+module.exports = { MODULE, findUnsupported, message };

@@ -6,7 +6,11 @@ const { estreeOf } = require('./from_tree');
 const { finishedText, print } = require('./print');
 const { LINE_END } = require('./rows');
 
+// A number such as 010 and a text such as "\\07", which strict code may not have.
+const LEGACY = /^(?:0\d|["'](?:[^\\]|\\[^\d]|\\0(?!\d))*\\(?:[1-9]|0\d))/;
 const PROPERTIES = new Set([K.property, K.patternProperty]);
+const writtenBy = ({ kind, at }) => (PROPERTIES.has(kind) ? at.key : at);
+const isLegacy = (node) => Boolean(node.at) && LEGACY.test(writtenBy(node).raw ?? '');
 
 const keyOf = (node) => `${node.kind} ${node.form} ${node.bits} ${JSON.stringify(node.text)}(${node.children.map(keyOf)})`;
 
@@ -59,27 +63,28 @@ class Source {
     return /\s/.test(this.text[comment.end] ?? ' ') ? '' : ' ';
   }
 
-  // A name's own value first: `0x10` and `16` are one number, written in two ways.
-  written(node, identity) {
+  // A name's own value first: `0x10` and `16` are one number, written in two ways. In strict code not what that may not have.
+  written(node, identity, isStrict) {
     const key = keyOf(node);
     const own = (this.values.get(identity) || []).find((value) => keyOf(value) === key);
     const found = own || this.nodes.get(key);
-    return found ? this.slice(found.at) : null;
+    return found && !(isStrict && [...preorder(found)].some(isLegacy)) ? this.slice(found.at) : null;
   }
 
   // Printed anew, with texts in quotes as the script has them.
-  printed(node) {
+  printed(node, isStrict = false) {
+    const has = (text) => this.quoted.has(text) && !(isStrict && LEGACY.test(this.quoted.get(text)));
     const around = (part, made) => {
-      if (part.kind === K.string && this.quoted.has(part.text)) return finishedText(this.quoted.get(part.text));
-      if (PROPERTIES.has(part.kind) && made.key.type === 'Literal' && this.quoted.has(part.text)) return { ...made, key: finishedText(this.quoted.get(part.text)) };
+      if (part.kind === K.string && has(part.text)) return finishedText(this.quoted.get(part.text));
+      if (PROPERTIES.has(part.kind) && made.key.type === 'Literal' && has(part.text)) return { ...made, key: finishedText(this.quoted.get(part.text)) };
       return made;
     };
     return print(estreeOf(node, around)).trimEnd();
   }
 
-  // The text of `node` where it stands for the variable `identity`.
-  valueText(node, identity) {
-    return this.written(node, identity) ?? this.printed(node);
+  // The text of `node` where it stands for the variable `identity`, in strict code or not.
+  valueText(node, identity, isStrict = false) {
+    return this.written(node, identity, isStrict) ?? this.printed(node, isStrict);
   }
 }
 
