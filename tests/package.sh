@@ -1,15 +1,10 @@
 #!/usr/bin/env bash
 # The Debian package of tools/make_deb: made, installed into a folder of its own with a database of its own, used from there, and removed again.
-# Nothing of the machine is changed. Where it cannot be tried, the test says why and passes over itself. The last line counts.
+# Nothing of the machine is changed. Where it cannot be tried, the test says why and passes over itself (tests/steps.txt). The last line counts.
 set -u
 cd "$(dirname "$0")/.." || exit 1
 . tests/counts.bash
 . tests/library.bash
-
-skip() {
-    echo "package: skipped, $*"
-    finish
-}
 
 root=$out/root
 tool=caller/target/release/negbosun-inline
@@ -51,6 +46,8 @@ has_all() {
     dpkg-deb --contents "$deb" >"$out/contents" || return
     for file in usr/bin/negbosun usr/bin/negbosun-inline usr/bin/negbosun-script usr/include/negbosun.h "usr/lib/$multiarch/libnegbosun.a" \
         "usr/lib/$multiarch/pkgconfig/negbosun.pc" usr/share/doc/negbosun/{copyright,TREE.md,MILLERS.md,SAME_MEANING.md} \
+        usr/share/doc/negbosun/{README,NOTICE,changelog.gz} usr/share/man/man1/{negbosun,negbosun-inline,negbosun-script}.1.gz \
+        usr/share/bash-completion/completions/{negbosun,negbosun-inline,negbosun-script} usr/share/doc/negbosun/pages/{index,wheel_speed.js}.html \
         usr/lib/negbosun/script/{src/own_text.js,src/page.js,same/check.js,guard/child.js,steps/count.js}; do
         grep -q " \./$file\( ->.*\)\?\$" "$out/contents" || { echo "no $file"; return 1; }
     done
@@ -59,15 +56,70 @@ has_all() {
 
 # What is for those who work on the sources stays with them.
 has_no_more() {
-    ! grep -E "/(DECISIONS|DESIGN|PORT|TESTING)|/script/test|\.rt(\$|/)|/crates/" "$out/contents"
+    ! grep -E "/(ARCHITECTURE|DECISIONS|DESIGN|PORT|TESTING)|/script/(test|setup)|\.rt(\$|/)|/crates/|/\.negbosun" "$out/contents"
 }
 
 depends_on_libraries() {
     local depends package libraries
     depends=$(dpkg-deb --field "$deb" Depends) || return
-    libraries=$(sed -n 's/^for package in \(.*\); do$/\1/p' script/setup)
-    for package in nodejs libc6 ${libraries:-node-acorn node-eslint-scope node-escodegen node-magic-string}; do
+    libraries=$(sed -n 's/^packages=(\(.*\))$/\1/p' script/setup)
+    for package in nodejs libc6 ${libraries:?}; do
         grep -qE "(^|, )$package( |,|\$)" <<<"$depends" || { echo "$package is not in: $depends"; return 1; }
+    done
+    # what only tests ask stays away
+    ! grep eslint <<<"$depends"
+}
+
+# What lintian calls an error or a warning is one.
+lint() {
+    ! lintian --no-cfg "$deb" 2>&1 | grep "^[EW]:"
+}
+
+# A mistake in a manual page is told by the program that shows it.
+manuals() {
+    local name
+    for name in negbosun negbosun-inline negbosun-script; do
+        zcat "$root/usr/share/man/man1/$name.1.gz" >"$out/$name.1" && grep -q "^\.SH SYNOPSIS" "$out/$name.1" || return
+        ! command -v man >/dev/null 2>&1 || [ -z "$(LC_ALL=C.UTF-8 MANWIDTH=100 man --warnings -l "$out/$name.1" 2>&1 >"$out/$name.text")" ] || return
+    done
+    grep -q "^\.B .*jobs N\$" "$out/negbosun-script.1" && grep -q "^\.B .*kinds FILE\$" "$out/negbosun-inline.1"
+}
+
+# completed COMMAND WORD..: what bash offers behind these words, the last of which is begun.
+completed() {
+    (cd "$out" && . "$root/usr/share/bash-completion/completions/$1" && COMP_WORDS=("$@") && COMP_CWORD=$(($# - 1)) && COMPREPLY=() && "_${1//-/_}" && echo "${COMPREPLY[@]}")
+}
+
+completion() {
+    [ "$(completed negbosun-script --keep)" = --keep-shown ] && [ "$(completed negbosun-script --host pl)" = plain ] && [ "$(completed negbosun-inline can)" = canon ] && [[ " $(completed negbosun-inline res) " == *" resolve "* ]] &&
+        completed negbosun --h | grep -q -- --help
+}
+
+# Whatever the command, its manual page or a document names below the package's own folders is there.
+names_exist() {
+    local named
+    { from_there negbosun-script --help && from_there negbosun-inline --help && from_there negbosun --help && cat "$root"/usr/share/doc/negbosun/{README,*.md}; } >"$out/named" 2>&1
+    for named in $(grep -oE "/usr/(share/doc/negbosun|bin)/[A-Za-z_./-]*[A-Za-z]" "$out/named" | sort -u); do
+        [ -e "$root$named" ] || { echo "named, but not there: $named"; return 1; }
+    done
+    ! grep -nE "(^|[^a-z/])(docs/|samples/|target/)|script/inline( |$)" <(from_there negbosun-script --help)
+}
+
+# The samples with their verdicts: all three of them, the one that differs first.
+sample_pages() {
+    local pages=$root/usr/share/doc/negbosun/pages first
+    first=$(sed -n '/<tbody>/,$p' "$pages/index.html" | grep -o 'href="[^"]*"' | head -n 1)
+    [ "$first" = 'href="wheel_speed.js.html"' ] || { echo "the first is $first"; return 1; }
+    grep -q "different; " "$pages/index.html" && grep -q "not shown at " "$pages/index.html" && grep -q "shown at --host=anything" "$pages/index.html" &&
+        [ "$(find "$pages" -name '*.html' | wc -l)" -eq $(($(find samples/scripts -name '*.js' | wc -l) + 1)) ] && ! grep -rl "$PWD" "$pages"
+}
+
+# A browser shows them: the links of the index lead to pages, each with its verdict.
+pages_in_browser() {
+    local browser=$1 page
+    for page in index wheel_speed.js tide.js levels.js; do
+        "$browser" --headless --no-sandbox --disable-gpu --no-first-run --user-data-dir="$out/profile" --dump-dom "file://$root/usr/share/doc/negbosun/pages/$page.html" 2>/dev/null >"$out/dom" || return
+        grep -q "</table>" "$out/dom" && grep -qE "different; [0-9]+ of|shown at --host" "$out/dom" || { echo "$page: no verdict"; return 1; }
     done
 }
 
@@ -123,6 +175,17 @@ help_there() {
     from_there negbosun-script --help >"$out/help" && grep -q "^Usage: negbosun-script " "$out/help" && grep -q " /usr/share/doc/negbosun/MILLERS.md " "$out/help"
 }
 
+# Before node's libraries are there, what to do is the package manager's.
+not_there() {
+    local said
+    said=$(cd / && env -i PATH=/usr/bin:/bin NODE_PATH=/nowhere NEGBOSUN_COMMAND=negbosun-script node -e "
+        const resolve = require('module')._resolveFilename;
+        require('module')._resolveFilename = (name, ...rest) => { if (name === 'acorn') throw new Error(name); return resolve(name, ...rest); };
+        require('$root/usr/lib/negbosun/script/src/start.js');" 2>&1)
+    [ "$said" = "negbosun-script: node does not find acorn, escodegen, magic-string; apt install --reinstall negbosun brings what is needed" ] ||
+        [ "$said" = "negbosun-script: node does not find acorn; apt install --reinstall negbosun brings what is needed" ] || { echo "$said"; return 1; }
+}
+
 # Under the sample kind table: the script has neither `for` nor `new`.
 kinds_there() {
     local examples=$root/usr/share/doc/negbosun/examples
@@ -139,18 +202,20 @@ canon_there() {
     from_there negbosun-inline canon "$sample" >"$out/one.tree" && from_there negbosun-inline same "$out/one.tree" "$sample"
 }
 
+# The sample is resolved, and resolved again it is the same file.
+resolved_there() {
+    from_there negbosun-inline resolve "$root/usr/share/doc/negbosun/examples/tide.tree" >"$out/resolved.tree" && from_there negbosun-inline resolve "$out/resolved.tree" | cmp - "$out/resolved.tree"
+}
+
 # Only the database of packages is left.
 nothing_left() {
     [ -z "$(find "$root" -path "$root/var/lib/dpkg" -prune -o -type f -print -o -type l -print -o -path "$root/usr" -print | tee /dev/stderr)" ]
 }
 
-command -v dpkg-deb >/dev/null 2>&1 || skip "no dpkg-deb"
-[ "$(id -u)" -eq 0 ] || skip "only root can install a package"
-command -v node >/dev/null 2>&1 || skip "no node"
-command -v cargo >/dev/null 2>&1 || [ -x "$tool" ] || skip "no cargo"
+whole
 need_library || finish
 need_program || finish
-! command -v cargo >/dev/null 2>&1 || one "tool" build_tool || finish
+one "tool" build_tool || finish
 
 one "says what to run" says_what_to_run
 one "says what is older" older_library_is_told
@@ -162,10 +227,15 @@ one "contents" has_all
 one "nothing for developers" has_no_more
 one "depends" depends_on_libraries
 
-if [ -n "$(apt-cache madison node-magic-string 2>/dev/null)" ]; then
+if part apt; then
     one "apt would install it" apt_would
+    end_part
+fi
+
+if command -v lintian >/dev/null 2>&1; then
+    one "lintian" lint
 else
-    echo "apt: skipped, no apt, or its lists of packages are absent (apt-get update)"
+    echo "lintian: skipped, it is absent (apt-get install lintian)"
 fi
 
 one "database" new_database || finish
@@ -174,24 +244,31 @@ one "verified" dpkg_there --verify negbosun
 one "program" same_output crates/negbosun/stdout negbosun
 one "tool's output" same_output crates/negbosun/stdout negbosun-inline
 one "canonical file" canon_there
+one "resolved file" resolved_there
+one "manual pages" manuals
+one "completion" completion
+one "pages of the samples" sample_pages
+browser=$(for it in chromium chromium-browser google-chrome; do command -v "$it"; done 2>/dev/null | head -n 1)
+if [ -n "$browser" ]; then
+    one "pages in a browser" pages_in_browser "$browser"
+else
+    echo "pages in a browser: skipped, chromium is absent (apt-get install chromium)"
+fi
 one "version" grep -qx "negbosun-inline $version" <(from_there negbosun-inline --version)
-if command -v pkg-config >/dev/null 2>&1; then
+one "Rust program" rust_there
+if part c-program; then
     one "pkg-config's version" [ "$(pkg_config --modversion)" = "$version" ]
     one "compiled and linked" compile_there && count "C program" "$out/header" "$root/usr/share/doc/negbosun/examples/tide.tree"
-else
-    echo "C program: skipped, no pkg-config"
 fi
-if command -v cargo >/dev/null 2>&1; then
-    one "Rust program" rust_there
-fi
-if [ -d /usr/share/nodejs/acorn ] && [ -d /usr/share/nodejs/eslint-scope ] && [ -d /usr/share/nodejs/escodegen ] && [ -d /usr/share/nodejs/magic-string ]; then
+if part script; then
     one "script" script_there
     one "script with a run limit" limited_there
     one "script's help" help_there
+    one "what is named is there" names_exist
+    one "libraries that are not there" not_there
     one "script under a kind table" kinds_there
-else
-    echo "script: skipped, Debian's JavaScript libraries are absent (script/setup)"
 fi
+end_part
 one "removed" dpkg_there --purge negbosun
 one "nothing left" nothing_left
 finish

@@ -1,9 +1,10 @@
 // Reads a tree file from standard input, runs the pass on it with at most 16 runs, and prints `refused N`, or the head line, a line for each
 // node of the result, and a line for each root binding (document 01). Given an argument, it says what it takes, and reads nothing: to standard
-// output for -h and --help, with status 0, and to standard error for any other, with status 2.
+// output for -h and --help, with status 0, and to standard error for any other, with status 2. What cannot be read ends it with status 1, and what
+// cannot be written, as where standard output is closed, with status 6; both are told in words on standard error.
 #![tactic(auto)]
 
-ghost use Rattle.std.specs.Prelude.{◌≡◌, ◌||◌, bytes_eq, codes, if◌then◌else◌};
+ghost use Rattle.std.specs.Prelude.{◌≡◌, ◌||◌, ◌≤◌, IfOk, bytes_eq, codes, if◌then◌else◌, length};
 ghost use Rattle.std.specs.Process.{exit_status};
 
 use file_read::fields::u32_at;
@@ -11,13 +12,16 @@ use input::read_full;
 use pass::{inline, list};
 use std::env::{Env, FillError};
 use std::io;
-use std::io::Read;
+use std::io::{ErrorKind, Read};
 use std::process::ExitCode;
 use tree_print::{ROOM, WORDS, print_nodes};
 
 const USAGE: &str = "usage: negbosun < FILE.tree
 Takes no argument: reads a tree file from standard input, and prints the pass's result or `refused N`.
 negbosun-inline takes a file's name and options; script/inline (installed: negbosun-script) takes a script's text.";
+
+// The system's number for a descriptor that is not open.
+const CLOSED: i32 = 9;
 
 // Five words for each of at most 256 root bindings.
 const ROOTS: usize = 1280;
@@ -99,27 +103,77 @@ fn say_usage(rt: &(impl Print + Eprint), is_asked: bool) -> io::Result<()> {
     }
 }
 
-fn run(rt: &HostRuntime) -> io::Result<()> {
-    let mut input = rt.stdin();
-    let mut buf = [0; ROOM];
-    let n = read_full(&mut input, &mut buf)?;
-    if n == buf.len() {
-        read_rest(&mut input)?;
-    }
-    show(rt, &buf[..n], &mut [0; WORDS])
+// The status where an output cannot be written, else where the input cannot be read.
+fn failed_status(is_output: bool) -> ExitCode
+    ensures { exit_status result ≡ (if is_output then 6 else 1) }
+{
+    ExitCode::from(if is_output { 6 } else { 1 })
 }
 
-fn main(rt: HostRuntime) -> io::Result<ExitCode> {
+// Why something cannot be read or written, as far as the system's reason is one of these.
+fn reason(error: &io::Error) -> &'static str {
+    match error.kind() {
+        ErrorKind::BrokenPipe => "what it was sent to has ended before it had read all",
+        ErrorKind::StorageFull => "there is no room left on the disk",
+        ErrorKind::FileTooLarge => "files may not be so large here",
+        ErrorKind::IsADirectory => "this is a folder",
+        ErrorKind::PermissionDenied => "this is not allowed",
+        _ => if error.raw_os_error() == Some(CLOSED) {
+            "it is closed"
+        } else {
+            "the system does not allow it"
+        },
+    }
+}
+
+// Says what failed; where even that cannot be written, the status alone tells it.
+fn failed(rt: &impl Eprint, is_output: bool, error: &io::Error) -> ExitCode
+    ensures { exit_status result ≡ (if is_output then 6 else 1) }
+{
+    let what = if is_output {
+        "standard output"
+    } else {
+        "standard input"
+    };
+    match eprintln!(rt; "negbosun: {what}: {}", reason(error)) {
+        Ok(()) | Err(_) => failed_status(is_output),
+    }
+}
+
+// The whole input, or as much of it as shows that it is too long.
+fn read_input(rt: &HostRuntime, buf: &mut [u8]) -> io::Result<usize>
+    ensures { IfOk result (λ n. n ≤ length buf.new) }
+{
+    let mut input = rt.stdin();
+    let count = read_full(&mut input, buf)?;
+    if count == buf.len() {
+        read_rest(&mut input)?;
+    }
+    Ok(count)
+}
+
+fn run(rt: &HostRuntime) -> ExitCode {
+    let mut buf = [0; ROOM];
+    let n = match read_input(rt, &mut buf) {
+        Ok(n) => n,
+        Err(error) => return failed(rt, false, &error),
+    };
+    match show(rt, &buf[..n], &mut [0; WORDS]) {
+        Ok(()) => ExitCode::SUCCESS,
+        Err(error) => failed(rt, true, &error),
+    }
+}
+
+fn main(rt: HostRuntime) -> ExitCode {
     let mut word = [0u8; 64];
     let is_asked = match rt.arg(1, &mut word) {
-        Err(FillError::NotPresent) => {
-            run(&rt)?;
-            return Ok(ExitCode::SUCCESS);
-        }
+        Err(FillError::NotPresent) => return run(&rt),
         // What does not fit into the buffer does not ask for the usage.
         Err(FillError::TooLong) => false,
         Ok(n) => is_help(&word[..n]),
     };
-    say_usage(&rt, is_asked)?;
-    Ok(usage_status(is_asked))
+    match say_usage(&rt, is_asked) {
+        Ok(()) => usage_status(is_asked),
+        Err(error) => failed(&rt, true, &error),
+    }
 }
