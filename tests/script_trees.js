@@ -1,0 +1,27 @@
+// Scripts as tree files whose names have no contexts yet. `any SEED COUNT` makes random scripts (script/test/any_scripts.js) and prints each as hex digits;
+// `values` reads a script on each line, and prints its tree file as hex digits and, behind a blank, what V8 gives for it, as JSON, or the name of its error.
+'use strict';
+
+const fs = require('fs');
+const vm = require('vm');
+const { anyScript } = require('../script/test/any_scripts');
+const { bareTreeOfText } = require('../script/src/to_tree');
+const { writeTreeFile } = require('../script/src/tree_file');
+
+const hexOf = (text) => writeTreeFile(bareTreeOfText(text)).toString('hex');
+
+// In a context of its own, so that one script declares nothing for the next.
+function valueOf(text) {
+  try {
+    return JSON.stringify(vm.runInNewContext(text)) || 'undefined';
+  } catch (error) {
+    return error.name;
+  }
+}
+
+const [what, seed, count] = process.argv.slice(2);
+if (what === 'any') {
+  for (let index = 0; index < Number(count); index++) console.log(hexOf(anyScript(Number(seed) + index, 5 + (index % 60))));
+} else {
+  for (const text of fs.readFileSync(0, 'utf8').split('\n')) if (text !== '') console.log(`${hexOf(text)} ${valueOf(text)}`);
+}
