@@ -1,6 +1,6 @@
 #!/usr/bin/env python3
 """The writer of canonical files through its C function, against one that is written here from the words of document 02's request 11 alone, and beside
-the pass.
+the pass, also under lent kind tables (request 10).
 
   tests/canon.py DRIVER
 
@@ -9,6 +9,7 @@ The driver is tests/port.c, linked with the library. The last line is `N passed,
 import random
 import sys
 
+from lent import ALLOWED, CONSTANT, FORBIDDEN, only, pairs_of, with_entries, without
 from port import MOST_BYTES, MOST_ROOTS, ROOT, STACK, WORDS, Count, Port, nodes_of, texts_of, vectors
 from treefile import damage, declared, good_files, pack, statement, tree
 from treefile_reader import TEXT, refusal
@@ -240,32 +241,65 @@ def damaged(writer, files):
         writer.count.check(row in rows, "no file is refused by %d", row)
 
 
-def named_roots(port, file, runs):
+def named_roots(port, file, runs, table=None):
     """Name, mark and count of each root binding, in order; their contexts are numbered otherwise."""
-    _, many, _, _, roots, _, _ = port.call("roots", file, MOST_ROOTS, runs=runs)
+    _, many, _, _, roots, _, _ = port.call("roots", file, MOST_ROOTS, runs=runs, table=table)
     texts = texts_of(file)
     return [(texts[t], mark, counted) for t, _, _, mark, counted in (ROOT.unpack_from(roots, ROOT.size * i) for i in range(many))]
 
 
+def ends_alike(writer, count, port, name, calls, runs, table=None):
+    """Two calls of the pass, each a file with a room: the same refusal, or the same runs and mark and results that are written to the same bytes; one may be 10
+    where the other is not. What both are, 10 where one of them is."""
+    (file, _), (one, _) = calls
+    a, b = [port.call("inline", x, room, runs=runs, table=table) for x, room in calls]
+    if 10 in (a[0], b[0]):
+        count.check({a[0], b[0]} <= {0, 10}, "%s: refused %d and %d", name, a[0], b[0])
+        return 10
+    count.check(a[:1] + a[2:4] == b[:1] + b[2:4], "%s: %s and %s", name, a[:4], b[:4])
+    if a[0] == b[0] == 0:
+        x, y = writer(a[4]), writer(b[4])
+        count.check(x == y and x[0] == 0 and x[1] == canonical(a[4]), "%s: results of one script", name)
+        count.check(named_roots(port, file, runs, table) == named_roots(port, one, runs, table), "%s: root bindings", name)
+    return a[0]
+
+
 def beside_pass(writer, count, port, stored):
-    """The pass on the written file: the same refusal, or the same runs and mark and a result that is written to the same bytes."""
-    rng, results, full = random.Random(SEED), 0, 0
+    """The pass on the written file."""
+    rng, ends = random.Random(SEED), []
     for number, (file, runs) in enumerate(stored):
         one = writer(file)[1]
         rooms = rng.choice(((MOST_BYTES, MOST_BYTES), (MOST_BYTES, MOST_BYTES), (len(one), len(one)), (len(file), len(one)), (len(one), MOST_BYTES)))
-        a, b = [port.call("inline", x, room, runs=runs) for x, room in zip((file, one), rooms)]
-        if 10 in (a[0], b[0]):
-            full += 1
-            count.check({a[0], b[0]} <= {0, 10}, "file %d: refused %d and %d", number, a[0], b[0])
-            continue
-        count.check(a[:1] + a[2:4] == b[:1] + b[2:4], "file %d: %s and %s", number, a[:4], b[:4])
-        if a[0] == b[0] == 0:
-            results += 1
-            x, y = writer(a[4]), writer(b[4])
-            count.check(x == y and x[0] == 0 and x[1] == canonical(a[4]), "file %d: results of one script", number)
-            count.check(named_roots(port, file, runs) == named_roots(port, one, runs), "file %d: root bindings", number)
+        ends.append(ends_alike(writer, count, port, "file %d" % number, list(zip((file, one), rooms)), runs))
+    results, full = ends.count(0), ends.count(10)
     count.check(results > 500 and full > 20, "only %d results, %d without room", results, full)
     print("beside the pass: %d, %d with results, %d without room for one" % (len(stored), results, full))
+
+
+def tables(rng, file):
+    """A lent table that has no pair but the script's, one that lacks others, one that lacks a pair of the script, one that allows too much, one that is none."""
+    pairs = sorted(pairs_of(file))
+    yield only(pairs), None
+    yield without(*rng.sample([pair for pair in ALLOWED if pair not in pairs], 5)), None
+    if pairs:
+        yield without(rng.choice(pairs)), 6
+    yield with_entries(CONSTANT, [rng.choice(FORBIDDEN)], 1), 15
+    yield CONSTANT[:-1], 14
+
+
+def under_tables(writer, count, port, stored):
+    """The same under a lent table: a script and its canonical form have the same pairs of kinds, so that the same is read, and it ends alike."""
+    rng, told = random.Random(SEED), {}
+    for number, (file, runs) in enumerate(stored):
+        one = writer(file)[1]
+        count.check(pairs_of(one) == pairs_of(file), "file %d: pairs of the canonical form", number)
+        for table, want in tables(rng, file):
+            end = ends_alike(writer, count, port, "file %d under a table" % number, [(file, MOST_BYTES), (one, MOST_BYTES)], runs, table)
+            count.check(end == want if want else end not in (6, 14, 15), "file %d under a table: refused %d", number, end)
+            told[end] = told.get(end, 0) + 1
+    print("under lent tables: " + ", ".join("%d refused by %d" % (told[row], row) if row else "%d results" % told[row] for row in sorted(told)))
+    for row in (0, 6, 8, 9, 14, 15):
+        count.check(told.get(row, 0) > 20, "only %d end so under a table: %d", told.get(row, 0), row)
 
 
 def main(driver):
@@ -281,7 +315,9 @@ def main(driver):
     forms(writer, count, files)
     buffers(writer, files[::3] + [file for file, _, _ in stored if refusal(file)][::3])
     damaged(writer, files)
-    beside_pass(writer, count, port, readable + [(file, rng.choice((1, 2, 3, 16))) for file in grown])
+    given = readable + [(file, rng.choice((1, 2, 3, 16))) for file in grown]
+    beside_pass(writer, count, port, given)
+    under_tables(writer, count, port, given)
     count.check(0 < port.stack < STACK, "%d bytes of stack", port.stack)
     print("stack: at most %d bytes" % port.stack)
     print("calls: %d" % port.calls)

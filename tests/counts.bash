@@ -7,6 +7,7 @@ step=tests/${0##*/}
 passed=0
 failed=0
 skipped=0
+whole_skipped=0
 part=
 part_passed=0
 part_failed=0
@@ -51,14 +52,17 @@ part() {
 
 # whole: the same of the script as a whole, which then ends.
 whole() {
-    part - || finish
+    if ! part -; then
+        whole_skipped=1
+        finish
+    fi
     part=
 }
 
-# Nothing passed is a failure, but where it is said what was passed over.
+# Nothing tried is a failure, but where the script as a whole is passed over: parts that are do not excuse the rest.
 finish() {
     end_part
-    if [ $((passed + failed + skipped)) -eq 0 ]; then
+    if [ $((passed + failed + whole_skipped)) -eq 0 ]; then
         echo "$step: nothing was tried"
         failed=1
     fi
@@ -97,4 +101,15 @@ one() {
         echo "$name: failed"
         return 1
     fi
+}
+
+# cargo_tests FOLDER WORD..: cargo's tests there. Those of each sort end in a line of their own; the last line here is their sum, and what cargo says is shown where one fails.
+cargo_tests() {
+    local status
+    (cd "$1" && shift && cargo test --offline --quiet -j "${JOBS:-1}" "$@") >"$out/tests" 2>&1
+    status=$?
+    [ "$status" -eq 0 ] || cat "$out/tests"
+    sed -n 's/^test result: .* \([0-9]*\) passed; \([0-9]*\) failed;.*/\1 \2/p' "$out/tests" |
+        awk -v status="$status" '{p += $1; f += $2} END {if (status && !f) f = 1; print p + 0 " passed, " f + 0 " failed"}'
+    return "$status"
 }

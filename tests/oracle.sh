@@ -18,14 +18,10 @@ build() {
   (cd oracle && cargo build --release --offline --quiet -j "${JOBS:-1}")
 }
 
-own_tests() {
-  (cd oracle && cargo test --release --offline --quiet -j "${JOBS:-1}" -p tree_file -p programs)
-}
-
 one "build" build || finish
 bin=oracle/target/release
 
-one "tests of its own" own_tests
+count "tests of its own" cargo_tests oracle --release -p tree_file -p programs
 
 count "stored vectors" "$bin/replay" tests/vectors/sample.txt tests/vectors/small.txt tests/vectors/patterns.txt
 one "sample rewritten" rewritten sample

@@ -75,14 +75,20 @@ lint() {
     ! lintian --no-cfg "$deb" 2>&1 | grep "^[EW]:"
 }
 
-# A mistake in a manual page is told by the program that shows it.
 manuals() {
     local name
     for name in negbosun negbosun-inline negbosun-script; do
         zcat "$root/usr/share/man/man1/$name.1.gz" >"$out/$name.1" && grep -q "^\.SH SYNOPSIS" "$out/$name.1" || return
-        ! command -v man >/dev/null 2>&1 || [ -z "$(LC_ALL=C.UTF-8 MANWIDTH=100 man --warnings -l "$out/$name.1" 2>&1 >"$out/$name.text")" ] || return
     done
     grep -q "^\.B .*jobs N\$" "$out/negbosun-script.1" && grep -q "^\.B .*kinds FILE\$" "$out/negbosun-inline.1"
+}
+
+# A mistake in a manual page is told by the program that shows it.
+shown_by_man() {
+    local name
+    for name in negbosun negbosun-inline negbosun-script; do
+        [ -z "$(LC_ALL=C.UTF-8 MANWIDTH=100 man --warnings -l "$out/$name.1" 2>&1 >"$out/$name.text")" ] && [ -s "$out/$name.text" ] || return
+    done
 }
 
 # completed COMMAND WORD..: what bash offers behind these words, the last of which is begun.
@@ -232,10 +238,9 @@ if part apt; then
     end_part
 fi
 
-if command -v lintian >/dev/null 2>&1; then
+if part lintian; then
     one "lintian" lint
-else
-    echo "lintian: skipped, it is absent (apt-get install lintian)"
+    end_part
 fi
 
 one "database" new_database || finish
@@ -246,13 +251,15 @@ one "tool's output" same_output crates/negbosun/stdout negbosun-inline
 one "canonical file" canon_there
 one "resolved file" resolved_there
 one "manual pages" manuals
+if part man; then
+    one "manual pages shown" shown_by_man
+    end_part
+fi
 one "completion" completion
 one "pages of the samples" sample_pages
-browser=$(for it in chromium chromium-browser google-chrome; do command -v "$it"; done 2>/dev/null | head -n 1)
-if [ -n "$browser" ]; then
-    one "pages in a browser" pages_in_browser "$browser"
-else
-    echo "pages in a browser: skipped, chromium is absent (apt-get install chromium)"
+if part browser; then
+    one "pages in a browser" pages_in_browser "$(browser)"
+    end_part
 fi
 one "version" grep -qx "negbosun-inline $version" <(from_there negbosun-inline --version)
 one "Rust program" rust_there

@@ -13,15 +13,6 @@ one "driver" gcc -O1 -Wall -Wextra -Werror -o "$out/driver" tests/port.c "$libra
 count "port" python3 -B tests/port.py "$out/driver" target/bin/negbosun
 count "lent kind tables" python3 -B tests/lent.py "$out/driver"
 
-# Tests of each sort end in a line of their own; what is shown is their sum.
-caller_tests() {
-    (cd caller && cargo test --offline --quiet -j "${JOBS:-1}") >"$out/caller" 2>&1
-    local status=$?
-    [ "$status" -eq 0 ] || cat "$out/caller"
-    sed -n 's/^test result: .* \([0-9]*\) passed; \([0-9]*\) failed;.*/\1 \2/p' "$out/caller" |
-        awk -v status="$status" '{p += $1; f += $2} END {if (status && !f) f = 1; print p + 0 " passed, " f + 0 " failed"}'
-    return "$status"
-}
 caller_cargo() {
     (cd caller && cargo "$@" --offline --quiet -j "${JOBS:-1}")
 }
@@ -42,7 +33,7 @@ amended() {
 }
 
 if part caller; then
-    count "caller" caller_tests
+    count "caller" cargo_tests caller
     RUSTDOCFLAGS="-D warnings" one "caller, documentation" caller_cargo doc --no-deps
     one "caller's tool" caller_cargo build --release --bins --examples || finish
     one "caller's example" caller/target/release/examples/sample

@@ -1,7 +1,8 @@
 #!/usr/bin/env python3
 """The resolver through its C function: beside a model of its own (tests/resolve_model.py), beside eslint-scope, beside V8, and before the pass.
 
-  tests/resolve.py alone DRIVER [DECISIONS]
+  tests/resolve.py alone DRIVER
+  tests/resolve.py inputs DRIVER DECISIONS
   tests/resolve.py judges DRIVER
 
 `alone` needs nothing else; `judges` needs node and Debian's node-eslint-scope. The driver is tests/port.c, linked with the library. DECISIONS has the resolver's
@@ -250,7 +251,7 @@ def beside_v8(resolver):
     print("beside V8: %d" % len(rows))
 
 
-def decisions(resolver, path):
+def inputs(resolver, path):
     """Every input of docs/DECISIONS.md comes out as it says there."""
     with open(path, encoding="ascii") as f:
         rows = [line.rstrip("\n").split(" ", 1) for line in f]
@@ -271,7 +272,7 @@ def stack(resolver):
     print("stack: at most %d bytes" % resolver.port.stack)
 
 
-def alone(resolver, inputs):
+def alone(resolver):
     """What needs nothing but the driver."""
     rng = random.Random(SEED)
     at_limits(resolver)
@@ -281,25 +282,23 @@ def alone(resolver, inputs):
     beside_model(resolver, good_files(rng) + stored[::3] + grown)
     damaged(resolver, grown + [file for _, file, _ in limits()] + stored[::5])
     pairs(resolver, grown[::2] + [file for file in stored[1::5] if refusal(file) in (0, 7)])
-    if inputs:
-        decisions(resolver, inputs)
 
 
-def judges(resolver, _):
+def judges(resolver):
     """Beside V8 and eslint-scope."""
     beside_v8(resolver)
     beside_eslint(resolver)
 
 
-def main(what, driver, inputs=None):
+def main(what, driver, *given):
     count, port = Count(), Port(driver)
-    what(Resolver(port, count), inputs)
+    what(Resolver(port, count), *given)
     print("calls: %d" % port.calls)
     print("%d passed, %d failed" % (count.passed, count.failed))
     return count.failed == 0
 
 
 if __name__ == "__main__":
-    if len(sys.argv) not in (3, 4) or sys.argv[1] not in ("alone", "judges"):
+    if sys.argv[1:2] + [len(sys.argv)] not in (["alone", 3], ["inputs", 4], ["judges", 3]):
         sys.exit(__doc__)
     sys.exit(0 if main(globals()[sys.argv[1]], *sys.argv[2:]) else 1)

@@ -8,15 +8,14 @@ cd "$(dirname "$0")/.." || exit 1
 
 need_library || finish
 one "driver" gcc -O1 -Wall -Wextra -Werror -o "$out/driver" tests/port.c "$library" -pthread || finish
+count "resolver" python3 -B tests/resolve.py alone "$out/driver"
 # Inputs of docs/DECISIONS.md, where cargo is there to read them.
 inputs() {
     (cd oracle && cargo build --release --offline --quiet -j "${JOBS:-1}" -p tree_file) && oracle/target/release/decisions resolver docs/DECISIONS.md >"$out/inputs"
 }
-listed=()
-if [ -z "$(why_not cargo)" ]; then
-    one "inputs" inputs && listed=("$out/inputs")
+if part inputs; then
+    one "inputs" inputs && count "inputs resolved" python3 -B tests/resolve.py inputs "$out/driver" "$out/inputs"
 fi
-count "resolver" python3 -B tests/resolve.py alone "$out/driver" "${listed[@]}"
 if part judges; then
     count "beside eslint-scope and V8" python3 -B tests/resolve.py judges "$out/driver"
 fi

@@ -35,13 +35,16 @@ lacks_eslint-scope() {
     echo "$why"
 }
 
-# As script/test/browser.js looks for it.
-lacks_chromium() {
+# browser: the one that is there, as script/test/browser.js looks for it.
+browser() {
     local name
     for name in chromium chromium-browser google-chrome; do
-        ! "$name" --version >/dev/null 2>&1 || return 0
+        ! "$name" --version >/dev/null 2>&1 || { echo "$name"; return; }
     done
-    echo "no chromium (apt-get install chromium)"
+}
+
+lacks_chromium() {
+    [ -n "$(browser)" ] || echo "no chromium (apt-get install chromium)"
 }
 
 lacks_g++() {
@@ -62,6 +65,14 @@ lacks_apt-lists() {
 
 lacks_pkg-config() {
     command -v pkg-config >/dev/null 2>&1 || echo "no pkg-config"
+}
+
+lacks_lintian() {
+    command -v lintian >/dev/null 2>&1 || echo "no lintian (apt-get install lintian)"
+}
+
+lacks_man() {
+    command -v man >/dev/null 2>&1 || echo "no man (apt-get install man-db)"
 }
 
 # why_not NEED..: why what these name is not all there; nothing, if it is.
