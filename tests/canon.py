@@ -276,15 +276,15 @@ def beside_pass(writer, count, port, stored):
     print("beside the pass: %d, %d with results, %d without room for one" % (len(stored), results, full))
 
 
-def tables(rng, file):
-    """A lent table that has no pair but the script's, one that lacks others, one that lacks a pair of the script, one that allows too much, one that is none."""
+def tables(rng, number, file):
+    """A lent table that has no pair but the script's, or lacks others; one that lacks a pair of the script; sometimes one that allows too much, and one that is none."""
     pairs = sorted(pairs_of(file))
-    yield only(pairs), None
-    yield without(*rng.sample([pair for pair in ALLOWED if pair not in pairs], 5)), None
+    yield only(pairs) if number % 2 else without(*rng.sample([pair for pair in ALLOWED if pair not in pairs], 5)), None
     if pairs:
         yield without(rng.choice(pairs)), 6
-    yield with_entries(CONSTANT, [rng.choice(FORBIDDEN)], 1), 15
-    yield CONSTANT[:-1], 14
+    if number % 16 == 0:
+        yield with_entries(CONSTANT, [rng.choice(FORBIDDEN)], 1), 15
+        yield CONSTANT[:-1], 14
 
 
 def under_tables(writer, count, port, stored):
@@ -293,13 +293,13 @@ def under_tables(writer, count, port, stored):
     for number, (file, runs) in enumerate(stored):
         one = writer(file)[1]
         count.check(pairs_of(one) == pairs_of(file), "file %d: pairs of the canonical form", number)
-        for table, want in tables(rng, file):
+        for table, want in tables(rng, number, file):
             end = ends_alike(writer, count, port, "file %d under a table" % number, [(file, MOST_BYTES), (one, MOST_BYTES)], runs, table)
             count.check(end == want if want else end not in (6, 14, 15), "file %d under a table: refused %d", number, end)
             told[end] = told.get(end, 0) + 1
     print("under lent tables: " + ", ".join("%d refused by %d" % (told[row], row) if row else "%d results" % told[row] for row in sorted(told)))
     for row in (0, 6, 8, 9, 14, 15):
-        count.check(told.get(row, 0) > 20, "only %d end so under a table: %d", told.get(row, 0), row)
+        count.check(told.get(row, 0) > 5, "only %d end so under a table: %d", told.get(row, 0), row)
 
 
 def main(driver):

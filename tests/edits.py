@@ -6,7 +6,8 @@ A wrong program is one change of one function's body: of an edit each_function*.
 src/ the function that it changes. It counts if a goal of that function's own proof does not hold any more that stands for what it ensures: at one of its
 returns, or in a loop's invariant, by which the loop keeps that. It does not count if the prover refuses it by something else: an index, a sum or a
 callee's `requires` that is out of bounds, a name that went. Nor does a change of a contract or of a definition count, nor one that calls a
-function of its own which promises nothing, nor a change that another edit makes too. What does not count is told; it stands in tests/edits_not_counted.txt for tests/edit_counts.py.
+function of its own which promises nothing, nor a change that another edit makes too. What does not count is told; it has to stand in tests/edits_not_counted.txt, by which tests/edit_counts.py
+goes, and nothing else has.
 Each statement that each_law*.edit names in a line `law NAME` must be refused by a fact of its own, too, and not only with another's; it is no program, and
 is not counted.
 
@@ -352,14 +353,17 @@ class Count:
                     self.rest.append('%s %s is refused by %s' % (label_of(edit), name, ', '.join(sorted(found))))
 
     def hold(self, labels):
-        """Holds what is not counted, of the edits that were looked at, to the list."""
+        """Holds what is not counted, of the edits that were looked at, to the list: what it lacks, and what it has for nothing, fails."""
         listed = edit_counts.not_counted()
         found = {tuple(line.split()[:2]) for line in self.rest}
         for line in self.rest:
-            print('not counted: %s%s' % (line, '' if tuple(line.split()[:2]) in listed else ', and tests/edits_not_counted.txt does not have it'))
+            is_listed = tuple(line.split()[:2]) in listed
+            print('not counted: %s%s' % (line, '' if is_listed else ', and tests/edits_not_counted.txt does not have it'))
+            self.failed += not is_listed
         for label, name in sorted(listed - found):
-            if label in labels:
-                print('tests/edits_not_counted.txt: %s %s is counted now, or is gone: its line can go' % (label, name))
+            if label in labels or not os.path.exists(os.path.join(kit.folder(label.split('/')[0]), 'must-fail', label.split('/')[1] + '.edit')):
+                print('tests/edits_not_counted.txt: %s %s is counted now, or is gone: its line goes' % (label, name))
+                self.failed += 1
 
     def end(self, checks):
         print('%d wrong programs are refused by what their functions ensure, %d of them by a loop that has to keep it; %d others are not counted. %d statements of laws are refused.'
