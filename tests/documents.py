@@ -21,14 +21,19 @@ NOTES = ('docs/PORT', 'docs/DESIGN-PASS')
 PATH = re.compile(r'(?<![\w/.$~}\-])((?:crates|tests|docs|tools|script|oracle|caller|include|samples|\.ci)/[\w./*\-]+)')
 BUILT = re.compile(r'(^|/)(target|out)(/|$)|/NAME/')
 QUOTED = re.compile(r'`([^`]+)`')
+COMMENT = re.compile(r'\s*(?://|--|#|\*|/\*)')
+COMMENTED = ('.rt', '.antt', '.py', '.sh', '.bash', '.rs', '.h', '.c', '.js')
+# the original's own, which the port has not
+ORIGINAL = {'read_from_nested_scope', 'ident_type', 'with_child'}
 NAME = re.compile(r'[A-Za-z_]\w*(?:-\w+)*(?:::[A-Za-z_]\w*)*')
 # the first parts of crates' names, before a further one
 LAYER = re.compile(r'(?<![\w`/.:\-])((?:def|file|laws|words|scope|walk|pass|resolve)_[a-z_]+)(?![\w(`])')
 # tests that make copies with files of their own
 OWN_COPIES = ('tests/gate_fails', 'tests/package.sh')
 NUMBERS = 'none one two three four five six seven eight nine ten eleven twelve'.split()
-# what a request's note has to say, by document 02
-PARTS = ('What moved', 'stayed', "The check's time", 'efore', 'fter')
+# the headings of a request's note, and what it has to say under them, by document 02
+HEADINGS = ('What moved, what stayed', "The check's time")
+SAID = ('stayed', 'before', 'after')
 
 
 class Count:
@@ -74,19 +79,36 @@ def paths(count, files):
 ENDINGS = ('.md', '.rt', '.antt', '.py', '.sh', '.bash', '.rs', '.h', '.c', '.js', '.txt')
 
 
-def names(count, documents, words):
-    """Each name in backticks that could be one of the sources', and each crate."""
+def words_of(files):
+    """What the sources' lines have, but for comments, and the names of files and folders."""
+    words = set(ORIGINAL)
+    for file in files:
+        if file.endswith('.md') or file.startswith(('tests/vectors/', 'wip/')):
+            continue
+        lines = text_of(file).split('\n')
+        text = '\n'.join(line for line in lines if not (file.endswith(COMMENTED) and COMMENT.match(line)))
+        words.update(re.findall(r'[A-Za-z_]\w*(?:-\w+)*', text))
+        words.update(re.findall(r'[A-Za-z_]\w*', text))
+        words.update((os.path.basename(file), os.path.basename(file).split('.')[0], *file.split('/')[:-1]))
+    return words
+
+
+def names(count, files, words):
+    """Each name in backticks that could be one of the sources', and each crate, in documents and comments."""
     crates = kit.read_crates()
-    for file in documents:
-        if file.startswith(NOTES):
+    for file in files:
+        is_source = file.endswith(COMMENTED)
+        if file.startswith(('wip/', *NOTES)) or not (is_source or file.endswith('.md')):
             continue
         for number, line in enumerate(text_of(file).split('\n'), 1):
+            if is_source and not COMMENT.match(line):
+                continue
             for quoted in QUOTED.findall(line):
                 if NAME.fullmatch(quoted) and re.search(r'[_A-Z:]', quoted):
                     lost = [it for it in quoted.split('::') if it not in words]
                     count.check(not lost, '%s:%d names `%s`' % (file, number, quoted))
             for name in LAYER.findall(QUOTED.sub('', line)):
-                count.check(name in crates, '%s:%d names the crate %s' % (file, number, name))
+                count.check(name in crates or is_source and name in words, '%s:%d names the crate %s' % (file, number, name))
 
 
 def layout(count):
@@ -123,15 +145,19 @@ def steps(count):
 def requests(count):
     """Each note has what document 02 asks of it."""
     for note in glob.glob('docs/requests/*.md'):
-        text = text_of(note)
-        for part in PARTS:
-            count.check(part in text, '%s lacks: %s' % (note, part))
+        lines = text_of(note).split('\n')
+        for heading in HEADINGS:
+            count.check('## ' + heading in lines, '%s lacks the heading: %s' % (note, heading))
+        text = '\n'.join(line for line in lines if not line.startswith('#')).lower()
+        for word in SAID:
+            count.check(word in text, '%s does not say what there was or is: %s' % (note, word))
 
 
 def decisions(count):
     """They are numbered one by one, and what is cited by number is there."""
     numbers = [int(it) for it in re.findall(r'^(\d+)\. \*\*', text_of('docs/DECISIONS.md'), re.M)]
-    count.check(numbers == list(range(1, len(numbers) + 1)), 'docs/DECISIONS.md is numbered %s' % numbers)
+    for wanted, number in enumerate(numbers, 1):
+        count.check(number == wanted, 'docs/DECISIONS.md has a decision %d in the place of %d' % (number, wanted))
     for file in files_there():
         if file.endswith(ENDINGS) and not file.startswith('wip/'):
             for cited in re.findall(r'docs/DECISIONS\.md, ((?:\d+(?:, | and | to )?)+)', text_of(file)):
@@ -141,15 +167,8 @@ def decisions(count):
 
 def main():
     count, files = Count(), list(files_there())
-    documents = [it for it in files if it.endswith('.md') and not it.startswith('wip/')]
-    words = set()
-    for file in files:
-        if not file.endswith('.md') and not file.startswith(('tests/vectors/', 'wip/')):
-            words.update(re.findall(r'[A-Za-z_]\w*(?:-\w+)*', text_of(file)))
-            words.update(re.findall(r'[A-Za-z_]\w*', text_of(file)))
-            words.update((os.path.basename(file), os.path.basename(file).split('.')[0], *file.split('/')[:-1]))
     paths(count, files)
-    names(count, documents, words)
+    names(count, files, words_of(files))
     layout(count)
     functions(count)
     steps(count)
