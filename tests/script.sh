@@ -41,6 +41,7 @@ if [[ $(tail -n 1 "$out/shown") =~ ^([0-9]+)\ passed,\ ([0-9]+)\ failed$ ]] && [
     rest_failed=${BASH_REMATCH[2]}
     taken kind-tables "the command under a kind table"
     taken browser "pages in a browser" "a page printed"
+    taken printed-text "the text of a printed page"
     add "$rest_passed" "$rest_failed"
 else
     echo "script: no count, status $status"

@@ -47,6 +47,10 @@ lacks_chromium() {
     [ -n "$(browser)" ] || echo "no chromium (apt-get install chromium)"
 }
 
+lacks_pdftotext() {
+    command -v pdftotext >/dev/null 2>&1 || echo "no pdftotext (apt-get install poppler-utils)"
+}
+
 lacks_g++() {
     command -v g++ >/dev/null 2>&1 || echo "no g++ (apt-get install g++)"
 }

@@ -103,18 +103,29 @@ function checkFacts(shown, facts, width, mode) {
 
 const squeezed = (text) => text.replace(/\s+/g, '');
 
-// On paper all that is told of a script stands, as far as a program that reads the pages is there.
-function checkPrint(browser, folder, { name, account }) {
-  const printed = path.join(folder, 'page.pdf');
-  browsed(browser, folder, [`--print-to-pdf=${printed}`, '--no-pdf-header-footer', `file://${path.join(folder, name)}`]);
-  assert.strictEqual(fs.readFileSync(printed).subarray(0, 5).toString(), '%PDF-');
-  const { status, stdout } = spawnSync('pdftotext', ['-raw', printed, '-'], { encoding: 'utf8' });
-  if (status !== 0) return;
+// A page on paper, and its file.
+function printed(browser, folder, { name }) {
+  const file = path.join(folder, 'page.pdf');
+  browsed(browser, folder, [`--print-to-pdf=${file}`, '--no-pdf-header-footer', `file://${path.join(folder, name)}`]);
+  return file;
+}
+
+function checkPrint(browser, folder, shown) {
+  assert.strictEqual(fs.readFileSync(printed(browser, folder, shown)).subarray(0, 5).toString(), '%PDF-');
+}
+
+// On paper all that is told of a script stands.
+function checkPrintedText(browser, folder, shown) {
+  const { account } = shown;
+  const { status, stdout } = spawnSync('pdftotext', ['-raw', printed(browser, folder, shown), '-'], { encoding: 'utf8' });
+  assert.strictEqual(status, 0);
   const text = squeezed(stdout);
   for (const told of [account.verdict.title, ...account.changes.map(({ note }) => note), ...account.variables.map((one) => one.name)]) assert.ok(text.includes(squeezed(told)), told);
 }
 
 const browserOf = () => ['chromium', 'chromium-browser', 'google-chrome'].find((name) => spawnSync(name, ['--version'], { timeout: 60000 }).status === 0);
+
+const readsPrint = () => !spawnSync('pdftotext', ['-v']).error;
 
 function testLooks(browser, folder, all) {
   for (const [width, pixels] of Object.entries(WIDTHS)) {
@@ -132,10 +143,14 @@ function testInBrowser() {
   const all = browser ? pages() : [];
   const isSeen = browser && inFolder(Object.fromEntries(all.map(({ name, page }) => [name, page])), (folder) => {
     if (!testLooks(browser, folder, all)) return false;
-    each('a page printed', all.filter(({ name }) => name === 'wheel_speed.html'), (shown) => checkPrint(browser, folder, shown));
+    const one = all.filter(({ name }) => name === 'wheel_speed.html');
+    each('a page printed', one, (shown) => checkPrint(browser, folder, shown));
+    if (readsPrint()) each('the text of a printed page', one, (shown) => checkPrintedText(browser, folder, shown));
+    else console.log('the text of a printed page: skipped, pdftotext is absent (apt-get install poppler-utils)');
     return true;
   });
-  if (!isSeen) console.log(`pages in a browser: skipped, ${browser ? `${browser} does not start here` : 'chromium is absent (apt-get install chromium)'}`);
+  const why = browser ? `${browser} does not start here` : 'chromium is absent (apt-get install chromium)';
+  if (!isSeen) console.log(`pages in a browser: skipped, ${why}\nthe text of a printed page: skipped, ${why}`);
 }
 
 module.exports = { testInBrowser };
