@@ -3,6 +3,9 @@
 
 const { Random } = require('./random');
 
+// Names that the language has a use of its own for.
+const SPECIAL = 'NaN Infinity undefined eval arguments globalThis name length __proto__ Date toString status'.split(' ');
+
 const many = (count, make) => Array.from({ length: count }, make).join(' ');
 
 // One to three variables, up to two functions that read and write them, few statements between.
@@ -12,16 +15,21 @@ class DenseScript {
     this.vars = ['a0', 'b0', 'c0'].slice(0, 1 + this.random.below(3));
     this.kinds = this.vars.map(() => this.random.weighed([[4, 'var'], [4, 'let'], [2, 'const']]));
     this.functions = ['f0', 'f1'].slice(0, this.random.below(3));
-    this.param = this.random.chance(0.6);
+    this.param = this.random.chance(0.6) && this.given('p0');
+    this.vars[0] = this.given(this.vars[0]);
+    if (this.functions.length) this.functions[0] = this.given(this.functions[0]);
     this.count = 0;
   }
 
-  name() { return this.param && this.random.chance(0.2) ? 'p0' : this.random.pick(this.vars); }
+  // A name, seldom another one that is special.
+  given(name) { return this.random.chance(0.04) ? this.random.pick(SPECIAL) : name; }
+
+  name() { return this.param && this.random.chance(0.2) ? this.param : this.random.pick(this.vars); }
 
   // A name that may be assigned.
   target() {
     const names = this.vars.filter((_, index) => this.kinds[index] !== 'const');
-    if (this.param && this.random.chance(0.2)) return 'p0';
+    if (this.param && this.random.chance(0.2)) return this.param;
     return names.length ? this.random.pick(names) : 'h';
   }
 
@@ -98,10 +106,10 @@ class DenseScript {
   text() {
     const body = this.parts().join('\n');
     if (!this.param && this.random.chance(0.5)) return `${body.replace(/return [^;]*;/g, ';')}\n`;
-    return `function m0(${this.param ? 'p0' : ''}) {\n${body}\n}\nm0(${this.literal()});\n`;
+    return `function m0(${this.param || ''}) {\n${body}\n}\nm0(${this.literal()});\n`;
   }
 }
 
 const denseScript = (seed) => new DenseScript(seed).text();
 
-module.exports = { DenseScript, denseScript };
+module.exports = { SPECIAL, DenseScript, denseScript };

@@ -206,8 +206,8 @@ function provide() {
   for (const name of ['window', 'self']) Object.defineProperty(page, name, { value: page, writable: true, configurable: true });
   Object.defineProperty(page, '$step', { value: step });
   Function.prototype.toString = () => 'function';
-  // A `var` of the script's top may be there already.
-  for (const { name, isVar } of tops) if (isVar && !things.has(name) && random.chance(0.3)) page[name] = isPlain ? plainValue() : some();
+  // A `var` of the script's top may be there already; `NaN` and its like are read-only.
+  for (const { name, isVar } of tops) if (isVar && !things.has(name) && random.chance(0.3)) Reflect.set(page, name, isPlain ? plainValue() : some());
 }
 
 provide();

@@ -2,9 +2,7 @@
 // global object, written as members of anything, read by functions that are there early; strict or not; functions in blocks; parts that are left early.
 'use strict';
 
-const { DenseScript } = require('./dense_scripts');
-
-const SPECIAL = 'NaN Infinity undefined eval arguments globalThis name length Date toString status'.split(' ');
+const { SPECIAL, DenseScript } = require('./dense_scripts');
 
 class PageScript extends DenseScript {
   constructor(seed) {

@@ -71,10 +71,10 @@ class PatternScript extends DenseScript {
   text() {
     const text = super.text();
     if (!this.param || this.random.chance(0.4)) return text;
-    const [pattern] = this.apart(['p0']);
-    const list = this.random.pick([pattern, `${pattern} = o`, `p0 = ${this.literal()}`, `q0 = ${this.literal()}, p0 = q0`]);
+    const [pattern] = this.apart([this.param]);
+    const list = this.random.pick([pattern, `${pattern} = o`, `${this.param} = ${this.literal()}`, `q0 = ${this.literal()}, ${this.param} = q0`]);
     const given = this.random.pick(['', 'o', '[1]', '[]', '{}', '5']);
-    return text.replace('(p0)', () => `(${list})`).replace(/m0\([^)]*\);\n$/, () => `m0(${given});\n`);
+    return text.replace(`(${this.param})`, () => `(${list})`).replace(/m0\([^)]*\);\n$/, () => `m0(${given});\n`);
   }
 }
 
