@@ -7,7 +7,7 @@ const { LEVELS } = require('../same/levels');
 const { build } = require('./build');
 const { rewritesFor } = require('./rewrites');
 const { rowsOf, textOf } = require('./rows');
-const { ScriptTrouble } = require('./trouble');
+const { ScriptTrouble, UsageTrouble } = require('./trouble');
 
 const WIDEST = 64;
 
@@ -67,8 +67,14 @@ function rewriteLines(found, before) {
   return [...found.lines.flatMap(({ line, was, now }) => [`  ${String(line).padStart(3)} - ${was.trim()}`, `      + ${now.trim()}`]), `  ${found.words}; ${after}`];
 }
 
+function checkLine(name, text, line) {
+  const count = Math.max(1, rowsOf(text, []).length);
+  if (line > count) throw new UsageTrouble(`--explain ${name}:${line}: the script ends on line ${count}`);
+}
+
 // `judged` is the judge's word on the result, `own` its text and edits.
 function explained({ name, text, root, answer, judged, own }, line) {
+  checkLine(name, text, line);
   const { level, findings } = judged.check;
   const { here, all, names } = concerned(findings, line);
   const seen = judged.outcome ? judged.outcome.findings.filter(({ node }) => node.at.loc.start.line === line) : [];

@@ -43,7 +43,7 @@ function portOutput(bytes, options) {
   if (error && error.code !== 'EPIPE') throw new PortTrouble(`${command}: ${WORDS[error.code] || error.message}`);
   if (!/^(refused \d+|ok runs \d+ changed [01] nodes \d+)$/m.test(stdout)) {
     const hint = isPlain(options) ? '' : `; if it takes no run limit and no kind table, ${TOOL}`;
-    throw new PortTrouble(`${command} is not the program that does the pass: it gave no such answer${stderr ? `, but: ${stderr.trim()}` : ''}${hint}`);
+    throw new PortTrouble(`${command} is not the program that does the pass: it gave no such answer${stderr ? `, but: ${stderr.trim().split('\n')[0]}` : ''}${hint}`);
   }
   return stdout;
 }

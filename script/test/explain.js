@@ -57,6 +57,13 @@ const PLACES = {
     assert.strictEqual(status, 3);
     assert.match(text, /^samples\/scripts\/wheel_speed\.js:18: the result does something else\n[^]*\nin the way:\n {4}script: {2}return limited[^]*\n {2}line 18, `change`: /);
   },
+  'a line that the script does not have': () => {
+    for (const [text, last] of [['g(1);', 1], ['g(1);\n', 1], ['g(1);\r\ng(2);\r\n', 2], ['', 1]]) {
+      const { status, said, text: out } = inline(['--no-guard', `--explain=-:${last + 1}`], text);
+      assert.deepStrictEqual([status, out], [2, '']);
+      assert.ok(said.endsWith(`script/inline: --explain standard input:${last + 1}: the script ends on line ${last}\n`), said);
+    }
+  },
   'a line that nothing stands against': () => {
     assert.match(inline(['--no-guard', '--explain=-:1'], CORE).text, /^standard input:1: nothing stands against this line at --host=anything; lines that are not shown: 3, 5\n$/);
     assert.deepStrictEqual([inline(['--no-guard', '--explain=-:1'], 'const a = 1; f(a);').status, inline(['--no-guard', '--explain=-:1'], 'class A {}').status], [0, 1]);
