@@ -18,6 +18,8 @@ const ARITHMETIC = new Set('<< >> >>> - * / % | ^ & **'.split(' '));
 const NUMBERING = new Set(['-', '+', '~']);
 
 const isHosts = (node) => node.kind === K.identifier && node.bits === 0n;
+// A name, or a member of one, by which one of those is meant.
+const isHarmless = (node) => (node.kind === K.member ? isHosts(node.children[0]) && (HARMLESS.has(node.children[0].text) || HARMLESS.has(`${node.children[0].text}.${node.text}`)) : isHosts(node) && HARMLESS.has(node.text));
 const KEYED = new Set([K.member, K.patternProperty, K.string]);
 
 // Whether a node names what makes code from text.
@@ -65,7 +67,7 @@ class Keys {
     const parent = this.variables.parents.get(node);
     if (node.kind !== K.identifier) return node.kind !== K.string || parent.kind === K.computed;
     const isAsked = parent.kind === K.new || (parent.kind === K.binary && BINARY[parent.form] === 'instanceof');
-    return !isAsked && !HARMLESS.has(node.text) && !(parent.kind === K.member && HARMLESS.has(`${node.text}.${parent.text}`));
+    return !isAsked && !isHarmless(parent.kind === K.member ? parent : node);
   }
 
   // A key that is a number by its form is no variable's name.
@@ -94,4 +96,4 @@ class Keys {
   isHostPath(node) { return this.isHostName(node) || (node.kind === K.member && this.keeps(node.text) && this.isHostPath(node.children[0])); }
 }
 
-module.exports = { Keys, makesCode };
+module.exports = { Keys, isHarmless, makesCode };

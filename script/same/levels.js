@@ -9,11 +9,7 @@ const LEVELS = [
   { name: 'anything', assumes: {}, words: 'any host' },
   { name: 'reads', assumes: { calm: true }, words: `a host that sets none of the script's variables and ${CALMLY}` },
   { name: 'apart', assumes: { calm: true, unread: true }, words: `a host that neither sets nor reads the script's variables and ${CALMLY}` },
-  {
-    name: 'plain',
-    assumes: { calm: true, unread: true, plain: true },
-    words: `a host that gives plain values, keeps its functions and objects under their names, neither sets nor reads the script's variables and ${CALMLY}`,
-  },
+  { name: 'plain', assumes: { calm: true, unread: true, plain: true }, words: `a host that gives plain values, keeps its functions and objects under their names, neither sets nor reads the script's variables and ${CALMLY}` },
 ];
 
 const DEFAULT_LEVEL = 'anything';

@@ -3,10 +3,12 @@
 
 const { K, BINARY, NAMED, UNARY, isFunction, preorder } = require('../src/kinds');
 const { LITERALS } = require('./plain');
+const { isHarmless } = require('./keys');
 const { isLexical } = require('./variables');
 
 const LOOPS = new Set([K.while, K.do, K.for, K.forIn, K.forOf]);
 const LISTS = new Set([K.block, K.script, K.case]);
+const ALL = 'all';
 
 class Order {
   constructor(variables) {
@@ -14,7 +16,6 @@ class Order {
   }
 
   parent(node) { return this.variables.parents.get(node); }
-
   inLoop(node, fn) { return node !== fn && (LOOPS.has(node.kind) || this.inLoop(this.parent(node), fn)); }
 
   // Never changed once it has been given its value. A `var` in a loop is given one in every round, while functions of earlier rounds see it.
@@ -64,26 +65,29 @@ class Order {
   isNotCalledBefore(called, { node, statement, list, index }) {
     const { root, assumes, keys } = this.variables;
     if (!this.before.has(node)) {
-      const before = list.children.slice(0, index).filter((child) => child.kind !== K.function);
-      before.push(...statement.children.slice(0, statement.children.indexOf(node) + 1));
+      const before = [...list.children.slice(0, index).filter(({ kind }) => kind !== K.function), ...statement.children.slice(0, statement.children.indexOf(node) + 1)];
       const taken = list === root ? root.children.filter((child) => child.kind === K.function && keys.mayRead(child.children[0].text)).map(({ children }) => children[0]) : [];
-      this.before.set(node, before.every(isQuiet) ? null : this.namedFrom([...before, ...taken]));
+      this.before.set(node, before.every(isQuiet) ? null : this.namedFrom([...before, ...taken], list === root));
     }
     const named = this.before.get(node);
-    return named === null || ((list !== root || Boolean(assumes.calm)) && !named.has(called));
+    return named === null || ((list !== root || Boolean(assumes.calm)) && !named.has(called) && !named.has(ALL));
   }
 
-  // The declared functions that some nodes name, and those that these name, and so on.
-  namedFrom(nodes) {
-    const found = new Set();
-    const left = [...nodes];
-    while (left.length) {
-      for (const node of preorder(left.pop())) {
-        const v = NAMED.has(node.kind) ? this.variables.of(node) : null;
-        const fresh = v ? v.defs.filter((def) => def.kind === 'function' && !found.has(def.node)) : [];
-        fresh.forEach((def) => found.add(def.node));
-        left.push(...fresh.map((def) => def.node));
-      }
+  // Functions of the language ask what they are given for properties that no text names (`join`, 23.1.3.36; a Proxy's handler, 10.5); declared ones do not, nor those by the host's names in small letters, nor a harmless one.
+  mayAsk({ kind, children: [callee, ...given] }) {
+    const isOwn = () => isFunction(callee) || (callee.kind === K.identifier && callee.bits !== 0n);
+    const isKnown = () => isOwn() || (kind === K.call && (isHarmless(callee) || this.variables.keys.isHostName(callee.kind === K.member ? callee.children[0] : callee)));
+    return (kind === K.call || kind === K.new) && !given.every((each) => isMade(each) || isFunction(each)) && !isKnown();
+  }
+
+  // The declared functions that some nodes name, and those that these name, and so on; `ALL` where something may be asked for those of the top.
+  namedFrom(nodes, isTop, found = new Set()) {
+    for (const node of nodes.flatMap((each) => [...preorder(each)])) {
+      if (isTop && this.mayAsk(node)) found.add(ALL);
+      const v = NAMED.has(node.kind) ? this.variables.of(node) : null;
+      const fresh = v ? v.defs.filter((def) => def.kind === 'function' && !found.has(def.node)).map((def) => def.node) : [];
+      fresh.forEach((each) => found.add(each));
+      this.namedFrom(fresh, isTop, found);
     }
     return found;
   }

@@ -17,9 +17,7 @@ class Values {
   }
 
   isPlain(id) { return this.plain.has(id); }
-
   get undefined() { return this.make(true, 'undefined'); }
-
   get null() { return this.make(true, 'null'); }
 }
 
