@@ -1,0 +1,15 @@
+pub mod Steps
+pub mod Tests
+pub mod Nearest
+pub mod Scale
+pub mod Short
+pub mod Widths
+pub mod Written
+pub mod Distances
+pub mod Meaning
+pub mod Laws
+pub mod Reading
+pub mod Claims
+pub mod Closest
+pub mod Parsed
+pub mod Back

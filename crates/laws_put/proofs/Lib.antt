@@ -1,0 +1,9 @@
+pub mod Near
+pub mod Tests
+pub mod Fits
+pub mod Rows
+pub mod Parts
+pub mod Right
+pub mod Fine
+pub mod Text
+pub mod Script
