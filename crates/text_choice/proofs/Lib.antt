@@ -1,0 +1,6 @@
+pub mod Planted
+pub mod Defaults
+pub mod Openings
+pub mod Passing
+pub mod ByRow
+pub mod Standing
