@@ -1,10 +1,12 @@
-// The whole pass over a tree file, the one file of a script, and a file resolved, for C callers: the functions of crates/pass, crates/file_canon and
-// crates/file_resolve, under their names and with their promises, in an archive. What they answer are structs that C reads, so that a refusal and a flag are numbers in them. A static library
-// exports what stands in its own crate, so that the functions stand here again.
+// The whole pass over a tree file, the one file of a script, a file resolved, and a script's text, for C callers: the functions of crates/pass,
+// crates/file_canon, crates/file_resolve and crates/file_text, under their names and with their promises, in an archive. What they answer are structs
+// that C reads, so that a refusal and a flag are numbers in them. A static library exports what stands in its own crate, so that the functions stand
+// here again.
 #![tactic(auto)]
 
 ghost use Rattle.file_canon.specs.Canon.{CanonIs};
 ghost use Rattle.file_resolve.specs.Resolve.{ResolveIs};
+ghost use Rattle.file_text.specs.Text.{TextIs};
 ghost use Rattle.pass_answers.specs.Entry.{InlineIs};
 ghost use Rattle.pass_answers.specs.Roots.{RootsIs, RootIs};
 ghost use Rattle.pass_answers.specs.Under.{InlineUnderIs, RootsUnderIs, RootUnderIs};
@@ -103,4 +105,12 @@ pub extern "C" fn negbosun_resolve(file: &[u8], res: &mut [u8], words: &mut [u32
     ensures { ResolveIs file.now res.old res.new words.old words.new result }
 {
     file_resolve::negbosun_resolve(file, res, words)
+}
+
+// Refusals 1 to 7, then 12 where the script has no text, then 11 where it is longer than its buffer. What is written is the script as JavaScript.
+#[unsafe(no_mangle)]
+pub extern "C" fn negbosun_text(file: &[u8], text: &mut [u8], words: &mut [u32]) -> Copied
+    ensures { TextIs file.now text.old text.new words.old words.new result }
+{
+    file_text::negbosun_text(file, text, words)
 }
