@@ -5,8 +5,8 @@
    What holds of every function here is proved, for all arguments that C allows:
 
    - It returns. It ends in a result, then `refused` is 0, or in one of the refusals below, then every other field is 0.
-   - It is a function of its arguments: equal files, lengths and run limits give equal answers. What the buffers that are written held before does
-     not matter.
+   - It is a function of its arguments: equal files, tables, lengths, run limits and, for negbosun_root, numbers give equal answers. What the buffers
+     that are written held before does not matter.
    - It reads and writes inside what is lent to it and nowhere else. `file` keeps its bytes, and so does `table`.
    - Any bytes may be given as a file or as a table, of any length; a length of 0 is allowed everywhere.
 
@@ -24,8 +24,8 @@
    each list around it, and a right side of && or || is walked twice. With functions in one another, `var v = function () { ... };`, each further one
    doubles the time: 18 take a tenth of a second, 22 take two seconds, and 31, the most that the limits let through, would at that rate take a quarter of
    an hour, in a file of 156 nodes; with hundreds of statements in the innermost, days. A call cannot be interrupted: whoever takes scripts from strangers makes it in a process
-   of its own and ends that after a time. negbosun_canon and negbosun_resolve run no pass: no file was found that takes them longer than some milliseconds.
-   docs/PERFORMANCE.md has figures. */
+   of its own and ends that after a time. negbosun_canon, negbosun_resolve and negbosun_text run no pass: no file was found that takes them longer than some
+   milliseconds, or, with a text of some megabytes, some tens of them. docs/PERFORMANCE.md has figures. */
 #ifndef NEGBOSUN_H
 #define NEGBOSUN_H
 
@@ -49,10 +49,14 @@ extern "C" {
 #define NEGBOSUN_MOST_ROOTS 256
 /* and each takes so many words. */
 #define NEGBOSUN_ROOT_WORDS 5
+/* No text is longer. The longest is `switch ( new S ( S , .. ) ) { }` of 1,024 nodes, of which 1,021 are strings S of 4,096 bytes `"` or `\`: each is 8,194 bytes, two
+   quotes and each byte with its `\`, and all of them name one text; the other tokens are 1,034 bytes, the blanks between tokens and the line end 2,048. What
+   suffices for a file, 32 bytes for each node and each node's text twice, is most often some thousands. */
+#define NEGBOSUN_MOST_TEXT_BYTES 8369156
 /* A kind table has so many bytes, one for each parent kind and child kind from 1 to 48. */
 #define NEGBOSUN_TABLE_BYTES 2304
 
-/* The refusals, by their numbers. A function checks those that it has in this order, but 14 and 15 behind 1 and before 2, and 13 behind 6 and before 7. Later
+/* The refusals, by their numbers. A function checks those that it has in this order, but 14 and 15 behind 1 and before 2, 13 behind 6 and before 7, and 12 before 11. Later
    versions may have further ones: treat every `refused` but 0 as a refusal. */
 enum negbosun_refusal {
     /* runs outside 1 to 16, or under 16,384 words */
@@ -76,6 +80,11 @@ enum negbosun_refusal {
     NEGBOSUN_REFUSED_SIZE = 9,
     /* the buffer for the answer is too short */
     NEGBOSUN_REFUSED_ROOM = 10,
+    /* of negbosun_text: the buffer for the text is too short */
+    NEGBOSUN_REFUSED_TEXT_ROOM = 11,
+    /* of negbosun_text: the script has no text. A string has bytes outside 32 to 126; a variable or a property is no name of ASCII letters, digits, `$` and `_`, or a
+       variable is a reserved word; a number has its sign bit set, is not finite, or has over 25 digits; or no text of ECMA-262's grammar reads as the tree */
+    NEGBOSUN_REFUSED_NO_TEXT = 12,
     /* of negbosun_resolve: a name is declared twice. A name that a let, a const, a block's function or a catch declares is declared twice in one scope, or by a
        var that stands in it too, or is a parameter of the function at the top of whose body it is declared */
     NEGBOSUN_REFUSED_TWICE = 13,
@@ -123,11 +132,11 @@ struct negbosun_binding {
     uint32_t count;
 };
 
-/* The answer of negbosun_canon and of negbosun_resolve. */
+/* The answer of negbosun_canon, negbosun_resolve and negbosun_text. */
 struct negbosun_written {
     /* a refusal's number, or 0 */
     uint32_t refused;
-    /* the canonical file's length in bytes, at most the buffer's */
+    /* the length in bytes of what was written, at most the buffer's */
     size_t length;
 };
 
@@ -227,6 +236,31 @@ struct negbosun_written negbosun_canon(const uint8_t *file, size_t file_length, 
      properties at most, are refused alike but for 10, and resolved to files that the pass treats alike. */
 struct negbosun_written negbosun_resolve(const uint8_t *file, size_t file_length, uint8_t *result, size_t result_length, uint32_t *words,
                                          size_t word_count);
+
+/* Prints a tree file's script as JavaScript from the beginning of `text`: tokens one blank apart, byte 10 instead behind each statement of the script, and no byte
+   but that one and 32 to 126; there is no 0 behind it. Each `;` is written, arrow parameters stand in parentheses, properties have a colon, lists no last comma;
+   strings stand in double quotes, with `\` before `"` and `\` alone; numbers are decimals without exponent, of the fewest digits behind the point with which one
+   is read as the number, and of several the nearest. Parentheses stand where the tree has them (kind 41) and, round the smallest expression that helps, where the
+   reading needs them.
+
+   file, file_length    the tree file, in bytes
+   text, text_length    room for the text, in bytes; NEGBOSUN_MOST_TEXT_BYTES always suffice, and so do, for a file, 32 for each node and each node's text twice
+   words, word_count    as above
+
+   Refusals 1 to 7, of which 1 asks for the words alone here, then 12, then 11. What is kept and what is 0 afterwards is as with negbosun_inline, `text` in place
+   of `result`. No kind table is lent.
+
+   Of this function it is proved, too, by the grammar of a Script in ECMA-262, without Annex B and early errors:
+
+   - The text, cut into tokens as ECMA-262 cuts it, and in one way only, reads as the tree, contexts and parentheses passed over, and its parentheses in one
+     way only.
+   - No added pair of parentheses is needless: without it the text reads as another tree, or as none.
+   - 12 is answered exactly where a name, a string or a number has no token as said above, or no text reads as the tree.
+
+   What contexts a file has does not show: two variables of one name print alike. negbosun_resolve on the file tells whether its text means the same.
+   A string that stands first in a script or in a function's body, alone as a statement, is a directive in the text, which the tree has not: `"use strict" ;` there makes
+   the code strict. In parentheses (kind 41) it is a value. */
+struct negbosun_written negbosun_text(const uint8_t *file, size_t file_length, uint8_t *text, size_t text_length, uint32_t *words, size_t word_count);
 
 #ifdef __cplusplus
 }

@@ -175,6 +175,42 @@ static void resolved(void) {
     check(writes_refusal(resolve_file(file, 0, 0, NEGBOSUN_WORDS), NEGBOSUN_REFUSED_HEADER), "no bytes are 2, before 10");
 }
 
+static struct negbosun_written print_file(const uint8_t *given, size_t length, size_t room, size_t count) {
+    fill();
+    return negbosun_text(given, length, result, room, words, count);
+}
+
+/* the sample fits into the buffer of a result */
+static void printed(void) {
+    struct negbosun_written done = print_file(file, file_length, sizeof result, NEGBOSUN_WORDS + BEHIND), again;
+    check(done.refused == 0 && done.length > 0 && result[done.length - 1] == 10, "the script is printed, a line for each statement");
+    check(all_are(result + done.length, sizeof result - done.length, BYTE), "the bytes behind the text are kept");
+    check(words_cleared(), "printing leaves cleared words");
+    again = print_file(file, file_length, done.length, NEGBOSUN_WORDS);
+    check(again.refused == 0 && again.length == done.length, "a buffer of its length suffices");
+    check(writes_refusal(print_file(file, file_length, done.length - 1, NEGBOSUN_WORDS + BEHIND), NEGBOSUN_REFUSED_TEXT_ROOM), "one byte below is 11");
+    check(words_cleared(), "11 leaves cleared words");
+    check(writes_refusal(print_file(file, file_length, sizeof result, NEGBOSUN_WORDS - 1), NEGBOSUN_REFUSED_RUNS_OR_WORDS), "a word less is 1");
+    check(all_are(words, sizeof words, BYTE), "1 keeps the words");
+    check(writes_refusal(print_file(file, file_length - 1, 0, NEGBOSUN_WORDS), NEGBOSUN_REFUSED_LENGTHS), "a byte less is 4, before 11");
+    check(writes_refusal(print_file(file, 0, 0, NEGBOSUN_WORDS), NEGBOSUN_REFUSED_HEADER), "no bytes are 2, before 11");
+}
+
+/* `x;`, with x called by another byte */
+static void without_text(void) {
+    static uint8_t one[32 + 16 * 3 + 4 + 1] = {1, 0, 0, 0, 85, 0, 0, 0, 3, 0, 0, 0, 32, 0, 0, 0, 1, 0, 0, 0, 80, 0, 0, 0, 84, 0, 0, 0, 1, 0, 0, 0};
+    static const uint8_t nodes[3][3] = {{1, 0, 1}, {4, 0, 1}, {21, 0, 0}};
+    for (size_t i = 0; i < 3; i++) {
+        memcpy(one + 32 + 16 * i, nodes[i], sizeof nodes[i]);
+    }
+    one[80] = 1;
+    one[84] = 'x';
+    check(print_file(one, sizeof one, 4, NEGBOSUN_WORDS).length == 4 && memcmp(result, "x ;\n", 4) == 0, "a name is printed");
+    one[84] = '7';
+    check(writes_refusal(print_file(one, sizeof one, 0, NEGBOSUN_WORDS + BEHIND), NEGBOSUN_REFUSED_NO_TEXT), "what is no name is 12, before 11");
+    check(words_cleared(), "12 leaves cleared words");
+}
+
 /* bytes may stand anywhere */
 static void unaligned(void) {
     static uint8_t given[NEGBOSUN_MOST_BYTES + 8], one[NEGBOSUN_MOST_BYTES], other[NEGBOSUN_MOST_BYTES + 8];
@@ -259,6 +295,8 @@ int main(int count, char **given) {
     numbers();
     canonical();
     resolved();
+    printed();
+    without_text();
     unaligned();
     declared_twice();
     refusals();

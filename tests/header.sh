@@ -52,7 +52,7 @@ for standard in c99 c11 c17; do
     compiled "gcc $standard" gcc -std="$standard"
 done
 one "alone in C" alone gcc -std=c99 -x c
-for name in MOST_RUNS WORDS MOST_BYTES MOST_ROOTS ROOT_WORDS TABLE_BYTES; do
+for name in MOST_RUNS WORDS MOST_BYTES MOST_TEXT_BYTES MOST_ROOTS ROOT_WORDS TABLE_BYTES; do
     one "$name" same_number "NEGBOSUN_$name" "$(rust "$name")"
 done
 one "version" grep -q "^#define NEGBOSUN_VERSION \"$(version)\"\$" include/negbosun.h

@@ -97,7 +97,7 @@ completed() {
 }
 
 completion() {
-    [ "$(completed negbosun-script --keep)" = --keep-shown ] && [ "$(completed negbosun-script --host pl)" = plain ] && [ "$(completed negbosun-inline can)" = canon ] && [[ " $(completed negbosun-inline res) " == *" resolve "* ]] &&
+    [ "$(completed negbosun-script --keep)" = --keep-shown ] && [ "$(completed negbosun-script --host pl)" = plain ] && [ "$(completed negbosun-inline can)" = canon ] && [[ " $(completed negbosun-inline res) " == *" resolve "* ]] && [[ " $(completed negbosun-inline pri) " == *" print "* ]] &&
         completed negbosun --h | grep -q -- --help
 }
 
@@ -213,6 +213,11 @@ resolved_there() {
     from_there negbosun-inline resolve "$root/usr/share/doc/negbosun/examples/tide.tree" >"$out/resolved.tree" && from_there negbosun-inline resolve "$out/resolved.tree" | cmp - "$out/resolved.tree"
 }
 
+# The sample is printed.
+printed_there() {
+    from_there negbosun-inline print "$root/usr/share/doc/negbosun/examples/tide.tree" >"$out/printed.js" && grep -q ' ;$' "$out/printed.js"
+}
+
 # Only the database of packages is left.
 nothing_left() {
     [ -z "$(find "$root" -path "$root/var/lib/dpkg" -prune -o -type f -print -o -type l -print -o -path "$root/usr" -print | tee /dev/stderr)" ]
@@ -250,6 +255,7 @@ one "program" same_output crates/negbosun/stdout negbosun
 one "tool's output" same_output crates/negbosun/stdout negbosun-inline
 one "canonical file" canon_there
 one "resolved file" resolved_there
+one "printed script" printed_there
 one "manual pages" manuals
 if part man; then
     one "manual pages shown" shown_by_man

@@ -1,8 +1,8 @@
 /* Calls the C functions of crates/pass_c. A line of standard input is `inline HEX ROOM WORDS RUNS`, `roots HEX ROOM WORDS RUNS`, `root HEX N
-   WORDS RUNS`, or `canon HEX ROOM WORDS RUNS` or `resolve HEX ROOM WORDS RUNS`, which take no run limit and pass RUNS over: a file's bytes (`-` for none), the length of the buffer for the answer (bytes, or words of root bindings) or the number of a root
+   WORDS RUNS`, or `canon HEX ROOM WORDS RUNS`, `resolve HEX ROOM WORDS RUNS` or `text HEX ROOM WORDS RUNS`, which take no run limit and pass RUNS over: a file's bytes (`-` for none), the length of the buffer for the answer (bytes, or words of root bindings) or the number of a root
    binding, the number of working words and the run limit. A sixth word is a kind table's bytes (`-` for none): then it is the function under a lent table that
-   is called; `canon` and `resolve` have none. For each it prints `REFUSED LENGTH RUNS CHANGED WRITTEN KEPT STATE STACK`: the numbers of the answer (0 0 for the
-   runs and mark of `roots`, `canon` and `resolve`; of `root` whether there is one as the length, and its five words as what was written), what was written, in hex digits (`-` for nothing), whether all behind it, the file and the table are as they were, the
+   is called; `canon`, `resolve` and `text` have none. For each it prints `REFUSED LENGTH RUNS CHANGED WRITTEN KEPT STATE STACK`: the numbers of the answer (0 0 for the
+   runs and mark of `roots`, `canon`, `resolve` and `text`; of `root` whether there is one as the length, and its five words as what was written), what was written, in hex digits (`-` for nothing), whether all behind it, the file and the table are as they were, the
    working words: `same`, `clear` (the first 16,384 are 0, the others as they were) or `other`, and how many bytes of stack were used.
    Each call has a painted stack of 256 KiB with a guard below it. */
 #include <pthread.h>
@@ -58,6 +58,16 @@ static struct negbosun_inlined inlined_of(struct call *c) {
     return negbosun_inline(c->file, c->file_length, c->result, c->room, c->words, c->count, c->runs);
 }
 
+static struct negbosun_written written_of(struct call *c) {
+    if (c->what == 'c') {
+        return negbosun_canon(c->file, c->file_length, c->result, c->room, c->words, c->count);
+    }
+    if (c->what == 's') {
+        return negbosun_resolve(c->file, c->file_length, c->result, c->room, c->words, c->count);
+    }
+    return negbosun_text(c->file, c->file_length, c->result, c->room, c->words, c->count);
+}
+
 static void *on_stack(void *given) {
     struct call *c = given;
     uint8_t here;
@@ -72,9 +82,8 @@ static void *on_stack(void *given) {
         struct negbosun_listed r = roots_of(c);
         c->answer = (struct negbosun_inlined){r.refused, r.count, 0, 0};
         c->written = sizeof(uint32_t) * NEGBOSUN_ROOT_WORDS * r.count;
-    } else if (c->what == 'c' || c->what == 's') {
-        struct negbosun_written r = c->what == 'c' ? negbosun_canon(c->file, c->file_length, c->result, c->room, c->words, c->count)
-                                                   : negbosun_resolve(c->file, c->file_length, c->result, c->room, c->words, c->count);
+    } else if (c->what != 'i') {
+        struct negbosun_written r = written_of(c);
         c->answer = (struct negbosun_inlined){r.refused, r.length, 0, 0};
         c->written = r.length;
     } else {
@@ -126,7 +135,7 @@ static size_t twice(const char *hex, uint8_t **one, uint8_t **other) {
 }
 
 static void run(const char *what, const char *hex, size_t room, size_t count, uint32_t runs, const char *kinds) {
-    /* `i` the result, `c` the canonical file, `s` the resolved one, `r` all root bindings, `n` the one of a number, for whose words there is room */
+    /* `i` the result, `c` the canonical file, `s` the resolved one, `t` the text, `r` all root bindings, `n` the one of a number, for whose words there is room */
     char asks = strcmp(what, "root") == 0 ? 'n' : strcmp(what, "resolve") == 0 ? 's' : what[0];
     size_t number = room;
     if (asks == 'n') {

@@ -63,7 +63,7 @@ const VALUES = { '--host': namedBelow, '--format': () => 'json sarif junit gcc' 
 function completion(help, name) {
   const options = longOptions(help);
   const valued = Object.entries(VALUES).filter(([option]) => options.includes(option)).map(([option, values]) => `    ${option}) COMPREPLY=($(compgen -W '${values(help)}' -- "$word")); return ;;`);
-  const words = help.includes(`${name} canon`) ? [...options, 'canon', 'resolve', 'same'] : options;
+  const words = help.includes(`${name} canon`) ? [...options, 'canon', 'resolve', 'print', 'same'] : options;
   const called = `_${name.replace(/-/g, '_')}`;
   return `# Completion of ${name} for bash.
 ${called}() {

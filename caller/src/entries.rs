@@ -116,4 +116,13 @@ extern "C" {
         words: *mut u32,
         word_count: usize,
     ) -> Written;
+
+    pub(crate) fn negbosun_text(
+        file: *const u8,
+        file_length: usize,
+        text: *mut u8,
+        text_length: usize,
+        words: *mut u32,
+        word_count: usize,
+    ) -> Written;
 }

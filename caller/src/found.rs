@@ -132,7 +132,7 @@ fn size_as_read(tree: TreeFile) -> String {
 
 impl Refusal {
     /// What the file that was so refused has where the limit is: "1,240 nodes, at most 1,024". Rows 8 and 9 are met while running; what the script has before
-    /// its first run is told of them. Row 7 is told of the contexts that the file has, which the resolver passes over. Rows 1, 10 and 16 are no matter of the file, and 14 and 15 are one of the kind table.
+    /// its first run is told of them. Row 7 is told of the contexts that the file has, which the resolver passes over. Rows 1, 10, 11 and 16 are no matter of the file, and 14 and 15 are one of the kind table.
     #[must_use]
     pub fn found(self, file: &[u8]) -> Option<String> {
         let tree = || TreeFile::new(file).ok();
@@ -146,8 +146,10 @@ impl Refusal {
             Refusal::Depth => tree().map(depth_as_read),
             Refusal::Size => tree().map(size_as_read),
             Refusal::DeclaredTwice => tree()?.declared_twice().map(|twice| twice.to_string()),
+            Refusal::NoText => tree()?.no_text().map(|none| none.to_string()),
             Refusal::RunsOrWords
             | Refusal::Room
+            | Refusal::TextRoom
             | Refusal::Table
             | Refusal::Pairs
             | Refusal::CanonRoom

@@ -1,11 +1,12 @@
 //! The variable inliner for gate scripts, called from Rust.
 //!
-//! The pass itself is written and proved in Rattle (crates/pass) and comes as a static library with eight C functions. This crate
+//! The pass itself is written and proved in Rattle (crates/pass) and comes as a static library with nine C functions. This crate
 //! declares them once and puts safe functions over them. A script goes in and comes out as a *tree file*; docs/TREE.md has its format.
 //!
 //! [`inline`] is all that most callers need; [`resolve`] works out which variable each name of a script means, so that a file can be made without
-//! contexts; [`canon`] writes the one file of a script, by which an archive tells scripts apart; [`Inliner`] keeps its memory between files;
-//! [`inline_into`], [`roots_into`], [`root_of`], [`canon_into`] and [`resolve_into`] are C functions over the caller's own buffers; each of the first three has a twin, `.._under`, which takes a mill's own [`KindTable`]; [`TreeFile`] shows a tree
+//! contexts; [`canon`] writes the one file of a script, by which an archive tells scripts apart; [`text`] prints a script as JavaScript; [`Inliner`] keeps its
+//! memory between files;
+//! [`inline_into`], [`roots_into`], [`root_of`], [`canon_into`], [`resolve_into`] and [`text_into`] are C functions over the caller's own buffers; each of the first three has a twin, `.._under`, which takes a mill's own [`KindTable`]; [`TreeFile`] shows a tree
 //! file's nodes and texts, [`Kind`] what each node is. Scripts may take values apart by patterns: `{today, before}` as a parameter stands
 //! in a file as [`Kind::ObjectPattern`], written out as `{today: today, before: before}`.
 //!
@@ -53,6 +54,7 @@ mod found;
 mod header;
 mod kind;
 mod kind_table;
+mod no_text;
 mod places;
 mod refusal;
 mod tree;
@@ -61,6 +63,7 @@ mod twice;
 pub use answer::{printed, Inlined, Root, RootBinding, Roots};
 pub use kind::Kind;
 pub use kind_table::{KindTable, KindTableError, TABLE_BYTES};
+pub use no_text::{NoText, NoTextReason, Written};
 pub use refusal::Refusal;
 pub use tree::{Node, Nodes, TreeFile};
 pub use twice::{Declaration, DeclaredBy, DeclaredTwice};
@@ -71,6 +74,10 @@ pub const MOST_RUNS: u32 = 16;
 pub const WORDS: usize = 16_384;
 /// No readable file and no result is longer: the header, 1,024 nodes, the ends of 256 texts and 4,096 bytes of text.
 pub const MOST_BYTES: usize = 32 + 16 * 1024 + 4 * 256 + 4096;
+/// No script's text is longer: `switch (new S(S, …)) { }` with 1,021 strings S of 4,096 bytes `"`, each of which takes 8,194 bytes; the other tokens take 1,034,
+/// blanks and the line end 2,048.
+/// [`TreeFile::most_text_bytes`] has what suffices for a file, most often some thousands.
+pub const MOST_TEXT_BYTES: usize = 1021 * (2 + 2 * 4096) + 1034 + 2048;
 /// No script has more root bindings.
 pub const MOST_ROOTS: usize = 256;
 
@@ -367,6 +374,33 @@ pub fn resolve_into(file: &[u8], result: &mut [u8], words: &mut [u32]) -> Result
     answer.length()
 }
 
+/// Prints a tree file's script as JavaScript into `text`, and answers the text's length: tokens one blank apart, a line end behind each statement of the script,
+/// and parentheses where the tree has them or the reading needs them. docs/TREE.md has how numbers, strings and the rest are written.
+///
+/// The text, read by ECMA-262's grammar of a script, is the tree again, contexts and parentheses passed over; none of the added parentheses is needless. What
+/// contexts a file has does not show: two variables of one name print alike.
+///
+/// [`TreeFile::most_text_bytes`] of room suffices, and [`MOST_TEXT_BYTES`] always. The words are as with [`inline_into`]; [`Refusal::RunsOrWords`] asks here for
+/// the words alone.
+///
+/// # Errors
+///
+/// Refusals 1 to 7, then [`Refusal::NoText`], then [`Refusal::TextRoom`]. A refusal leaves `text` as it was.
+pub fn text_into(file: &[u8], text: &mut [u8], words: &mut [u32]) -> Result<usize, Refusal> {
+    // SAFETY: as in `inline_into`.
+    let answer = unsafe {
+        entries::negbosun_text(
+            file.as_ptr(),
+            file.len(),
+            text.as_mut_ptr(),
+            text.len(),
+            words.as_mut_ptr(),
+            words.len(),
+        )
+    };
+    answer.length()
+}
+
 /// The pass with memory of its own, for many files one after another.
 #[derive(Clone, Debug)]
 pub struct Inliner {
@@ -453,6 +487,21 @@ impl Inliner {
         let length = resolve_into(file, &mut self.result, &mut self.words)?;
         Ok(written(&self.result, length))
     }
+
+    /// The script as JavaScript, as [`text_into`] prints it.
+    ///
+    /// # Errors
+    ///
+    /// Refusals 2 to 7, then [`Refusal::NoText`].
+    pub fn text(&mut self, file: &[u8]) -> Result<String, Refusal> {
+        // A file that is no tree file is refused before any room is asked for.
+        let room = TreeFile::new(file).map_or(0, TreeFile::most_text_bytes);
+        let mut text = vec![0; room];
+        let length = text_into(file, &mut text, &mut self.words)?;
+        text.truncate(length);
+        // All of it is bytes 32 to 126 and line ends.
+        Ok(String::from_utf8(text).unwrap_or_default())
+    }
 }
 
 /// [`Inliner::inline`] for a single file.
@@ -536,4 +585,34 @@ pub fn canon(file: &[u8]) -> Result<Vec<u8>, Refusal> {
 /// As there.
 pub fn resolve(file: &[u8]) -> Result<Vec<u8>, Refusal> {
     Inliner::new().resolve(file)
+}
+
+/// [`Inliner::text`] for a single file.
+///
+/// ```
+/// use negbosun::{text, Refusal, TreeFile};
+///
+/// // `-(-x);`, with x named by the bytes that are given: a script of one statement, two signs and a name.
+/// let script = |name: &[u8; 1]| {
+///     let node = |kind, form, children| [kind, form, children, 0, 0, 0, 0, 0, 0, 0, 0, 0, 0, 0, 0, 0];
+///     let nodes = [node(1, 0, 1), node(4, 0, 1), node(30, 3, 1), node(30, 3, 1), node(21, 0, 0)];
+///     let header: [u32; 8] = [1, 117, 5, 32, 1, 112, 116, 1];
+///     let header: Vec<u8> = header.iter().flat_map(|field| field.to_le_bytes()).collect();
+///     [&header[..], nodes.as_flattened(), &[1, 0, 0, 0], name].concat()
+/// };
+///
+/// assert_eq!(text(&script(b"x"))?, "- - x ;\n");
+///
+/// let strange = script(b"7");
+/// assert_eq!(text(&strange), Err(Refusal::NoText));
+/// let none = TreeFile::new(&strange)?.no_text().expect("a node");
+/// assert_eq!(none.to_string(), r#"node 5 (kind 21) with "7", which is no name of letters, digits, $ and _"#);
+/// # Ok::<(), Refusal>(())
+/// ```
+///
+/// # Errors
+///
+/// As there.
+pub fn text(file: &[u8]) -> Result<String, Refusal> {
+    Inliner::new().text(file)
 }

@@ -30,6 +30,11 @@ pub enum Refusal {
     Size,
     /// 10: The buffer is shorter than what is to be written.
     Room,
+    /// 11: The buffer is shorter than the text.
+    TextRoom,
+    /// 12: No text of ECMA-262's grammar reads as the script, or a name, a string or a number of it has no token.
+    /// [`TreeFile::no_text`](crate::TreeFile::no_text) says which.
+    NoText,
     /// 13: A name is declared twice in a scope, in the resolver alone: what a `let`, a `const`, a block's function or a catch declares, once more, by a `var`
     /// that stands in the scope, or as a parameter. [`TreeFile::declared_twice`](crate::TreeFile::declared_twice) says which.
     DeclaredTwice,
@@ -44,8 +49,8 @@ pub enum Refusal {
 }
 
 impl Refusal {
-    /// The fourteen that have a name, by their numbers; those of one function are checked in this order, but 14 and 15 behind 1, and 13 behind 6.
-    pub const ALL: [Refusal; 14] = [
+    /// The sixteen that have a name, by their numbers; those of one function are checked in this order, but 14 and 15 behind 1, 13 behind 6, and 12 before 11.
+    pub const ALL: [Refusal; 16] = [
         Refusal::RunsOrWords,
         Refusal::Header,
         Refusal::Counts,
@@ -56,6 +61,8 @@ impl Refusal {
         Refusal::Depth,
         Refusal::Size,
         Refusal::Room,
+        Refusal::TextRoom,
+        Refusal::NoText,
         Refusal::DeclaredTwice,
         Refusal::Table,
         Refusal::Pairs,
@@ -76,6 +83,8 @@ impl Refusal {
             Refusal::Depth => 8,
             Refusal::Size => 9,
             Refusal::Room => 10,
+            Refusal::TextRoom => 11,
+            Refusal::NoText => 12,
             Refusal::DeclaredTwice => 13,
             Refusal::Table => 14,
             Refusal::Pairs => 15,
@@ -117,6 +126,10 @@ impl Refusal {
                  or over 256 bindings and constants were live"
             }
             Refusal::Room => "the buffer for the result is shorter than the result",
+            Refusal::TextRoom => "the buffer for the text is shorter than the text",
+            Refusal::NoText => {
+                "the script has no text: a name, a string or a number of it cannot be written, or no text of the grammar reads as it"
+            }
             Refusal::DeclaredTwice => {
                 "a name is declared twice in a scope: what a let, a const, a block's function or a catch declares, once more, \
                  by a var that stands in the scope, or as a parameter"
@@ -144,7 +157,7 @@ mod tests {
     #[test]
     fn numbers_are_in_order() {
         let numbers = Refusal::ALL.map(Refusal::number);
-        assert_eq!(numbers, [1, 2, 3, 4, 5, 6, 7, 8, 9, 10, 13, 14, 15, 16]);
+        assert_eq!(numbers.to_vec(), (1..=16).collect::<Vec<_>>());
         for refusal in Refusal::ALL {
             assert_eq!(Refusal::from_number(refusal.number()), Some(refusal));
         }
@@ -153,7 +166,7 @@ mod tests {
 
     #[test]
     fn other_numbers_are_kept() {
-        for number in [11, u32::MAX] {
+        for number in [17, u32::MAX] {
             let refusal = Refusal::from_number(number);
             assert_eq!(refusal, Some(Refusal::Unlisted(number)));
             assert_eq!(refusal.map(Refusal::number), Some(number));
@@ -163,10 +176,10 @@ mod tests {
     #[test]
     fn each_says_its_number_and_something_of_its_own() {
         let mut said: Vec<&str> = Refusal::ALL.iter().map(|r| r.words()).collect();
-        said.push(Refusal::Unlisted(11).words());
+        said.push(Refusal::Unlisted(17).words());
         said.sort_unstable();
         said.dedup();
-        assert_eq!(said.len(), 15);
+        assert_eq!(said.len(), 17);
         assert!(Refusal::Room.to_string().starts_with("refusal 10: "));
         assert!(Refusal::CanonRoom.to_string().starts_with("refusal 16: "));
     }

@@ -68,15 +68,15 @@ impl fmt::Display for DeclaredTwice<'_> {
 }
 
 /// A node with its number and what is below it.
-struct Tree<'a> {
-    node: Node<'a>,
-    number: usize,
-    children: Vec<Tree<'a>>,
+pub(crate) struct Tree<'a> {
+    pub node: Node<'a>,
+    pub number: usize,
+    pub children: Vec<Tree<'a>>,
 }
 
 impl<'a> Tree<'a> {
     /// The next of the nodes with all below it. A script is at most 200 deep.
-    fn take(nodes: &mut impl Iterator<Item = (usize, Node<'a>)>) -> Option<Tree<'a>> {
+    pub fn take(nodes: &mut impl Iterator<Item = (usize, Node<'a>)>) -> Option<Tree<'a>> {
         let (number, node) = nodes.next()?;
         let children = (0..node.children())
             .map(|_| Tree::take(nodes))
@@ -88,8 +88,13 @@ impl<'a> Tree<'a> {
         })
     }
 
-    fn kind(&self) -> Kind {
+    pub fn kind(&self) -> Kind {
         self.node.kind()
+    }
+
+    /// Whether the node of that number is this one or stands below it.
+    pub fn holds(&self, number: usize) -> bool {
+        self.number == number || self.children.iter().any(|it| it.holds(number))
     }
 
     /// The names that a binding or a pattern binds; what stands in a default's value is none of them.

@@ -73,6 +73,15 @@ fn agree(inliner: &mut Inliner, file: &[u8]) {
     if let Ok(resolved) = &resolved {
         assert_eq!(resolved.len(), file.len());
     }
+    // Likewise why there is no text; row 7 comes before 12.
+    let text = inliner.text(file);
+    if text != Err(Refusal::Identifiers) {
+        let found = Refusal::NoText.found(file);
+        assert_eq!(found.is_some(), text == Err(Refusal::NoText), "{file:?}");
+    }
+    if let (Ok(text), Ok(tree)) = (&text, tree) {
+        assert!(text.len() <= tree.most_text_bytes());
+    }
     if let Ok(inlined) = &answer {
         assert!(ask_all(inlined.tree()) > 0);
         assert_eq!(inlined.roots().count(), inlined.roots().len());

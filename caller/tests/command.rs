@@ -352,6 +352,38 @@ fn names_are_resolved() {
 }
 
 #[test]
+fn scripts_are_printed() {
+    let file = names(&["x", "y"], [0, 1], [5, 7]);
+    let printed = "x ;\ny ;\n";
+    for output in [
+        run(&["print", &path("print", &file)], b""),
+        run(&["print"], &file),
+        run(&["print", "-"], &file),
+    ] {
+        assert_eq!(
+            (output.status.code(), text(&output.stdout)),
+            (Some(0), printed)
+        );
+        assert!(output.stderr.is_empty());
+    }
+    let output = run(&["--text"], &files::seven());
+    assert_eq!(
+        (output.status.code(), text(&output.stdout)),
+        (Some(0), "const a = 7 ;\n7 ;\n")
+    );
+    let output = run(&["--text", "--runs=2"], b"");
+    assert_eq!((output.status.code(), text(&output.stdout)), (Some(1), ""));
+    let output = run(&["--text"], &names(&["x", "class"], [0, 1], [0, 0]));
+    assert_eq!((output.status.code(), text(&output.stdout)), (Some(1), ""));
+    assert!(text(&output.stderr).contains("standard input: its result: refusal 12: "));
+    let output = run(&["print"], &names(&["x", "class"], [0, 1], [0, 0]));
+    assert_eq!((output.status.code(), text(&output.stdout)), (Some(1), ""));
+    let words = r#"; it has node 5 (kind 21) with "class", a reserved word, as a variable"#;
+    assert!(text(&output.stderr).contains("standard input: refusal 12: the script has no text"));
+    assert!(text(&output.stderr).ends_with(&format!("{words}\n")));
+}
+
+#[test]
 fn two_files_of_one_script_and_of_two_are_told_apart() {
     let one = path("one", &names(&["a", "y", "x"], [2, 1], [5, 7]));
     let again = path("again", &names(&["x", "y"], [0, 1], [7, 5]));
@@ -394,6 +426,9 @@ fn subcommands_ask_for_their_files() {
         &["canon", "--runs", "1"],
         &["resolve", "a", "b"],
         &["resolve", "--kinds", "a"],
+        &["print", "a", "b"],
+        &["print", "--runs=1"],
+        &["--batch", "--text"],
         &["same"],
         &["same", "a"],
         &["same", "a", "b", "c"],
@@ -407,6 +442,7 @@ fn subcommands_ask_for_their_files() {
     for arguments in [
         &["canon", "--help"][..],
         &["resolve", "-h"],
+        &["print", "--help"],
         &["same", "a", "-h"],
     ] {
         let output = run(arguments, b"");

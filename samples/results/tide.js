@@ -19,7 +19,7 @@ function gate(clock, tide) {
   if (start >= 1440) { start -= 1440; }
   var end;
   var now = minutes(clock.hour, clock.minute);
-  open = between(now, start, (start + 190) % 1440);
+  open = between(now, start, ( start + 190 ) % 1440);
   if (typeof log === "function") log("gate", open);
   return open ? 1 : void 0;
 }

@@ -31,6 +31,7 @@ What is written:
   --check           go through many files: a line for each, a summary, an exit status
   --out FILE        write there instead of to standard output (-), whole or not at all
 ${many.WRITTEN}  --tree            the script's one tree file alone
+  --print           the result as the proved printer prints it: a line for each statement of the script, without comments and layout
   --lines           the lines of the program that does the pass
 
 When it is written:
@@ -64,7 +65,7 @@ the program that does the pass is not there; 3 the result does something else; 4
 of the tool itself; 6 standard output is closed or full. Classes are those of ${DOCS}/DIFFERENCES.md. ${DOCS}/MILLERS.md says what may be written in a script.
 `;
 
-const FLAGS = ['tree', 'lines', 'compare', 'check', 'no-guard', 'keep-shown', 'unshown', 'help', ...many.FLAGS];
+const FLAGS = ['tree', 'lines', 'print', 'compare', 'check', 'no-guard', 'keep-shown', 'unshown', 'help', ...many.FLAGS];
 const VALUES = ['explain', 'out', 'runs', 'trials', 'seed', 'port', 'accept', 'host', 'samples', 'kinds', ...many.VALUES];
 const SHORT = { help: { type: 'boolean', short: 'h' } };
 const MOST_TRIALS = 100000;
@@ -127,7 +128,7 @@ function readOptions(list) {
   if (values.help) return { help: HELP };
   if (values.version) return { help: `negbosun ${VERSION}\n` };
   checkAccept(values.accept, files);
-  const kinds = ['tree', 'lines', 'compare', 'explain', 'check'].filter((name) => values[name] !== undefined && values[name] !== false);
+  const kinds = ['tree', 'lines', 'print', 'compare', 'explain', 'check'].filter((name) => values[name] !== undefined && values[name] !== false);
   const { line } = explainedPlace(values.explain, files);
   if (kinds.length > 1) throw new UsageTrouble(`--${kinds[0]} and --${kinds[1]} do not go together`);
   const more = many.readMany(values, files, kinds);

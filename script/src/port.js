@@ -1,5 +1,5 @@
-// The one place that runs the pass and the resolver: the proved port as a program that reads a tree file and prints document 01's lines, and the Rust caller's
-// tool over the same library, which writes a tree file with its contexts.
+// The one place that runs the pass, the resolver and the printer: the proved port as a program that reads a tree file and prints document 01's lines, and the Rust
+// caller's tool over the same library, which writes a tree file with its contexts, and a script's text.
 'use strict';
 
 const { spawnSync } = require('child_process');
@@ -11,7 +11,6 @@ const { PortTrouble, trouble } = require('./trouble');
 const DEFAULT_PORT = path.join(__dirname, '..', '..', 'target', 'bin', 'negbosun');
 // The program takes no run limit and no kind table; the Rust caller's tool over the same C functions does.
 const LIMITED_PORT = path.join(__dirname, '..', '..', 'caller', 'target', 'release', 'negbosun-inline');
-const RESOLVER = 'negbosun-inline resolve';
 const MOST_RUNS = 16;
 const LONGEST_ANSWER = 1 << 24;
 const TOOL = 'build caller/ (cargo build --release), whose tool does';
@@ -71,35 +70,51 @@ function runPort(bytes, meaning, options) {
 
 const resolverPath = () => process.env.NEGBOSUN_RESOLVER || LIMITED_PORT;
 
-function resolverOutput(bytes) {
+// What the tool writes for a tree file under one of its words, or a refusal's number and words. A tool that does not know the word takes it for a file.
+function toolOutput(word, bytes, isAnswer) {
   const command = resolverPath();
   if (!fs.existsSync(command)) {
     const words = `the program that works out which variable each name means is not there: ${command}; build it by tools/build pass and, in caller/, `
       + 'cargo build --release, or name it by NEGBOSUN_RESOLVER';
     throw Object.assign(new PortTrouble(words), { isAbsent: true, isResolver: true });
   }
-  const { status, stdout, stderr, error } = spawnSync(path.resolve(command), ['resolve'], { input: bytes, maxBuffer: LONGEST_ANSWER, timeout: 1000 * SECONDS, killSignal: 'SIGKILL' });
+  const { status, stdout, stderr, error } = spawnSync(path.resolve(command), [word], { input: bytes, maxBuffer: LONGEST_ANSWER, timeout: 1000 * SECONDS, killSignal: 'SIGKILL' });
   if (error && error.code !== 'EPIPE') throw new PortTrouble(`${command}: ${WORDS[error.code] || error.message}`);
-  if (status === 0 && stdout.length === bytes.length) return { refused: 0, file: stdout };
+  if (status === 0 && isAnswer(stdout)) return { refused: 0, answer: stdout };
   const [, refused, words] = /refusal (\d+): (.*)/.exec(stderr.toString()) || [];
-  if (status !== 1 || !refused) throw new PortTrouble(`${command} is not ${RESOLVER}: it gave no such answer${stderr.length ? `, but: ${stderr.toString().trim()}` : ''}`);
+  if (status !== 1 || !refused) throw new PortTrouble(`${command} is not negbosun-inline ${word}: it gave no such answer${stderr.length ? `, but: ${stderr.toString().trim()}` : ''}`);
   return { refused: Number(refused), words };
 }
 
-// A result is often the script again, and its text is read more than once.
-const KEPT = 8;
-const resolved = new Map();
+function resolverOutput(bytes) {
+  const { answer: file, ...rest } = toolOutput('resolve', bytes, (stdout) => stdout.length === bytes.length);
+  return file ? { ...rest, file } : rest;
+}
+
+function printerOutput(bytes) {
+  const { answer: text, ...rest } = toolOutput('print', bytes, () => true);
+  return text ? { ...rest, text: text.toString('latin1') } : rest;
+}
+
+// A result is often the script again, its text is read more than once, and a value may stand in many places: so many answers are kept.
+function keeping(most, ask) {
+  const kept = new Map();
+  return (bytes) => {
+    const key = bytes.toString('latin1');
+    const answer = kept.get(key) || ask(bytes);
+    kept.delete(key);
+    kept.set(key, answer);
+    if (kept.size > most) kept.delete(kept.keys().next().value);
+    return answer;
+  };
+}
 
 // A tree file with its contexts, or a refusal's number and words.
-function resolve(bytes) {
-  const key = bytes.toString('latin1');
-  const answer = resolved.get(key) || resolverOutput(bytes);
-  resolved.delete(key);
-  resolved.set(key, answer);
-  if (resolved.size > KEPT) resolved.delete(resolved.keys().next().value);
-  return answer;
-}
+const resolve = keeping(8, resolverOutput);
+
+// The text of a tree file's script, or a refusal's number and words.
+const printTree = keeping(64, printerOutput);
 
 const isResolverThere = () => fs.existsSync(resolverPath());
 
-module.exports = { checkKinds, isResolverThere, resolve, runPort, takesLimit, MOST_RUNS, SECONDS };
+module.exports = { checkKinds, isResolverThere, printTree, resolve, runPort, takesLimit, MOST_RUNS, SECONDS };

@@ -5,6 +5,7 @@ const { K, identityOf, preorder } = require('./kinds');
 const { estreeOf } = require('./from_tree');
 const { finishedText, print } = require('./print');
 const { LINE_END } = require('./rows');
+const { partText } = require('./whole_text');
 
 // A number such as 010 and a text such as "\\07", which strict code may not have.
 const LEGACY = /^(?:0\d|["'](?:[^\\]|\\[^\d]|\\0(?!\d))*\\(?:[1-9]|0\d))/;
@@ -71,7 +72,7 @@ class Source {
     return found && !(isStrict && [...preorder(found)].some(isLegacy)) ? this.slice(found.at) : null;
   }
 
-  // Printed anew, with texts in quotes as the script has them.
+  // Printed anew: by the proved printer, or, where it has no text for it or is not there, with texts in quotes as the script has them.
   printed(node, isStrict = false) {
     const has = (text) => this.quoted.has(text) && !(isStrict && LEGACY.test(this.quoted.get(text)));
     const around = (part, made) => {
@@ -79,7 +80,7 @@ class Source {
       if (PROPERTIES.has(part.kind) && made.key.type === 'Literal' && has(part.text)) return { ...made, key: finishedText(this.quoted.get(part.text)) };
       return made;
     };
-    return print(estreeOf(node, around)).trimEnd();
+    return partText(node) ?? print(estreeOf(node, around)).trimEnd();
   }
 
   // The text of `node` where it stands for the variable `identity`, in strict code or not.

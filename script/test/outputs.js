@@ -106,6 +106,28 @@ const OUTPUTS = {
     assert.match(text, /^gates\/a\.js: [^]*^gates\/below\/b\.js: [^]*^gates\/c\.js:1:1: a class[^]*^3 scripts: 1 refused, 1 accepted, 1 shown$/m);
     for (const [name, short] of [['a', SHORT[0]], ['below/b', SHORT[1]]]) assert.ok(text.includes(`gates/${name}.js: ${short}\n`));
   }),
+  'the result as the proved printer prints it': () => {
+    const printed = (text) => inline(ROOT, ['--print', '-'], text);
+    assert.strictEqual(printed('// before\nconst a = 1;\nf(-(-a), "b");').text, 'const a = 1 ;\nf ( - ( - 1 ) , "b" ) ;\n');
+    assert.strictEqual(printed('let a = b; { let b; [a]; }').text, 'let a ;\n{ let b$1 ; [ b ] ; }\n');
+    assert.strictEqual(printed('').text, '');
+  },
+  'what has no text is told with its place': () => {
+    const told = [
+      ['f();\nlet h\u00f6he = 1;\n', 'standard input:2:5: refusal 12: "h\u00f6he", which is no name of letters'],
+      ['f("\u00e4");', 'standard input:1:3: refusal 12: "\u00e4", a string of other bytes than 32 to 126'], ['f(a, 1e300);', 'standard input:1:6: refusal 12: 1e300, a number of over 25 digits'],
+      ['f({"a-b": 1});', 'refusal 12: "a-b", which is no name'],
+    ];
+    for (const [text, words] of told) {
+      const { status, text: written, said } = inline(ROOT, ['--print', '-'], text);
+      assert.deepStrictEqual([status, written], [1, '']);
+      assert.ok(said.includes(words), said);
+    }
+  },
+  'printed only where the result would be written': () => {
+    const { status, stdout } = spawnSync(COMMAND, ['--no-guard', '--print', '-'], { input: 'var b = 2; g(b);', encoding: 'utf8' });
+    assert.deepStrictEqual([status, stdout], [4, '']);
+  },
   'version and help': () => {
     assert.strictEqual(inline(ROOT, ['--version']).text, `negbosun ${VERSION}\n`);
     assert.match(inline(ROOT, ['-h']).text, /^Usage: [^]*\nExit status: 0 /);
@@ -143,6 +165,8 @@ const SAID = [
   [['--time-limit', 'x'], '', 2, /--time-limit takes seconds/],
   [['--out-dir', 'x'], '', 2, /--out-dir takes the scripts to go through/],
   [['--json', '--lines', 'x.js'], '', 2, /--json and --lines do not go together/],
+  [['--lines', '--print', 'x.js'], '', 2, /--lines and --print do not go together/],
+  [['--out-dir', 'built', '--print', 'x.js'], '', 2, /--out-dir and --print do not go together/],
   [['a.js', 'b.js'], '', 2, /one file at a time/],
   [['--out', 'no/such/out.js'], 'f();', 2, /script\/inline: --out no\/such\/out\.js: the folder no\/such is not there; make it first\n$/],
   [['--page', '/dev/null', '-'], 'f();', 2, /\nscript\/inline: --page \/dev\/null: not a plain file\n$/],

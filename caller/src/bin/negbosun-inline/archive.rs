@@ -1,4 +1,5 @@
-//! Tree files written anew: the one file of a script, for an archive, and a file with its names resolved; and whether two files hold one script.
+//! Tree files written anew: the one file of a script, for an archive, and a file with its names resolved; a script as JavaScript; and whether two files hold one
+//! script.
 
 use crate::options::Options;
 use crate::{named, print, put, Trouble, NOT_READ, REFUSED};
@@ -26,6 +27,21 @@ pub fn resolve(path: Option<&OsStr>) -> Result<(), Trouble> {
         Refusal::Identifiers => Trouble(REFUSED, format!("{name}: {refusal}")),
         _ => refused(&name, refusal, &file),
     })?)
+}
+
+/// The script as JavaScript, to standard output.
+pub fn text(path: Option<&OsStr>) -> Result<(), Trouble> {
+    let (name, file) = named(path)?;
+    let text = negbosun::text(&file);
+    print(&text.map_err(|refusal| refused(&name, refusal, &file))?)
+}
+
+/// A result as JavaScript.
+pub fn text_of_result(name: &str, result: &[u8]) -> Result<String, Trouble> {
+    negbosun::text(result).map_err(|refusal| {
+        let Trouble(status, line) = refused("its result", refusal, result);
+        Trouble(status, format!("{name}: {line}"))
+    })
 }
 
 /// A file's name and the one file of its script. A status of its own tells two scripts, so that a refused file has that of one that is not read.

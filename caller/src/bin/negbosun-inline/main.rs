@@ -133,7 +133,11 @@ fn single(options: &Options) -> Result<u8, Trouble> {
     let (name, file) = named(options.path.as_deref())?;
     let answer = timed(options, table.clone())?.answer(file.clone(), options.runs);
     let answer = answer.ok_or_else(|| Trouble::too_long(&name, options))?;
-    print(&printed(&answer))?;
+    match &answer {
+        Ok(inlined) if options.text => print(&archive::text_of_result(&name, inlined.file())?)?,
+        Err(_) if options.text => {}
+        _ => print(&printed(&answer))?,
+    }
     match answer {
         Ok(_) => Ok(0),
         Err(refusal) => {
@@ -196,6 +200,7 @@ fn run() -> Result<u8, Trouble> {
         }
         Wish::Canon(path) => archive::canon(path.as_deref()).map(|()| 0),
         Wish::Resolve(path) => archive::resolve(path.as_deref()).map(|()| 0),
+        Wish::Print(path) => archive::text(path.as_deref()).map(|()| 0),
         Wish::Same(one, two) => archive::same(&one, &two).map(|same| u8::from(!same)),
         Wish::Run(options) if options.batch => batch(&options),
         Wish::Run(options) => single(&options),

@@ -8,6 +8,7 @@ pub const USAGE: &str = "usage: negbosun-inline [OPTIONS] [FILE]
        negbosun-inline --batch [OPTIONS]
        negbosun-inline canon [FILE]
        negbosun-inline resolve [FILE]
+       negbosun-inline print [FILE]
        negbosun-inline same FILE FILE
 
 Runs the pass on a tree file, or on standard input, and prints its result: a head line, a line for each node and one for each root
@@ -15,6 +16,7 @@ binding. A refusal is printed as `refused N`, and said in plain words on standar
 
   --runs N              at most N runs, 1 to 16 (16)
   --kinds FILE          a mill's own kind table, 48 lines of 48 digits or 2,304 bytes: what it forbids is refused
+  --text                print the result as JavaScript, as print (below) does
   --time-limit SECONDS  stop if the pass takes longer (30; 0: no limit)
   --batch               standard input has a line `HEX` or `HEX RUNS` for each file; each is answered at once, with a blank line behind
   -h, --help            this text
@@ -29,11 +31,15 @@ numbered from 0 in the order of their first use. The exit status is as above.
 resolve writes the file to standard output with each name's context worked out: the number of the innermost scope that declares it, or 0. What
 contexts the file had does not matter. A script that declares a name twice where it may not is refused by 13. The exit status is as above.
 
+print writes the script to standard output as JavaScript, which reads as the tree: tokens one blank apart, a line for each statement of the script,
+parentheses where the tree has them or the reading needs them. Contexts do not show. A script that no text reads as is refused by 12, with the node and
+the reason. The exit status is as above.
+
 same says whether two files hold one script: whether they differ only in how texts and contexts are numbered and in texts without use.
 Exit status: 0 one script, 1 two scripts, 2 bad usage, 3 a file could not be read or is no readable tree file, 6 as above.
 
-None of the three takes an option, nor a kind table: they read a file by the kinds alone. A file called canon, resolve or same is ./canon,
-./resolve or ./same here; - is standard input.";
+None of the four takes an option, nor a kind table: they read a file by the kinds alone. A file called canon, resolve, print or same is ./canon,
+./resolve, ./print or ./same here; - is standard input.";
 
 const SECONDS: u64 = 30;
 
@@ -42,6 +48,8 @@ pub struct Options {
     /// None: as long as it takes.
     pub limit: Option<Duration>,
     pub batch: bool,
+    /// The result as JavaScript, and not as lines.
+    pub text: bool,
     /// The file of a kind table.
     pub kinds: Option<OsString>,
     pub path: Option<OsString>,
@@ -55,6 +63,8 @@ pub enum Wish {
     Canon(Option<OsString>),
     /// The file with its names resolved.
     Resolve(Option<OsString>),
+    /// The script as JavaScript.
+    Print(Option<OsString>),
     /// Whether two files hold one.
     Same(OsString, OsString),
 }
@@ -101,6 +111,7 @@ impl Default for Options {
             runs: MOST_RUNS,
             limit: Some(Duration::from_secs(SECONDS)),
             batch: false,
+            text: false,
             kinds: None,
             path: None,
         }
@@ -132,6 +143,7 @@ fn take<I: Iterator<Item = OsString>>(
         "--runs" => options.runs = words.number(name)?,
         "--time-limit" => options.limit_to(words.number(name)?),
         "--batch" => options.batch = true,
+        "--text" => options.text = true,
         "--kinds" => options.kinds = Some(words.value(name, "a file")?),
         _ => return Err(format!("{name}: unknown option")),
     }
@@ -176,6 +188,7 @@ pub fn read(given: impl Iterator<Item = OsString>) -> Result<Wish, String> {
     match words.split_first() {
         Some((first, rest)) if first == "canon" => of_one(rest, Wish::Canon),
         Some((first, rest)) if first == "resolve" => of_one(rest, Wish::Resolve),
+        Some((first, rest)) if first == "print" => of_one(rest, Wish::Print),
         Some((first, rest)) if first == "same" => same(rest),
         _ => run(words.into_iter()),
     }
@@ -199,6 +212,9 @@ fn run(given: impl Iterator<Item = OsString>) -> Result<Wish, String> {
     }
     if options.batch && options.path.is_some() {
         return Err("--batch reads standard input alone".into());
+    }
+    if options.batch && options.text {
+        return Err("--batch prints lines, and takes no --text".into());
     }
     Ok(Wish::Run(options))
 }

@@ -1,11 +1,13 @@
 //! The inputs of docs/DECISIONS.md: `decisions list FILE` prints each as a line `HEX RUNS`, `decisions check FILE` holds the answers on standard
 //! input, as `negbosun-inline --batch` gives them, to what the document says, and counts; `decisions resolver FILE` prints each input of the resolver
-//! as a line `HEX CONTEXTS` or `HEX refused N`, which tests/resolve.py checks.
+//! as a line `HEX CONTEXTS` or `HEX refused N`, which tests/resolve.py checks; `decisions printer FILE` each input of the printer as `HEX TEXT` or
+//! `HEX refused N`, which tests/text.py checks.
 //!
 //! An input stands in the document as `` `SCRIPT` → OUTCOME ``. A script is JavaScript as `parse` takes it, with `«193 [»` for 193 times `[`; or
 //! it begins with `nodes` and has its nodes as `KIND.FORM/CHILDREN:TEXT`, each part but the kind left out where it is 0 or none. An outcome is `same` (the script,
 //! one run, no mark), `refused N`, or the result as a script; `in N runs` and `with roots` and a list of name and mark may follow. An input of the resolver
-//! is `` `SCRIPT` ⇒ OUTCOME ``, the outcome `refused N`, or the contexts of the names in the order of the nodes, as in `` `x; var y;` ⇒ 0, 1 ``. Each numbered
+//! is `` `SCRIPT` ⇒ OUTCOME ``, the outcome `refused N`, or the contexts of the names in the order of the nodes, as in `` `x; var y;` ⇒ 0, 1 ``. An input of the printer
+//! is `` `SCRIPT` ⟶ OUTCOME ``, the outcome `refused N`, or the text, in which a blank stands for a line end, as in `` `x;y;` ⟶ `x ; y ;` ``. Each numbered
 //! entry has an input, or says why none shows it: "No input" or "No script".
 
 use std::io::{self, BufRead};
@@ -193,23 +195,28 @@ fn inputs(document: &str) -> Result<Vec<Input>, Fault> {
             piece = after;
         }
         let says_none = text.contains("No input") || text.contains("No script");
-        if all.len() == before && !text.contains('⇒') && !says_none {
+        if all.len() == before && !text.contains(['⇒', '⟶']) && !says_none {
             return Err(format!("entry {entry} has no input, and does not say why"));
         }
     }
     Ok(all)
 }
 
-/// The script before each double arrow of an entry, and what stands behind it.
-fn of_resolver(entry: u32, text: &str) -> Result<Vec<(String, String)>, Fault> {
-    let pieces: Vec<&str> = text.split(" ⇒ ").collect();
+/// The script before each arrow of that sort in an entry, and what stands behind it, as `outcome` reads it where it is no refusal.
+fn behind(
+    arrow: &str,
+    outcome: fn(&str) -> Option<String>,
+    entry: u32,
+    text: &str,
+) -> Result<Vec<(String, String)>, Fault> {
+    let pieces: Vec<&str> = text.split(arrow).collect();
     let pairs = pieces.iter().zip(pieces.iter().skip(1));
     let inputs = pairs.map(|(before, after)| {
         let source = before.strip_suffix('`').and_then(|it| it.rsplit_once('`'));
-        let (_, source) = source.ok_or("a double arrow without a script")?;
+        let (_, source) = source.ok_or("an arrow without a script")?;
         let outcome = match after.strip_prefix("refused ") {
             Some(number) => format!("refused {}", number_at(number).ok_or("no number")?),
-            None => contexts(after).ok_or("no contexts")?,
+            None => outcome(after).ok_or("no outcome")?,
         };
         Ok((source.to_string(), outcome))
     });
@@ -226,9 +233,19 @@ fn contexts(text: &str) -> Option<String> {
     (!numbers.is_empty()).then(|| numbers.join(" "))
 }
 
-fn resolver(document: &str) -> Result<(), Fault> {
+/// The text between backquotes that a text begins with.
+fn printed(text: &str) -> Option<String> {
+    quoted(text).map(|(printed, _)| printed.into())
+}
+
+/// A line for each input of the resolver or the printer.
+fn of_others(
+    document: &str,
+    arrow: &str,
+    outcome: fn(&str) -> Option<String>,
+) -> Result<(), Fault> {
     for (entry, text) in entries(document) {
-        for (source, outcome) in of_resolver(entry, &text)? {
+        for (source, outcome) in behind(arrow, outcome, entry, &text)? {
             let file =
                 file_of(&source).map_err(|fault| format!("entry {entry}: `{source}`: {fault}"))?;
             println!("{} {outcome}", to_hex(&file));
@@ -334,14 +351,17 @@ fn run() -> Result<bool, Fault> {
     let words: Vec<String> = std::env::args().skip(1).collect();
     let [wish, path] = &words[..] else {
         return Err(
-            "usage: decisions list FILE | decisions check FILE < ANSWERS | decisions resolver FILE"
+            "usage: decisions list FILE | decisions check FILE < ANSWERS | decisions resolver FILE | decisions printer FILE"
                 .into(),
         );
     };
     let document = std::fs::read_to_string(path).map_err(|error| format!("{path}: {error}"))?;
     let all = inputs(&document)?;
     if wish == "resolver" {
-        return resolver(&document).map(|()| true);
+        return of_others(&document, " ⇒ ", contexts).map(|()| true);
+    }
+    if wish == "printer" {
+        return of_others(&document, " ⟶ ", printed).map(|()| true);
     }
     if wish == "list" {
         for input in &all {
