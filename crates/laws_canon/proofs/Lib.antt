@@ -5,3 +5,4 @@ pub mod Same
 pub mod Form
 pub mod Laws
 pub mod Commutes
+pub mod Under

@@ -409,12 +409,12 @@ file-trees n bs = go (read bs) (read_ok bs)
         let e₂ = sizes (λ a. eqb a o) w.tree nil in
         omega (arith, e₁, e₂, planted-size o (core_nodes s), hits-once o s 1 s.nodes)
 
-    out : (s : Script) (w : Whole s) (x : Walk.Outcome) → ReadableOut x → ((asked : ℕ → Bool) → NoInit asked w.tree → KeptOut asked w.tree x) → TreesIn s (answer s x)
-    out s w (Walk.refused r) h k = tt
-    out s w (Walk.result m c u ms) h k = record { before = w.tree; after = u; is = w.is; nodes = refl; readable = w.readable; again = h; assigned = k; once = λ o l h. (let r = one o l w.tree h (single o s w) in k (λ a. eqb a o) r.inits ∙ r.is) }
+    out : (s : Script) (w : Whole s) (x : Walk.Outcome) → Walk.core_pass n w.tree ≡ x → ReadableOut x → ((asked : ℕ → Bool) → NoInit asked w.tree → KeptOut asked w.tree x) → TreesIn n s (answer s x)
+    out s w (Walk.refused r) e h k = tt
+    out s w (Walk.result m c u ms) e h k = record { before = w.tree; after = u; roots = ms; is = w.is; passed = e; nodes = refl; readable = w.readable; again = h; assigned = k; once = λ o l h. (let r = one o l w.tree h (single o s w) in k (λ a. eqb a o) r.inits ∙ r.is) }
 
-    by : (s : Script) → Whole s → TreesIn s (answer s (pass_tree n (core_tree s)))
-    by s w = subst (λ (x : Option Tree). TreesIn s (answer s (pass_tree n x))) (sym w.is) (out s w (Walk.core_pass n w.tree) (result-readable n w.tree w.readable) (λ asked h. assigns-kept asked n w.tree (outside asked w.tree w.readable.fits h)))
+    by : (s : Script) → Whole s → TreesIn n s (answer s (pass_tree n (core_tree s)))
+    by s w = subst (λ (x : Option Tree). TreesIn n s (answer s (pass_tree n x))) (sym w.is) (out s w (Walk.core_pass n w.tree) refl (result-readable n w.tree w.readable) (λ asked h. assigns-kept asked n w.tree (outside asked w.tree w.readable.fits h)))
 
     go : (r : Read) → ReadsOk r → TreesOf n r
     go (bad r) o = tt

@@ -8,7 +8,7 @@ use Rattle.def_file.specs.Script.{Script}
 use Rattle.def_file.specs.Read.{Read, bad, script, read}
 use Rattle.def_pass.specs.Tree.{Tree, Forest, node, nil, cons, head_t, tail_f}
 use Rattle.def_pass.specs.Script.{Out, Answer, no!, yes!, core_tree, back, pass_read}
-use Rattle.def_pass.specs.Walk.{Outcome, refused, result, core_pass}
+use Rattle.def_pass.specs.Walk.{Rooted, Outcome, refused, result, core_pass}
 use Rattle.def_pass.specs.Cases.{f2, f3, name, bind, lit, decl_to}
 use Rattle.laws_pass.specs.Readable.{Readable}
 use Rattle.laws_pass.specs.Assigns.{Assign, target_o, assigns, assigns_f}
@@ -46,24 +46,26 @@ pub thrice : stands_in 9 (core_pass 16 (node (number_of Kind.Script) 0 0 (f3 (de
 unfolding core_pass
 thrice = refl
 
--- t is the script's tree, u the result's, whose nodes xs are
-pub record Trees (s : Script) (xs : List Out) : Type 0 where
+-- `before` is the script's tree, `after` the one that the pass makes of it in at most n runs, with its origins: in k runs, with the mark c; xs are its nodes
+pub record Trees (n : ℕ) (s : Script) (k : ℕ) (c : Bool) (xs : List Out) : Type 0 where
   pub before : Tree
   pub after : Tree
+  pub roots : List Rooted
   pub is : core_tree s ≡ some before
+  pub passed : core_pass n before ≡ result k c after roots
   pub nodes : xs ≡ map (back s) (flat after [])
   pub readable : Readable before
   pub again : Readable after
   pub assigned : (asked : ℕ → Bool) → NoInit asked before → assigns asked after ≡ assigns asked before
   pub once : (o : ℕ) (l : Option Tree) → Stands o l before → of_origin o after ≡ (o, target_o l) ∷ []
 
-abbrev pub TreesIn : Script → Answer → Type 0
-TreesIn s (no! n) = Unit {0}
-TreesIn s (yes! k c xs rs) = Trees s xs
+abbrev pub TreesIn : ℕ → Script → Answer → Type 0
+TreesIn n s (no! m) = Unit {0}
+TreesIn n s (yes! k c xs rs) = Trees n s k c xs
 
 abbrev pub TreesOf : ℕ → Read → Type 0
 TreesOf n (bad r) = Unit {0}
-TreesOf n (script s) = TreesIn s (pass_read n (script s))
+TreesOf n (script s) = TreesIn n s (pass_read n (script s))
 
 -- of every file and run limit
 abbrev pub FileTrees : Type 0
