@@ -5,7 +5,7 @@ use mathlib.Core.Option.{Option, none, some}
 use mathlib.Core.Logic.{◌⊎◌, inl, inr}
 use mathlib.Core.List.{List, [], ◌∷◌, ◌++◌, map}
 use Prim.Native.Nat.{ℕ, suc}
-use lib.Dec.{T, eqb, ltb}
+use lib.Dec.{T, eqb, ltb, eqb→eq}
 use Rattle.def_tree.specs.Base.{pick, or_else}
 use Rattle.def_tree.specs.Combine.{Res, stop, done, Nothing, and_then, ◌>>◌, ret, iff, each, split}
 use Rattle.def_pass.specs.Tree as Tree'
@@ -14,7 +14,7 @@ use Rattle.def_pass.specs.Twice.{is_args}
 use Rattle.def_pass.specs.Scope as Scope
 use Rattle.def_pass.specs.Scope.{VarInfo, Stack}
 use Rattle.def_pass.specs.Walk as Walk
-use Rattle.def_pass.specs.Walk.{St, M}
+use Rattle.def_pass.specs.Walk.{St, M, Walks}
 use Rattle.laws_pass.specs.Branch.{Cleared, WriteClears, Ends, NeverTaken}
 use Rattle.laws_pass.proofs.Single.{Fresh, unbound}
 use Rattle.laws_pass.proofs.Tests.{pick-ok, pick_known}
@@ -265,3 +265,8 @@ never w p (node k f a ts) s =
     out : (x : Res St Forest) → EndsF p k f a x → Ends p (and_then x (λ us. ret (node k f a us)))
     out (stop n) h = tt
     out (done s₁ us) h = h
+
+-- behind a node's own handler, if that node is an assignment
+pub ends-own : (w : Walks) (p : ℕ) (t : Tree) → T (eqb (kind t) 33) → (s : St) → Ends p (Walk.own w p t s)
+unfolding Walk.own Walk.handle
+ends-own w p (node k f a ts) e s = subst (λ (n : ℕ). Ends p (Walk.own w p (node n f a ts) s)) (sym (eqb→eq k 33 e)) (never w p (node 33 f a ts) s)

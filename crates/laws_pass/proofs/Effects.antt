@@ -23,7 +23,7 @@ use Rattle.def_tree.proofs.Tests.{is_T, and_left, and_right, or_left, or_right}
 use Rattle.laws_pass.proofs.All.{All}
 use Rattle.laws_pass.proofs.Tests.{pick-ok}
 use Rattle.laws_pass.specs.Branch.{Ends}
-use Rattle.laws_pass.proofs.Branch.{never}
+use Rattle.laws_pass.proofs.Branch.{ends-own}
 
 -- what a law speaks of
 pub record Law : Type 1 where
@@ -956,13 +956,9 @@ module _ (L : Law) where
           go false i true e false = (logical-ok p t o).from s h
           go false i false e c = (logical-ok p t o).from s h
 
-      dead : (p : ℕ) (t : Tree) → T (eqb (kind t) 33) → (s : St) → Ends p (Walk.own w p t s)
-      unfolding Walk.own Walk.handle
-      dead p (node k f a ts) e s = subst (λ (n : ℕ). Ends p (Walk.own w p (node n f a ts) s)) (sym (eqb→eq k 33 e)) (never w p (node 33 f a ts) s)
-
       full-ok : (p : ℕ) (t : Tree) → L.Good p t → WT p t (Walk.visit_mut_expr w p t)
       unfolding Walk.visit_mut_expr
-      full-ok p t o = record { from = λ s h. go s (Walk.own w p t s) ((own-ok p t o).from s h) (λ e. dead p t e s) }
+      full-ok p t o = record { from = λ s h. go s (Walk.own w p t s) ((own-ok p t o).from s h) (λ e. ends-own w p t e s) }
         where
           end : (s s₁ : St) (u : Tree) (r : Res St Tree) → L.Rel t u → L.Move (count t) s (count u) s₁ → Out count (count u) (To p u) s₁ r → Out count (count t) (To p t) s r
           end s s₁ u (stop n) q m x = x
@@ -983,6 +979,10 @@ module _ (L : Law) where
       bare = λ p t o. loose p t (own-ok (Walk.walks d) (walks-do d) p t o);
       inner = λ p t n o. loose p t (script-ok (Walk.walks d) (walks-do d) p t n o);
     }
+
+    -- a node's own walk, with its kind
+    pub own-does : (d p : ℕ) (t : Tree) → L.Good p t → (s : St) → L.Inv s → Out count (count t) (λ u. L.Good p u × L.Rel t u × (kind u ≡ kind t)) s (Walk.own (Walk.walks d) p t s)
+    own-does d p t o s h = (own-ok (Walk.walks d) (walks-do d) p t o).from s h
 
     -- every walk of every depth
     pub full-does : (d p : ℕ) (t : Tree) → L.Good p t → (s : St) → L.Inv s → Went p t s ((Walk.walks d).full p t s)

@@ -11,10 +11,10 @@ abbrev pub Low : Walk.Outcome → Type 0
 Low (Walk.refused n) = (8 ≤ n) × (n ≤ 9)
 Low (Walk.result k c t ms) = Unit {0}
 
-abbrev low : StateLaw
+abbrev pub low : StateLaw
 low = record { Inv = λ s. Unit {0}; Move = λ m s n s'. Unit {0}; Stop = λ n. (8 ≤ n) × (n ≤ 9) }
 
-lows : StateEffects low
+pub lows : StateEffects low
 lows = record {
   s-refl = λ n s. tt;
   s-trans = λ l m n a b c h k. tt;
