@@ -13,10 +13,10 @@ use Rattle.def_pass.specs.Scope as Scope
 use Rattle.def_pass.specs.Scope.{VarInfo, Stack, counts_in, count_in, live_counts, hoist_all, ending_all, ending, close}
 use Rattle.def_pass.specs.Walk as Walk
 use Rattle.def_pass.specs.Walk.{St}
-use Rattle.laws_pass.specs.Reached.{Step, opens, prevents, reads, writes, senses, bars, declares, stores, begins, fixes, first, step, closes, counts, same, full, bare, inner}
+use Rattle.laws_pass.specs.Reached.{Step, opens, prevents, reads, writes, senses, bars, declares, stores, begins, fixes, first, step, closes, counts, same}
 use Rattle.laws_pass.specs.Balanced.{Balanced, CountsBalance}
 use Rattle.laws_pass.proofs.Measure.{Const, Kept, all, same-prevent, same-change, same_read, same_write, same-barrier, same-sensitive, same-declare}
-use Rattle.laws_pass.proofs.Effects.{Went, full-does, bare-does, inner-does, run-does}
+use Rattle.laws_pass.proofs.Effects.{Went, run-does}
 use Rattle.laws_pass.proofs.StateLaws.{StateLaw, StateEffects, law, effects}
 
 -- scope by scope
@@ -189,6 +189,3 @@ counts-balance t s' (step f s g r) = stepped g s (counts-balance t s r)
 counts-balance t s' (closes old s r) = restored old s (counts-balance t s r)
 counts-balance t s' (counts i s f r) = tallied i s f (counts-balance t s r)
 counts-balance t s'' (same s s' r a b c d) = aside s s' a c d (counts-balance t s r)
-counts-balance t s'' (full d p u u' s s' r e) = next p u u' s s' ((Walk.walks d).full p u s) (full-does (law balance) (effects balance balanced) d p u tt s (counts-balance t s r)) e
-counts-balance t s'' (bare d p u u' s s' r e) = next p u u' s s' ((Walk.walks d).bare p u s) (bare-does (law balance) (effects balance balanced) d p u tt s (counts-balance t s r)) e
-counts-balance t s'' (inner d p u u' s s' r e) = next p u u' s s' ((Walk.walks d).inner p u s) (inner-does (law balance) (effects balance balanced) d p u (λ x. absurd x) tt s (counts-balance t s r)) e

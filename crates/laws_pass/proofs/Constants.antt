@@ -8,20 +8,18 @@ use Prim.Native.Nat.{ℕ}
 use native.Mathlib.Omega.{arith}
 use lib.Dec.{eqb}
 use Rattle.def_tree.specs.Base.{pick, or_else}
-use Rattle.def_tree.specs.Combine.{Res, done}
+use Rattle.def_tree.specs.Combine.{done}
 use Rattle.def_pass.specs.Tree.{Tree, num, is_ident}
 use Rattle.def_pass.specs.Targets.{targets}
 use Rattle.def_pass.specs.Scope as Scope
 use Rattle.def_pass.specs.Scope.{VarInfo, Stack, Free}
 use Rattle.def_pass.specs.Walk as Walk
 use Rattle.def_pass.specs.Walk.{St}
-use Rattle.laws_pass.specs.Reached.{Step, opens, prevents, reads, writes, senses, bars, declares, stores, begins, fixes, Reached, first, step, closes, counts, same, full, bare, inner}
+use Rattle.laws_pass.specs.Reached.{Step, opens, prevents, reads, writes, senses, bars, declares, stores, begins, fixes, Reached, first, step, closes, counts, same}
 use Rattle.laws_pass.specs.Constants.{LookUpFree}
 use Rattle.laws_pass.proofs.Tests.{elim-ok}
 use Rattle.laws_pass.proofs.All.{All}
 use Rattle.laws_pass.proofs.Measure.{Const, Kept, all, same-prevent, same-change, same_read, same_write, same-barrier, same-sensitive, same-declare}
-use Rattle.laws_pass.proofs.Effects.{Went, full-does, bare-does, inner-does}
-use Rattle.laws_pass.proofs.StateLaws.{StateLaw, StateEffects, law, effects}
 
 -- the constants of the open scopes: no step but `add_const`, and the ends of scopes, changes them
 abbrev per : List VarInfo → List Const → List Const
@@ -90,37 +88,6 @@ module _ (tg : ℕ → Bool) where
       go none h k = k
       go (some t) h k = h
 
--- as a law of the walks: what is targeted stays
-abbrev free : StateLaw
-free = record { Inv = λ s. FreeSt s.targeted s.stack; Move = λ m s n s'. s'.targeted ≡ s.targeted; Stop = λ n. Unit {0} }
-
-kept : (f : Stack → Stack) → ((st : Stack) → consts (f st) ≡ consts st) → (s : St) → FreeSt s.targeted s.stack → FreeSt s.targeted (f s.stack)
-kept f e s o = subst (All (FreeC s.targeted)) (sym (e s.stack)) o
-
-stays : StateEffects free
-unfolding Walk.restore
-stays = record {
-  s-refl = λ n s. refl;
-  s-trans = λ l m n a b c h k. k ∙ h;
-  s-frame = λ k m n a b h. h;
-  eight = tt;
-  nine = tt;
-  recount = λ t e s o h. (o, refl);
-  leave = λ n e s o. (o, refl);
-  write = λ i g force n s o. (kept (Scope.add_write i g force) (same_write per untouched i g force) s o, refl);
-  declare = λ again i v u k n s o. (kept (Scope.declare again i v u k) (same-declare per untouched again i v u k) s o, refl);
-  const = λ i v n s o. (free-add s.targeted i v s.stack o, refl);
-  prevent = λ i n s o. (kept (Scope.prevent_inline i) (same-prevent per untouched i) s o, refl);
-  read = λ i g n s o. (kept (Scope.add_read i g) (same_read per untouched i g) s o, refl);
-  store = λ i v n s o. (kept (Scope.change i (Scope.with_value v)) (same-change per untouched i (Scope.with_value v) (λ b. refl)) s o, refl);
-  sensitive = λ i n s o. (kept (Scope.mark_this_sensitive i) (same-sensitive per untouched i) s o, refl);
-  tally = λ i n s f o. (kept (Scope.change i Scope.count_one) (same-change-any i Scope.count_one) s o, refl);
-  barrier = λ n s o. (kept Scope.store_inline_barrier (same-barrier per untouched) s o, refl);
-  opened = λ k s o. (tt, o);
-  closed = λ k m n s s' o o' h. (free-close s'.targeted s'.stack o', h);
-  fields = λ n s s' e o. (subst (λ (tg : ℕ → Bool). FreeSt tg s'.stack) (sym e.2) (subst (FreeSt s.targeted) (sym e.0) o), e.2);
-}
-
 -- a state that is reached
 abbrev Good : (ℕ → Bool) → St → Type 0
 Good tg s = FreeSt tg s.stack × (s.targeted ≡ tg)
@@ -137,13 +104,6 @@ stepped {tg} (stores i v) st h = subst (All (FreeC tg)) (sym (same-change per un
 stepped {tg} (begins i v) st h = subst (All (FreeC tg)) (sym (same-change per untouched i (λ b. Scope.defined (Scope.with_value v b)) (λ b. refl) st)) h
 stepped {tg} (fixes i v) st h = free-add tg i v st h
 
--- from a walk's law to the state after it
-next : (tg : ℕ → Bool) (p : ℕ) (u u' : Tree) (s s' : St) (r : Res St Tree) → Good tg s → (FreeSt s.targeted s.stack → Went (law free) p u s r) → r ≡ done s' u' → Good tg s'
-next tg p u u' s s' r g h e =
-    let k : Went (law free) p u s (done s' u') = subst (Went (law free) p u s) e (h (subst (λ (c : ℕ → Bool). FreeSt c s.stack) (sym g.1) g.0)) in
-    let q : s'.targeted ≡ tg = k.1 ∙ g.1 in
-    (subst (λ (c : ℕ → Bool). FreeSt c s'.stack) q k.0, q)
-
 ended : (tg : ℕ → Bool) (old s : St) → Good tg s → Good tg (Walk.restore old s)
 unfolding Walk.restore
 ended tg old s h = (free-close tg s.stack h.0, h.1)
@@ -154,9 +114,6 @@ reached t (step f s g r) = (let h = reached t r in (stepped g s.stack h.0, h.1))
 reached t (closes old s r) = (let h = reached t r in ended (targets t) old s h)
 reached t (counts i s f r) = (let h = reached t r in (subst (All (FreeC (targets t))) (sym (same-change-any i Scope.count_one s.stack)) h.0, h.1))
 reached t (same s s' r a b c d) = (let h = reached t r in (subst (FreeSt (targets t)) (sym a) h.0, b ∙ h.1))
-reached t (full d p u u' s s' r e) = next (targets t) p u u' s s' ((Walk.walks d).full p u s) (reached t r) (λ o. full-does (law free) (effects free stays) d p u tt s o) e
-reached t (bare d p u u' s s' r e) = next (targets t) p u u' s s' ((Walk.walks d).bare p u s) (reached t r) (λ o. bare-does (law free) (effects free stays) d p u tt s o) e
-reached t (inner d p u u' s s' r e) = next (targets t) p u u' s s' ((Walk.walks d).inner p u s) (reached t r) (λ o. inner-does (law free) (effects free stays) d p u (λ x. absurd x) tt s o) e
 
 pub look-up-free : LookUpFree
 look-up-free t s r x e f i = subst (Free (targets t)) f (free-find (targets t) x s.stack (reached t r).0) i
