@@ -1,5 +1,6 @@
 -- The counts in the words balance, through every run. Assumes nothing.
 use mathlib.Core.Path.{◌≡◌, refl, sym, ap, subst, ◌∙◌}
+use mathlib.Core.Bool.{Bool}
 use mathlib.Core.List.{List, [], ◌∷◌, ◌++◌}
 use mathlib.Core.Option.{Option}
 use Prim.Native.Nat.{ℕ, zero, suc, ◌+◌, ◌%◌}
@@ -13,8 +14,11 @@ use Rattle.words.specs.Layout.{tree}
 use Rattle.def_pass.specs.Scope.{VarInfo, counts_in, live_counts}
 use Rattle.def_pass.specs.Walk.{St, run}
 use Rattle.laws_pass.specs.Balanced.{Balanced}
-use Rattle.laws_pass.proofs.Balanced.{run-balances}
+use Rattle.laws_pass.specs.Reached.{Reached}
+use Rattle.laws_pass.proofs.Balanced.{run-balances, counts-balance}
+use Rattle.laws_pass.proofs.Reached.{run-reached}
 use Rattle.laws_flat.specs.WalkF.{run_f}
+use Rattle.laws_flat.specs.PassF.{start_f}
 use Rattle.laws_flat.proofs.Sim.{whole_run}
 use Rattle.words_scopes.specs.State.{Good, Head, Fits, split, bind_at, heads, flags, binds, consts, stack}
 use Rattle.words_nodes.specs.Nodes.{Planted}
@@ -66,15 +70,35 @@ abbrev ended : Res (Flat St) ℕ → ℕ
 ended (stop n) = 0
 ended (done st j) = 1
 
-kept : (t : Tree) (s : St) (st : Flat St) (j : ℕ) (r : Res St Tree) → run t s ≡ r → Balanced s → carry {F = Flat St} (λ s₁ u. record { nodes = flat u []; rest = s₁ }) count r ≡ done st j → Balanced st.rest
-kept t s st j (stop n) e h q = absurd (let z : ◌≡◌ {A = ℕ} 0 1 = ap ended q in omega (arith, z))
-kept t s st j (done s₁ u) e h q = subst Balanced (ap (visitor s) q) (run-balances t u s s₁ h e)
+-- what a run keeps, of any state
+abbrev Keeps : (St → Type 0) → Type 0
+Keeps P = (t u : Tree) (s s' : St) → P s → run t s ≡ done s' u → P s'
 
-run-kept : (w u : List ℕ) (j : ℕ) → Planted w → Planted u → run_f 0 (abs w) ≡ done (abs u) j → WordsBalance w → WordsBalance u
-run-kept w u j P Q e h =
+kept : (P : St → Type 0) → Keeps P → (t : Tree) (s : St) (st : Flat St) (j : ℕ) (r : Res St Tree) → run t s ≡ r → P s → carry {F = Flat St} (λ s₁ u. record { nodes = flat u []; rest = s₁ }) count r ≡ done st j → P st.rest
+kept P k t s st j (stop n) e h q = absurd (let z : ◌≡◌ {A = ℕ} 0 1 = ap ended q in omega (arith, z))
+kept P k t s st j (done s₁ u) e h q = subst P (ap (visitor s) q) (k t u s s₁ h e)
+
+by-run : (P : St → Type 0) → Keeps P → (w u : List ℕ) (j : ℕ) → Planted w → run_f 0 (abs w) ≡ done (abs u) j → P (rest w) → P (rest u)
+by-run P k w u j W e h =
     let t = first_t (plant (tree w)) in
-    let q : run_f 0 (record { nodes = flat t []; rest = rest w }) ≡ done (abs u) j = ap (λ (xs : List Core). run_f 0 (record { nodes = xs; rest = rest w })) P.one.is ∙ e in
-    to-words u Q.good (kept t (rest w) (abs u) j (run t (rest w)) refl (to-state w P.good h) (sym (whole_run t (rest w)) ∙ q))
+    let q : run_f 0 (record { nodes = flat t []; rest = rest w }) ≡ done (abs u) j = ap (λ (xs : List Core). run_f 0 (record { nodes = xs; rest = rest w })) W.one.is ∙ e in
+    kept P k t (rest w) (abs u) j (run t (rest w)) refl h (sym (whole_run t (rest w)) ∙ q)
+
+-- words that stand for another state
+pub set_to : {w u : List ℕ} (s : St) → Good w → Good u → (Balanced (rest w) → Balanced s) → rest u ≡ s → WordsBalance w → WordsBalance u
+set_to {w} {u} s g g' k e h = to-words u g' (subst Balanced (sym e) (k (to-state w g h)))
+
+pub begun : {u : List ℕ} (n : ℕ) (tg : ℕ → Bool) → Good u → rest u ≡ start_f n tg → WordsBalance u
+begun {u} n tg g e = to-words u g (subst Balanced (sym e) refl)
+
+pub run_kept : {w u : List ℕ} (j : ℕ) → Planted w → Planted u → run_f 0 (abs w) ≡ done (abs u) j → WordsBalance w → WordsBalance u
+run_kept {w} {u} j W U e h = to-words u U.good (by-run Balanced run-balances w u j W e (to-state w W.good h))
 
 pub port-balance : PortBalance
-port-balance = record { live = live; run = run-kept }
+port-balance = record {
+  live = live;
+  reached = λ t w g r. to-words w g (counts-balance t (rest w) r);
+  begun = λ w n tg g e. begun n tg g e;
+  next = λ t w u j W e r. by-run (Reached t) (λ v v' s s' h q. run-reached t v v' s s' h q) w u j W e r;
+  run = λ w u j W U e h. run_kept j W U e h;
+}
