@@ -38,6 +38,7 @@ use Rattle.words_scopes.specs.State.{Named, Names}
 use Rattle.words_nodes.specs.Nodes.{One}
 use Rattle.words_twice.specs.Twice.{Plain}
 use Rattle.words_state.specs.State.{abs}
+use Rattle.words_balance.specs.Balance.{WordsBalance, OkBalance}
 use Rattle.pass_run.specs.declared.Ran.{Ran}
 use Rattle.pass_run.specs.Run.{outcome, RunsIs}
 use Rattle.pass_run.specs.Start.{Loaded, Started}
@@ -155,16 +156,16 @@ module _ {bs w w₁ u v : List ℕ} {x : Read} {r : Result Ran Refusal} (n : ℕ
   kept : Kept w v
   kept = record { size = same.size ∙ W.kept.size; rest = R.ok.rest ∙ S.rest ∙ W.kept.rest }
 
-  finished : Final x bs w v
-  finished = record { script = W.script; found = same_read ∙ W.is; is = W.is; planted = R.ok.planted; ids = ids-still W.held.listed same bs ∙ W.held.ids; listed = listed-still W.held.listed same; kept = kept }
+  finished : WordsBalance v → Final x bs w v
+  finished b = record { script = W.script; found = same_read ∙ W.is; is = W.is; planted = R.ok.planted; balance = b; ids = ids-still W.held.listed same bs ∙ W.held.ids; listed = listed-still W.held.listed same; kept = kept }
 
   -- the words are cleared after a refusal
-  pub ran : is_err r ≡ false → FileIs x bs w v n r
-  ran h = record { is = ends; words = go r h }
+  pub ran : OkBalance r v → is_err r ≡ false → FileIs x bs w v n r
+  ran b h = record { is = ends; words = go r b h }
     where
-      go : (r : Result Ran Refusal) → is_err r ≡ false → Leaves x bs w v r
-      go (Ok r) h = finished
-      go (Err r) h = cc
+      go : (r : Result Ran Refusal) → OkBalance r v → is_err r ≡ false → Leaves x bs w v r
+      go (Ok r) b h = finished b
+      go (Err r) b h = cc
 
   pub stopped : {z : List ℕ} → is_err r ≡ true → Cleared v z → FileIs x bs w z n r
   stopped {z} h C = record { is = told r h ∙ ends; words = go r h }

@@ -30,6 +30,8 @@ use Rattle.words_nodes.specs.Nodes.{Planted, Replants}
 use Rattle.words_state.specs.declared.PatFoldingMode.TheVariants.{VarDecl}
 use Rattle.words_state.specs.State.{mode_of, IsModeWord, rest, Ok as Fine}
 use Rattle.words_state.proofs.Fields.{st-eq, becomes-rest, becomes-ok, count_kept, replants-rest}
+use Rattle.words_balance.specs.Balance.{WordsBalance}
+use Rattle.words_balance.proofs.Balance.{begun}
 use Rattle.words_twice.specs.Twice.{Plain}
 use Rattle.words_twice.proofs.Steps.{flagged-long}
 use Rattle.pass_run.specs.Start.{Loaded, Fields, Started}
@@ -61,6 +63,11 @@ fields {w} {u} {v} {y} {z} k m e h a b c d = record {
   mid = λ j l h. d.low j h ∙ c.high j (omega arith) ∙ b.high j (omega arith) ∙ a.high j (omega arith);
   high = λ j l. d.high j (omega arith) ∙ c.high j (omega arith) ∙ b.high j (omega arith) ∙ a.high j (omega arith);
 }
+
+-- no binding, and no count
+pub none_yet : {w u : List ℕ} → Fields w u → WordsBalance u
+unfolding sum
+none_yet f = rw (f.bindings, f.ended, f.replaced) refl
 
 -- what holds before the flags: the tree as it was read
 pub record Opened (w u : List ℕ) : Type 0 where
@@ -115,8 +122,8 @@ module _ {w u : List ℕ} (l : Loaded w) (f : Fields w u) where
     unfolding rest
     field e q = becomes-rest planted (count_kept b) b ∙ st-eq e (ap yes f.changed) (ap yes f.inlining) (ap yes f.is_first_run) (ap var_type_of f.var_decl_kind) (ap mode_of f.pat_mode) (ap yes f.in_test) f.conds f.nodes (targeted-same w u (λ j p h. f.high j (omega arith)) ∙ q) f.ended f.replaced
 
-    begun : st ≡ new_scope (fn false) ∷ [] → targeted w ≡ targets_l (tree w) → Opened w v
-    begun e q = record {
+    scoped : st ≡ new_scope (fn false) ∷ [] → targeted w ≡ targets_l (tree w) → Opened w v
+    scoped e q = record {
       planted = ok.planted;
       size = size ∙ f.size;
       nodes = b.tree ∙ same-tree;
@@ -138,7 +145,7 @@ module _ {w u : List ℕ} (l : Loaded w) (f : Fields w u) where
   opens v k (Err r) h = absurd (full h.1)
 
   opened : (v : List ℕ) (k : ScopeKind) (s : Result Unit Refusal) → kind_of k ≡ fn false → length v ≡ length u → Limited 8 (leb 32 (length (stack u))) u v (new_scope (kind_of k) ∷ stack u) s → targeted w ≡ targets_l (tree w) → Opened w v
-  opened v k (Ok x) e z h q = begun h.0 z (rw (e, no-scope) refl) q
+  opened v k (Ok x) e z h q = scoped h.0 z (rw (e, no-scope) refl) q
   opened v k (Err r) e z h q = absurd (full h.1)
 
 -- the targets are marked first
@@ -189,3 +196,6 @@ module _ {w u : List ℕ} (o : Opened w u) where
     high = λ j p h. r.apart.high j (omega arith) ∙ o.high j p h;
     rest = r.rest ∙ o.rest;
   }
+
+pub balances : {w u : List ℕ} → Started w u → WordsBalance u
+balances {w} s = begun (get_or w 0 0) (targets_l (tree w)) s.planted.good s.is

@@ -1,5 +1,5 @@
 -- A run, and runs one after the other. Assumes nothing.
-use mathlib.Core.Path.{◌≡◌, refl, sym, ap, ap₂, ◌∙◌}
+use mathlib.Core.Path.{◌≡◌, refl, sym, ap, ap₂, ◌∙◌, subst}
 use mathlib.Core.Bool.{Bool, true, false}
 use mathlib.Core.List.{List}
 use Prim.Native.Nat.{ℕ, suc, ◌+◌, ◌-◌, ◌<◌}
@@ -13,6 +13,8 @@ use Rattle.words_nodes.specs.Nodes.{Planted}
 use Rattle.words_scopes.specs.State.{stack}
 use Rattle.words_state.specs.State.{rest, abs, Ok as Fine, Turns}
 use Rattle.words_state.proofs.Fields.{ok-self, ok-then}
+use Rattle.words_balance.specs.Balance.{WordsBalance, OkBalance}
+use Rattle.words_balance.proofs.Balance.{set_to, run_kept}
 use Rattle.std.specs.Prelude.{Result, Ok, Err}
 use Rattle.refusal.specs.declared.Refusal.{Refusal}
 use Rattle.scope.specs.Steps.{done_of, Did}
@@ -58,13 +60,19 @@ module _ {w u v : List ℕ} {x : Result ℕ Refusal} (t : Turns w u (set_inlinin
     pub second-done : {z : List ℕ} (j : ℕ) → y ≡ Ok j → Turns v' z (set_inlining false (rest v')) → Did w z (Ok j) (run_f 0 (abs w))
     second-done {z} j q t'' = record { ok = ok-then so_far t''.ok; is = run_is (abs w) ∙ walked second t d e ∙ walked last t' d' q ∙ ap (λ (st : Flat St). done st j) (sym (turned t'')) }
 
+-- what a run does keeps the balance
+pub did_balance : {w v : List ℕ} (x : Result ℕ Refusal) → Planted w → Did w v x (run_f 0 (abs w)) → WordsBalance w → OkBalance x v
+did_balance (Ok j) W d h = run_kept j W d.ok.planted d.is h
+did_balance (Err r) W d h = tt
+
 -- k runs are done, and at most n - k are left
 pub record Going (w u : List ℕ) (n k : ℕ) : Type 0 where
   pub ok : Fine w u
   pub is : runs_f n 0 (abs w) ≡ runs_f (n - k) k (abs u)
+  pub balance : WordsBalance w → WordsBalance u
 
 pub going-none : {w : List ℕ} (n : ℕ) → Planted w → Going w w n 0
-going-none {w} n p = record { ok = ok-self p; is = ap (λ (m : ℕ). runs_f m 0 (abs w)) (omega arith) }
+going-none {w} n p = record { ok = ok-self p; is = ap (λ (m : ℕ). runs_f m 0 (abs w)) (omega arith); balance = λ h. h }
 
 -- no run is left
 pub going_end : {w u : List ℕ} (n k : ℕ) → Going w u n k → k ≡ n → RunsIs w u (Ok (record { runs = n; changed = true })) (runs_f n 0 (abs w))
@@ -74,7 +82,7 @@ going_end {w} {u} n k g e =
     record { ok = g.ok; is = sym (g.is ∙ ap (λ (m : ℕ). runs_f m k (abs u)) none ∙ ap (λ (m : ℕ). result_f m true (tree u) (root_marks (stack u))) e) }
 
 -- one more run
-module _ {w u v z : List ℕ} {x : Result ℕ Refusal} (n k : ℕ) (g : Going w u n k) (l : k < n) (t : Turns u v (set_changed false (rest u))) (d : Did v z x (run_f 0 (abs v))) where
+module _ {w u v z : List ℕ} {x : Result ℕ Refusal} (n k : ℕ) (g : Going w u n k) (l : k < n) (t : Turns u v (set_changed false (rest u))) (d : Did v z x (run_f 0 (abs v))) (b : WordsBalance v → OkBalance x z) where
   left : n - k ≡ suc (n - (k + 1))
   left = omega arith
 
@@ -98,6 +106,9 @@ module _ {w u v z : List ℕ} {x : Result ℕ Refusal} (n k : ℕ) (g : Going w 
     plus : suc k ≡ k + 1
     plus = omega arith
 
+    pub going-balance : WordsBalance w → WordsBalance z
+    going-balance h = subst (λ (r : Result ℕ Refusal). OkBalance r z) e (b (set_to (set_changed false (rest u)) g.ok.planted.good t.ok.planted.good (λ o. o) t.is (g.balance h)))
+
     marked : (b : Bool) → (rest z).changed ≡ b
         → runs_f n 0 (abs w) ≡ elim b [ true ↦ runs_f (n - (k + 1)) (suc k) (on_st (set_is_first_run false) (abs z)) | false ↦ result_f (suc k) false (tree z) (root_marks (stack z)) ]
     unfolding rest
@@ -112,4 +123,5 @@ module _ {w u v z : List ℕ} {x : Result ℕ Refusal} (n k : ℕ) (g : Going w 
     going_on {z'} q t' = record {
       ok = ok-then so-far-runs t'.ok;
       is = marked true q ∙ ap₂ {C = OutcomeF} (λ (i : ℕ) (st : Flat St). runs_f (n - (k + 1)) i st) plus (sym (turned t'));
+      balance = λ h. set_to (set_is_first_run false (rest z)) d.ok.planted.good t'.ok.planted.good (λ o. o) t'.is (going-balance h);
     }

@@ -11,6 +11,7 @@ use Rattle.def_pass.specs.Walk.{St}
 use Rattle.laws_flat.specs.WalkF.{OutcomeF, refused_f, runs_f}
 use Rattle.laws_flat.specs.PassF.{start_f, targets_l, flagged_l}
 use Rattle.words_nodes.specs.Nodes.{Planted}
+use Rattle.words_balance.specs.Balance.{WordsBalance}
 use Rattle.pass_run.specs.declared.Ran.{Ran}
 use Rattle.refusal.specs.declared.Refusal.{Refusal}
 use Rattle.pass_run.specs.Run.{outcome}
@@ -24,12 +25,14 @@ abbrev pub read_runs : ℕ → Read → OutcomeF
 read_runs n (bad m) = refused_f m
 read_runs n (script s) = runs_f n 0 (begin s)
 
--- the words hold a result of the script that was read, under a table or without one, and list its identifiers; x is what was read
+-- the words hold a result of the script that was read, under a table or without one, and list its identifiers; the live counts and the ended total are the replacements
+-- made; x is what was read
 pub record Final (x : Read) (bs w u : List ℕ) : Type 0 where
   pub script : Script
   pub found : x ≡ Read.script script
   pub is : read bs ≡ Read.script script
   pub planted : Planted u
+  pub balance : WordsBalance u
   pub ids : ids_of bs u ≡ idents script
   pub listed : Listed u (length script.nodes)
   pub kept : Kept w u

@@ -7,6 +7,7 @@ pub mod start;
 ghost use Rattle.laws_flat.specs.WalkF.{run_f, runs_f};
 ghost use Rattle.words_nodes.specs.Nodes.{Planted};
 ghost use Rattle.words_state.specs.State.{abs};
+ghost use Rattle.words_balance.specs.Balance.{WordsBalance, OkBalance};
 ghost use Rattle.walk_laws.specs.Did.{Did};
 ghost use Rattle.pass_run.specs.Run.{RunsIs};
 
@@ -24,7 +25,8 @@ pub struct Ran {
 // One run: Analysis, then Inlining.
 pub fn visit_mut_program(w: &mut [u32]) -> Result<usize, Refusal>
     requires { Planted w.old }
-    ensures { Did w.old w.new result (run_f 0 (abs w.old)) }
+    ensures is { Did w.old w.new result (run_f 0 (abs w.old)) }
+    ensures balance { WordsBalance w.old → OkBalance result w.new }
 {
     set_inlining(w, false);
     program(w)?;
@@ -37,7 +39,8 @@ pub fn visit_mut_program(w: &mut [u32]) -> Result<usize, Refusal>
 // At most n runs, up to the first that leaves no mark.
 pub fn runs(w: &mut [u32], n: u32) -> Result<Ran, Refusal>
     requires { Planted w.old }
-    ensures { RunsIs w.old w.new result (runs_f n 0 (abs w.old)) }
+    ensures is { RunsIs w.old w.new result (runs_f n 0 (abs w.old)) }
+    ensures balance { WordsBalance w.old → OkBalance result w.new }
 {
     for k in 0..n {
         set_changed(w, false);

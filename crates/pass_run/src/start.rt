@@ -1,6 +1,7 @@
 // inlining: the visitor before its first run, over a script that was read. What the script targets (request 8)
 // and what it declares twice (request 3) is worked out here, once.
 ghost use Rattle.std.specs.Prelude.{◌≤◌, length};
+ghost use Rattle.words_balance.specs.Balance.{WordsBalance};
 ghost use Rattle.pass_run.specs.Start.{Loaded, Fields, Started};
 
 use scope_child::open_scope;
@@ -14,7 +15,8 @@ use words_twice::flag_twice;
 // that has ended, no replacement.
 fn set_fields(w: &mut [u32])
     requires { 16384 ≤ length w.old }
-    ensures { Fields w.old w.new }
+    ensures is { Fields w.old w.new }
+    ensures balance { WordsBalance w.new }
 {
     wipe(w, layout::BINDING_COUNT, 3);
     let kind = u32::from(VarType::Declared(VarDeclKind::Var));
@@ -27,7 +29,8 @@ fn set_fields(w: &mut [u32])
 // The targets, the fields, an empty root scope, and the flags.
 pub fn start(w: &mut [u32])
     requires { Loaded w.old }
-    ensures { Started w.old w.new }
+    ensures is { Started w.old w.new }
+    ensures balance { WordsBalance w.new }
 {
     mark_targets(w);
     set_fields(w);

@@ -10,16 +10,16 @@ pub start-requires : goal.start-requires
 start-requires c = files.loaded (was_read _ (read-same c.args.table.now _ c.read_under.ensures c.in_ok-read_under.was) c.in_ok-read_under.was)
 
 pub runs-ran-requires : goal.runs-ran-requires
-runs-ran-requires c = c.start.ensures.planted
+runs-ran-requires c = c.start.ensures.is.planted
 
 pub clear-requires : goal.clear-requires
-clear-requires c = c.runs-ran.ensures.ok.planted.good.long
+clear-requires c = c.runs-ran.ensures.is.ok.planted.good.long
 
 pub returns-then-is_err : goal.returns-then-is_err
-returns-then-is_err c = files.stopped c.args.limit (same-read c.args.table.now _ c.read_under.ensures c.in_ok-read_under.was) (was_read _ (read-same c.args.table.now _ c.read_under.ensures c.in_ok-read_under.was) c.in_ok-read_under.was) c.start.ensures c.runs-ran.ensures (sym c.is_err.ensures.value ∙ c.if-is_err.true) c.clear.ensures
+returns-then-is_err c = files.stopped c.args.limit (same-read c.args.table.now _ c.read_under.ensures c.in_ok-read_under.was) (was_read _ (read-same c.args.table.now _ c.read_under.ensures c.in_ok-read_under.was) c.in_ok-read_under.was) c.start.ensures.is c.runs-ran.ensures.is (sym c.is_err.ensures.value ∙ c.if-is_err.true) c.clear.ensures
 
 pub returns-else-is_err : goal.returns-else-is_err
-returns-else-is_err c = files.ran c.args.limit (same-read c.args.table.now _ c.read_under.ensures c.in_ok-read_under.was) (was_read _ (read-same c.args.table.now _ c.read_under.ensures c.in_ok-read_under.was) c.in_ok-read_under.was) c.start.ensures c.runs-ran.ensures (sym c.is_err.ensures.value ∙ c.if-is_err.false)
+returns-else-is_err c = files.ran c.args.limit (same-read c.args.table.now _ c.read_under.ensures c.in_ok-read_under.was) (was_read _ (read-same c.args.table.now _ c.read_under.ensures c.in_ok-read_under.was) c.in_ok-read_under.was) c.start.ensures.is c.runs-ran.ensures.is (c.runs-ran.ensures.balance c.start.ensures.balance) (sym c.is_err.ensures.value ∙ c.if-is_err.false)
 
 pub returns-in_err-read_under : goal.returns-in_err-read_under
 returns-in_err-read_under c =
