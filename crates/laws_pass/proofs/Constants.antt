@@ -8,7 +8,6 @@ use Prim.Native.Nat.{ℕ}
 use native.Mathlib.Omega.{arith}
 use lib.Dec.{eqb}
 use Rattle.def_tree.specs.Base.{pick, or_else}
-use Rattle.def_tree.specs.Combine.{done}
 use Rattle.def_pass.specs.Tree.{Tree, num, is_ident}
 use Rattle.def_pass.specs.Targets.{targets}
 use Rattle.def_pass.specs.Scope as Scope
