@@ -127,10 +127,10 @@ child-clean r n i c =
     no false h k = k
 
 -- what may stand where t does
-abbrev Rel : Tree → Tree → Type 0
+abbrev pub Rel : Tree → Tree → Type 0
 Rel t u = (c : Class) → (T (updated c) → ⊥) → T (allows c (kind t) (length_f (kids t))) → T (allows c (kind u) (length_f (kids u)))
 
-abbrev fitting : TreeLaw
+abbrev pub fitting : TreeLaw
 fitting = record { Good = λ p t. Fits t; Val = λ t. Fits t × T (is_expr (kind t)); Rel = Rel; Tells = Unit {0} }
 
 len : (ts us : Forest) → QF (law fitting) ts us → length_f us ≡ length_f ts
@@ -263,7 +263,7 @@ idents k m n e Destructured x h = absurd h
 idents k m n e Start x h = or_right (eqb k 5) (is_expr k) e
 idents k m n e Head x h = absurd h
 
-kept : TreeEffects fitting
+pub kept : TreeEffects fitting
 unfolding row_of
 kept = record {
   q-refl = λ t c x y. y;
