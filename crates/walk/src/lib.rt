@@ -3,7 +3,8 @@
 // struct: each of them changes alone from call to call (depth + 1, below - 1, node by a subtree's length, n - 1), so that a struct would be made anew at
 // each call. The definition (crates/laws_flat/specs/WalkF.antt) has p for the depth, l and d for the levels, and i for the node.
 // The levels fall in three functions, each of which refuses by 8 where none is left: `full` hands levels - 1 to `ident`, `own` and `after`, `arm` hands
-// below - 1 to `own`, and `params` hands below - 1 to `body`. All others hand on the levels that they have.
+// below - 1 to `own`, and `params` hands below - 1 to `body`. `program` begins with LEVELS and takes one for the root. All others hand on the levels that
+// they have, and the line over each says as what.
 #![tactic(auto)]
 
 ghost use Rattle.std.specs.Prelude.{◌+◌, ◌≡◌, true};
@@ -73,6 +74,7 @@ fn full(w: &mut [u32], depth: usize, levels: usize, node: usize) -> Result<usize
 // func, arrow, catch and case differ in the walk between `enter` and `leave`. Tried with a closure for the step: in a cycle of calls it is a member
 // with a measure, nothing of it is inferred, so that it repeats the clauses of the walk that it calls, and what takes it can promise a chain of its
 // calls alone. Five lines would be six, with a second contract.
+// Hands on the levels: a loop over the nodes of a list, for each of which `full` takes one.
 #[cycle(walks)]
 fn many(w: &mut [u32], depth: usize, below: usize, n: usize, node: usize) -> Result<usize, Refusal>
     requires { Here w.old n node depth below }
@@ -86,6 +88,7 @@ fn many(w: &mut [u32], depth: usize, below: usize, n: usize, node: usize) -> Res
 }
 
 // visit_mut_stmts: plainly in Analysis; in Inlining both ways.
+// Hands on the levels: a part of its list's walk, one way or both.
 #[cycle(walks)]
 fn stmts(w: &mut [u32], depth: usize, below: usize, n: usize, node: usize) -> Result<usize, Refusal>
     requires { Here w.old n node depth below }
@@ -102,6 +105,7 @@ fn stmts(w: &mut [u32], depth: usize, below: usize, n: usize, node: usize) -> Re
 
 // The statements of a script, or of a function's body. `body` and `kids`, `params` and `loops` differ in the member of the cycle that they call: one
 // over both would take it as a closure, which would be a member itself, with a measure.
+// Hands on the levels: a part of its node's walk.
 #[cycle(walks)]
 fn body(w: &mut [u32], depth: usize, below: usize, node: usize) -> Result<usize, Refusal>
     requires { Here w.old 1 node depth (below + 1) }
@@ -112,6 +116,7 @@ fn body(w: &mut [u32], depth: usize, below: usize, node: usize) -> Result<usize,
 }
 
 // visit_mut_children_with.
+// Hands on the levels: a part of its node's walk.
 #[cycle(walks)]
 fn kids(w: &mut [u32], depth: usize, below: usize, node: usize) -> Result<usize, Refusal>
     requires { Here w.old 1 node depth (below + 1) }
@@ -122,6 +127,7 @@ fn kids(w: &mut [u32], depth: usize, below: usize, node: usize) -> Result<usize,
 }
 
 // visit_mut_block_stmt.
+// Hands on the levels: its node's walk, for which `full` or `arm` took one.
 #[cycle(walks)]
 fn block(w: &mut [u32], depth: usize, below: usize, node: usize) -> Result<usize, Refusal>
     requires { Here w.old 1 node depth (below + 1) }
@@ -157,6 +163,7 @@ fn arm(
 }
 
 // visit_with_child of each of a list.
+// Hands on the levels: a loop over the nodes of a list, for each of which `arm` takes one.
 #[cycle(walks)]
 fn arms(
     w: &mut [u32],
@@ -177,6 +184,7 @@ fn arms(
 }
 
 // visit_mut_var_decl.
+// Hands on the levels: its node's walk, for which `full` or `arm` took one.
 #[cycle(walks)]
 fn decl(w: &mut [u32], depth: usize, below: usize, node: usize) -> Result<usize, Refusal>
     requires { Here w.old 1 node depth (below + 1) }
@@ -188,6 +196,7 @@ fn decl(w: &mut [u32], depth: usize, below: usize, node: usize) -> Result<usize,
 }
 
 // A declarator's name is walked last; what stands behind it is left.
+// Hands on the levels: a part of the declarator's walk.
 #[cycle(walks)]
 fn name(w: &mut [u32], depth: usize, below: usize, n: usize, node: usize) -> Result<usize, Refusal>
     requires { (Here w.old 1 node depth (below + 1)) × (n ≡ (node_of w.old node).arity) }
@@ -201,6 +210,7 @@ fn name(w: &mut [u32], depth: usize, below: usize, n: usize, node: usize) -> Res
 }
 
 // A declarator in Inlining: its initialiser is walked again, and recorded or not.
+// Hands on the levels: a part of the declarator's walk.
 #[cycle(walks)]
 fn init(w: &mut [u32], depth: usize, below: usize, n: usize, node: usize) -> Result<usize, Refusal>
     requires { (Here w.old 1 node depth (below + 1)) × (n ≡ (node_of w.old node).arity) × (Bound w.old n (node + 1)) }
@@ -243,6 +253,7 @@ fn init(w: &mut [u32], depth: usize, below: usize, n: usize, node: usize) -> Res
 }
 
 // visit_mut_var_declarator.
+// Hands on the levels: its node's walk, for which `full` or `arm` took one.
 #[cycle(walks)]
 fn declr(w: &mut [u32], depth: usize, below: usize, node: usize) -> Result<usize, Refusal>
     requires { Here w.old 1 node depth (below + 1) }
@@ -288,6 +299,7 @@ fn params(
 }
 
 // visit_mut_function.
+// Hands on the levels: a part of a function's walk.
 #[cycle(walks)]
 fn func(
     w: &mut [u32],
@@ -309,6 +321,7 @@ fn func(
 }
 
 // visit_mut_fn_decl.
+// Hands on the levels: its node's walk, for which `full` or `arm` took one.
 #[cycle(walks)]
 fn fdecl(w: &mut [u32], depth: usize, below: usize, node: usize) -> Result<usize, Refusal>
     requires { Here w.old 1 node depth (below + 1) }
@@ -324,6 +337,7 @@ fn fdecl(w: &mut [u32], depth: usize, below: usize, node: usize) -> Result<usize
 }
 
 // visit_mut_fn_expr.
+// Hands on the levels: its node's walk, for which `full` or `arm` took one.
 #[cycle(walks)]
 fn fexpr(w: &mut [u32], depth: usize, below: usize, node: usize) -> Result<usize, Refusal>
     requires { Here w.old 1 node depth (below + 1) }
@@ -343,6 +357,7 @@ fn fexpr(w: &mut [u32], depth: usize, below: usize, node: usize) -> Result<usize
 }
 
 // visit_mut_arrow_expr.
+// Hands on the levels: its node's walk, for which `full` or `arm` took one.
 #[cycle(walks)]
 fn arrow(w: &mut [u32], depth: usize, below: usize, node: usize) -> Result<usize, Refusal>
     requires { Here w.old 1 node depth (below + 1) }
@@ -356,6 +371,7 @@ fn arrow(w: &mut [u32], depth: usize, below: usize, node: usize) -> Result<usize
 }
 
 // visit_mut_if_stmt.
+// Hands on the levels: its node's walk, for which `full` or `arm` took one.
 #[cycle(walks)]
 fn ifs(w: &mut [u32], depth: usize, below: usize, node: usize) -> Result<usize, Refusal>
     requires { Here w.old 1 node depth (below + 1) }
@@ -373,6 +389,7 @@ fn ifs(w: &mut [u32], depth: usize, below: usize, node: usize) -> Result<usize, 
 }
 
 // What stands before a loop's body, and the body as a child.
+// Hands on the levels: a part of a loop's walk; for the body `arm` takes one.
 #[cycle(walks)]
 fn loops(w: &mut [u32], depth: usize, below: usize, n: usize, node: usize) -> Result<usize, Refusal>
     requires { Here w.old n node depth below }
@@ -386,6 +403,7 @@ fn loops(w: &mut [u32], depth: usize, below: usize, n: usize, node: usize) -> Re
 }
 
 // visit_mut_while_stmt and visit_mut_do_while_stmt.
+// Hands on the levels: its node's walk, for which `full` or `arm` took one.
 #[cycle(walks)]
 fn whiles(w: &mut [u32], depth: usize, below: usize, node: usize) -> Result<usize, Refusal>
     requires { Here w.old 1 node depth (below + 1) }
@@ -397,6 +415,7 @@ fn whiles(w: &mut [u32], depth: usize, below: usize, node: usize) -> Result<usiz
 }
 
 // visit_mut_for_stmt.
+// Hands on the levels: its node's walk, for which `full` or `arm` took one.
 #[cycle(walks)]
 fn fors(w: &mut [u32], depth: usize, below: usize, node: usize) -> Result<usize, Refusal>
     requires { Here w.old 1 node depth (below + 1) }
@@ -413,6 +432,7 @@ fn fors(w: &mut [u32], depth: usize, below: usize, node: usize) -> Result<usize,
 }
 
 // visit_mut_for_in_stmt and visit_mut_for_of_stmt.
+// Hands on the levels: its node's walk, for which `full` or `arm` took one.
 #[cycle(walks)]
 fn forin(w: &mut [u32], depth: usize, below: usize, node: usize) -> Result<usize, Refusal>
     requires { Here w.old 1 node depth (below + 1) }
@@ -430,6 +450,7 @@ fn forin(w: &mut [u32], depth: usize, below: usize, node: usize) -> Result<usize
 }
 
 // The parts of a try statement behind its block.
+// Hands on the levels: a loop over the nodes of a list, for each of which `full` takes one.
 #[cycle(walks)]
 fn parts(w: &mut [u32], depth: usize, below: usize, n: usize, node: usize) -> Result<usize, Refusal>
     requires { Here w.old n node depth below }
@@ -446,6 +467,7 @@ fn parts(w: &mut [u32], depth: usize, below: usize, n: usize, node: usize) -> Re
 }
 
 // visit_mut_try_stmt.
+// Hands on the levels: its node's walk, for which `full` or `arm` took one.
 #[cycle(walks)]
 fn tries(w: &mut [u32], depth: usize, below: usize, node: usize) -> Result<usize, Refusal>
     requires { Here w.old 1 node depth (below + 1) }
@@ -461,6 +483,7 @@ fn tries(w: &mut [u32], depth: usize, below: usize, node: usize) -> Result<usize
 }
 
 // The parameters of a catch clause.
+// Hands on the levels: a loop over the nodes of a list, for each of which `full` takes one.
 #[cycle(walks)]
 fn binds(w: &mut [u32], depth: usize, below: usize, n: usize, node: usize) -> Result<usize, Refusal>
     requires { Here w.old n node depth below }
@@ -476,6 +499,7 @@ fn binds(w: &mut [u32], depth: usize, below: usize, n: usize, node: usize) -> Re
 }
 
 // visit_mut_catch_clause.
+// Hands on the levels: its node's walk, for which `full` or `arm` took one.
 #[cycle(walks)]
 fn catch(w: &mut [u32], depth: usize, below: usize, node: usize) -> Result<usize, Refusal>
     requires { Here w.old 1 node depth (below + 1) }
@@ -496,6 +520,7 @@ fn catch(w: &mut [u32], depth: usize, below: usize, node: usize) -> Result<usize
 }
 
 // A switch case's test and statements.
+// Hands on the levels: a part of the case's walk.
 #[cycle(walks)]
 fn items(w: &mut [u32], depth: usize, below: usize, node: usize) -> Result<usize, Refusal>
     requires { Here w.old 1 node depth (below + 1) }
@@ -514,6 +539,7 @@ fn items(w: &mut [u32], depth: usize, below: usize, node: usize) -> Result<usize
 }
 
 // visit_mut_switch_case.
+// Hands on the levels: its node's walk, for which `full` or `arm` took one.
 #[cycle(walks)]
 fn case(w: &mut [u32], depth: usize, below: usize, node: usize) -> Result<usize, Refusal>
     requires { Here w.old 1 node depth (below + 1) }
@@ -527,6 +553,7 @@ fn case(w: &mut [u32], depth: usize, below: usize, node: usize) -> Result<usize,
 }
 
 // visit_mut_pat.
+// Hands on no levels: it walks no node.
 fn pats(w: &mut [u32], depth: usize, below: usize, node: usize) -> Result<usize, Refusal>
     requires { Here w.old 1 node depth (below + 1) }
     ensures { Did w.old w.new result (visit_mut_pat_f (walks_f below) depth node (abs w.old)) }
@@ -536,6 +563,7 @@ fn pats(w: &mut [u32], depth: usize, below: usize, node: usize) -> Result<usize,
 }
 
 // visit_mut_update_expr.
+// Hands on no levels: it walks no node.
 fn update(w: &mut [u32], depth: usize, below: usize, node: usize) -> Result<usize, Refusal>
     requires { Here w.old 1 node depth (below + 1) }
     ensures { Did w.old w.new result (visit_mut_update_expr_f (walks_f below) depth node (abs w.old)) }
@@ -545,6 +573,7 @@ fn update(w: &mut [u32], depth: usize, below: usize, node: usize) -> Result<usiz
 }
 
 // visit_mut_unary_expr: delete writes.
+// Hands on the levels: its node's walk, for which `full` or `arm` took one.
 #[cycle(walks)]
 fn unary(w: &mut [u32], depth: usize, below: usize, node: usize) -> Result<usize, Refusal>
     requires { Here w.old 1 node depth (below + 1) }
@@ -558,6 +587,7 @@ fn unary(w: &mut [u32], depth: usize, below: usize, node: usize) -> Result<usize
 }
 
 // visit_mut_call_expr and visit_mut_new_expr.
+// Hands on the levels: its node's walk, for which `full` or `arm` took one.
 #[cycle(walks)]
 fn call(
     w: &mut [u32],
@@ -583,6 +613,7 @@ fn call(
 }
 
 // All of a list but its first tree.
+// Hands on the levels: a part of a list's walk.
 #[cycle(walks)]
 fn tail(w: &mut [u32], depth: usize, below: usize, n: usize, node: usize) -> Result<usize, Refusal>
     requires { Here w.old n node depth below }
@@ -596,6 +627,7 @@ fn tail(w: &mut [u32], depth: usize, below: usize, n: usize, node: usize) -> Res
 }
 
 // visit_mut_assign_expr.
+// Hands on the levels: its node's walk, for which `full` or `arm` took one.
 #[cycle(walks)]
 fn assign(w: &mut [u32], depth: usize, below: usize, node: usize) -> Result<usize, Refusal>
     requires { Here w.old 1 node depth (below + 1) }
@@ -616,6 +648,7 @@ fn assign(w: &mut [u32], depth: usize, below: usize, node: usize) -> Result<usiz
 }
 
 // The right sides of && or ||.
+// Hands on the levels: a loop over the nodes of a list, for each of which `arm` takes one.
 #[cycle(walks)]
 fn conds(w: &mut [u32], depth: usize, below: usize, n: usize, node: usize) -> Result<usize, Refusal>
     requires { Here w.old n node depth below }
@@ -632,6 +665,7 @@ fn conds(w: &mut [u32], depth: usize, below: usize, n: usize, node: usize) -> Re
 }
 
 // A && or || again: its right side.
+// Hands on the levels: a part of its node's walk.
 #[cycle(walks)]
 fn logic(w: &mut [u32], depth: usize, below: usize, node: usize) -> Result<usize, Refusal>
     requires { Here w.old 1 node depth (below + 1) }
@@ -653,6 +687,7 @@ fn logic(w: &mut [u32], depth: usize, below: usize, node: usize) -> Result<usize
 }
 
 // Which handler a kind has: the Rust's own dispatch by the node's type, as a match.
+// Hands on the levels: the choice of its node's walk.
 #[cycle(walks)]
 fn own(w: &mut [u32], depth: usize, below: usize, node: usize) -> Result<usize, Refusal>
     requires { Here w.old 1 node depth (below + 1) }
@@ -684,6 +719,7 @@ fn own(w: &mut [u32], depth: usize, below: usize, node: usize) -> Result<usize, 
 }
 
 // The steps of visit_mut_expr at an identifier: a constant is followed; in Analysis it is read; in Inlining its value takes its place.
+// Hands on the levels: a part of its node's walk, and for the node that a constant leaves in its place `full` takes one more.
 #[cycle(walks)]
 fn ident(w: &mut [u32], depth: usize, below: usize, node: usize) -> Result<usize, Refusal>
     requires { (Here w.old 1 node depth (below + 1)) × ((node_of w.old node).kind ≡ number_of Ident) }
@@ -708,6 +744,7 @@ fn ident(w: &mut [u32], depth: usize, below: usize, node: usize) -> Result<usize
 }
 
 // The steps of visit_mut_expr after the node's own handler, which ended at j.
+// Hands on the levels: a part of its node's walk.
 #[cycle(walks)]
 fn after(w: &mut [u32], depth: usize, below: usize, node: usize, j: usize) -> Result<usize, Refusal>
     requires { (Here w.old 1 node depth (below + 1)) × (j ≡ node + count (tree_from (tree w.old) node)) }
@@ -727,10 +764,14 @@ fn after(w: &mut [u32], depth: usize, below: usize, node: usize, j: usize) -> Re
     }
 }
 
-// visit_mut_program's walk of the script, in the mode that is set.
+// The levels of a tree: row 8 is told of a node below the last one.
+const LEVELS: usize = 200;
+
+// visit_mut_program's walk of the script, in the mode that is set. Of all levels the root takes the first, as `full` would; by its contract the root may
+// be of any kind, so that it is walked without visit_mut_expr's steps.
 pub fn program(w: &mut [u32]) -> Result<usize, Refusal>
     requires { Planted w.old }
     ensures { Did w.old w.new result (own_f (walks_f 199) 1 0 (abs w.old)) }
 {
-    own(w, 1, 199, 0)
+    own(w, 1, LEVELS - 1, 0)
 }
