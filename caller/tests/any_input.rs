@@ -7,20 +7,10 @@
 
 mod files;
 
-use files::{one, seven, tree_file};
+use files::{one, seven, tree_file, Random};
 use negbosun::{printed, Inliner, Kind, Node, Refusal, TreeFile};
 
-/// Numbers that look random, from a seed (xorshift).
-struct Random(u64);
-
 impl Random {
-    fn next(&mut self) -> u64 {
-        self.0 ^= self.0 << 13;
-        self.0 ^= self.0 >> 7;
-        self.0 ^= self.0 << 17;
-        self.0
-    }
-
     fn below(&mut self, limit: usize) -> usize {
         (self.next() % limit as u64) as usize
     }

@@ -7,7 +7,7 @@
 
 mod files;
 
-use files::{one, seven, tree_file, Raw};
+use files::{one, seven, tree_file, Random, Raw};
 use negbosun::{
     text, text_into, Inliner, NoTextReason, Refusal, TreeFile, Written, MOST_BYTES,
     MOST_TEXT_BYTES, WORDS,
@@ -247,17 +247,7 @@ fn why_there_is_no_text_is_told_with_the_place() {
     }
 }
 
-/// Numbers that look random, from a seed (xorshift).
-struct Random(u64);
-
 impl Random {
-    fn next(&mut self) -> u64 {
-        self.0 ^= self.0 << 13;
-        self.0 ^= self.0 >> 7;
-        self.0 ^= self.0 << 17;
-        self.0
-    }
-
     fn below(&mut self, limit: u32) -> u32 {
         (self.next() % u64::from(limit)) as u32
     }

@@ -80,3 +80,15 @@ pub fn functions(count: u32) -> Vec<u8> {
     }
     tree_file(&nodes, &["v"])
 }
+
+/// Numbers that look random, from a seed (xorshift).
+pub struct Random(pub u64);
+
+impl Random {
+    pub fn next(&mut self) -> u64 {
+        self.0 ^= self.0 << 13;
+        self.0 ^= self.0 >> 7;
+        self.0 ^= self.0 << 17;
+        self.0
+    }
+}
